@@ -1,6 +1,6 @@
 -- Advice that is printed for a person.
 use Rattle.std.specs.Prelude.{◌≡◌, ◌⊎◌, ℕ, List, ◌++◌, codes}
-use Rattle.service.specs.Outputs.{OutputState, Tells}
+use Rattle.service.specs.Outputs.{OutputState, Reports}
 use Rattle.service.specs.Refusals.{line_end}
 
 -- a line with these words
@@ -9,4 +9,4 @@ advice_line words = codes "rha: " ++ words ++ line_end
 
 -- some words were written as a line, or none, if there was no memory for them
 abbrev pub MaySay : OutputState → OutputState → Type 0
-MaySay was now = (now ≡ was) ⊎ ((words : List ℕ) × Tells was now (advice_line words))
+MaySay was now = (now ≡ was) ⊎ ((words : List ℕ) × Reports was now (advice_line words))

@@ -64,10 +64,10 @@ fn is_of_text(octet: u8) -> bool {
 
 /// Whether a file with these first octets is bzip2 data. A record of 2005 begins with the same three octets.
 fn is_bzip2(first: &[u8]) -> bool {
-    let [b'B', b'Z', b'h', b'1'..=b'9', behind @ ..] = first else {
+    let [b'B', b'Z', b'h', b'1'..=b'9', beyond @ ..] = first else {
         return false;
     };
-    BZIP2_BLOCKS.iter().any(|it| behind.starts_with(it))
+    BZIP2_BLOCKS.iter().any(|it| beyond.starts_with(it))
 }
 
 /// What a file with these first octets is, if it is none of MRT.

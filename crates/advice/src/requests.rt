@@ -8,17 +8,17 @@ use std::str::Split;
 #[derive(Clone, Copy, Debug, PartialEq, Eq)]
 pub struct Misread<'a> {
     pub word: Option<&'a str>,
-    pub wanted: Form,
+    pub expected: Form,
 }
 
 impl fmt::Display for Misread<'_> {
     fn fmt<W: fmt::Write>(&self, f: &mut fmt::Formatter<W>) -> fmt::Result {
         match self.word {
-            Some("") => f.write_str("exactly one space stands between two words")?,
+            Some("") => f.write_str("two words are separated by exactly one space")?,
             Some(word) => write!(f, "\"{word}\" isn't understood")?,
             None => f.write_str("the line ends too early")?,
         }
-        write!(f, "; here stands {}", self.wanted)
+        write!(f, "; expected here: {}", self.expected)
     }
 }
 
@@ -114,12 +114,12 @@ fn part_after(form: Form, word: &str) -> Option<Part> {
 
 /// The first of the next words that doesn't have the form that it has to have.
 fn misfit<'a>(words: &mut Split<'a, char>, forms: &[Form]) -> Option<Misread<'a>> {
-    for wanted in forms {
+    for expected in forms {
         let word = words.next();
-        if !word.is_some_and(|it| wanted.fits(it)) {
+        if !word.is_some_and(|it| expected.fits(it)) {
             return Some(Misread {
                 word,
-                wanted: *wanted,
+                expected: *expected,
             });
         }
     }
@@ -129,27 +129,30 @@ fn misfit<'a>(words: &mut Split<'a, char>, forms: &[Form]) -> Option<Misread<'a>
 /// The first word of the line that keeps it from being a request; None if it is one.
 pub fn first_misread(line: &str) -> Option<Misread<'_>> {
     let mut words = line.split(' ');
-    let mut wanted = Form::Command;
+    let mut expected = Form::Command;
     for _ in 0..GRAMMAR_WORDS {
         let Some(word) = words.next() else {
-            return match wanted {
-                Form::Command | Form::Select => Some(Misread { word: None, wanted }),
+            return match expected {
+                Form::Command | Form::Select => Some(Misread {
+                    word: None,
+                    expected,
+                }),
                 _ => None,
             };
         };
-        let Some(part) = part_after(wanted, word) else {
+        let Some(part) = part_after(expected, word) else {
             return Some(Misread {
                 word: Some(word),
-                wanted,
+                expected,
             });
         };
         if let Some(it) = misfit(&mut words, part.forms) {
             return Some(it);
         }
-        wanted = part.next;
+        expected = part.next;
     }
     words.next().map(|word| Misread {
         word: Some(word),
-        wanted,
+        expected,
     })
 }

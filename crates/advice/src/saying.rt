@@ -1,6 +1,6 @@
 //! A line for a person.
 
-ghost use Rattle.service.specs.Outputs.{Tells};
+ghost use Rattle.service.specs.Outputs.{Reports};
 ghost use Rattle.advice.specs.Advice.{MaySay, advice_line};
 
 use service::Output;
@@ -10,7 +10,7 @@ use std::io::Write;
 
 /// Writes a line with these words.
 fn write_line<E: Write>(err: &mut Output<E>, words: &str)
-    ensures line { Tells err.old err.new (advice_line words.now) }
+    ensures line { Reports err.old err.new (advice_line words.now) }
 {
     err.text("rha: ");
     err.text(words);

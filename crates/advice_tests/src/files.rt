@@ -25,8 +25,8 @@ const FIRST: [(&[u8], Option<Packing>); 12] = [
 
 #[test]
 fn octets_that_are_none_of_mrt_are_known(rt: HostRuntime) {
-    for (octets, wanted) in &FIRST {
-        be(&rt, packing_of(octets) == *wanted, "first octets");
+    for (octets, expected) in &FIRST {
+        be(&rt, packing_of(octets) == *expected, "first octets");
     }
 }
 
@@ -211,7 +211,7 @@ const SAID: [Said; 13] = [
     },
 ];
 
-/// The load of a file after the mark 1704068100, of whose admissions so many were dropped.
+/// The load of a file after the mark 1704068100, of whose admissions this many were dropped.
 fn loaded(packing: Option<Packing>, lose_entries: bool, dropped: u64) -> Loaded<'static> {
     Loaded {
         file: "a.mrt",
@@ -261,17 +261,17 @@ const LEFT_OUT: [(u64, &str); 2] = [
 ];
 
 /// Whether this is said where this many entries are left out.
-fn is_left_out(alloc: Global, count: u64, wanted: &str) -> bool {
+fn is_left_out(alloc: Global, count: u64, expected: &str) -> bool {
     let mut text: Vec<u8> = Vec::new(alloc);
     let file = "a.mrt";
     let words = FileAdvice::LeftOut { file, count };
     advise(alloc, &words, &mut Output::new(&mut text));
-    text.as_slice() == wanted.as_bytes()
+    text.as_slice() == expected.as_bytes()
 }
 
 #[test]
 fn how_many_entries_are_left_out_is_said(rt: HostRuntime) {
-    for (count, wanted) in &LEFT_OUT {
-        be(&rt, is_left_out(rt.alloc(), *count, wanted), wanted);
+    for (count, expected) in &LEFT_OUT {
+        be(&rt, is_left_out(rt.alloc(), *count, expected), expected);
     }
 }

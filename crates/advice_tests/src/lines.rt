@@ -24,100 +24,100 @@ const LINES: [(&str, &str); 30] = [
     ("history 0 7 0 192.0.2.1 65001 10.0.0.0/8 skip 256", ""),
     (
         "",
-        "exactly one space stands between two words; here stands a question",
+        "two words are separated by exactly one space; expected here: a question",
     ),
     (
         "hello",
-        "\"hello\" isn't understood; here stands a question",
+        "\"hello\" isn't understood; expected here: a question",
     ),
-    ("at", "the line ends too early; here stands a moment"),
+    ("at", "the line ends too early; expected here: a moment"),
     (
         "at now all",
-        "\"now\" isn't understood; here stands a moment",
+        "\"now\" isn't understood; expected here: a moment",
     ),
     (
         "at 4294967296 all",
-        "\"4294967296\" isn't understood; here stands a moment",
+        "\"4294967296\" isn't understood; expected here: a moment",
     ),
     (
         "at 7",
-        "the line ends too early; here stands what is asked of a moment",
+        "the line ends too early; expected here: what is asked of a moment",
     ),
     (
         "at  7 all",
-        "exactly one space stands between two words; here stands a moment",
+        "two words are separated by exactly one space; expected here: a moment",
     ),
     (
         "at 7 prefixes 10.0.0.0/8",
-        "\"prefixes\" isn't understood; here stands what is asked of a moment",
+        "\"prefixes\" isn't understood; expected here: what is asked of a moment",
     ),
     (
         "at 7 prefix 10.0.0.0",
-        "\"10.0.0.0\" isn't understood; here stands a prefix",
+        "\"10.0.0.0\" isn't understood; expected here: a prefix",
     ),
     (
         "at 7 prefix 10.0.0.0/33",
-        "\"10.0.0.0/33\" isn't understood; here stands a prefix",
+        "\"10.0.0.0/33\" isn't understood; expected here: a prefix",
     ),
     (
         "at 7 cover 10.0.0.0/8",
-        "\"10.0.0.0/8\" isn't understood; here stands an address",
+        "\"10.0.0.0/8\" isn't understood; expected here: an address",
     ),
     (
         "at 7 peer 16 192.0.2.1 65001",
-        "\"16\" isn't understood; here stands a collector's number",
+        "\"16\" isn't understood; expected here: a collector's number",
     ),
     (
         "at 7 peer 0 192.0.2.1 AS65001",
-        "\"AS65001\" isn't understood; here stands an AS number",
+        "\"AS65001\" isn't understood; expected here: an AS number",
     ),
     (
         "at 7 peer 0 192.0.2.1",
-        "the line ends too early; here stands an AS number",
+        "the line ends too early; expected here: an AS number",
     ),
     (
         "at 7 all 0",
-        "\"0\" isn't understood; here stands after, or the end of the line",
+        "\"0\" isn't understood; expected here: after, or the end of the line",
     ),
     (
         "at 7 all after 0 192.0.2.1 65001",
-        "the line ends too early; here stands a prefix",
+        "the line ends too early; expected here: a prefix",
     ),
     (
         "at 7 all after 0 192.0.2.1 65001 10.0.0.0/8 0",
-        "\"0\" isn't understood; here stands the end of the line",
+        "\"0\" isn't understood; expected here: the end of the line",
     ),
     (
         "at 7 route 0 192.0.2.1 65001 10.0.0.0/8 after",
-        "\"after\" isn't understood; here stands the end of the line",
+        "\"after\" isn't understood; expected here: the end of the line",
     ),
     (
         "history 0 7 0 192.0.2.1 65001 10.0.0.0/8 skip x",
-        "\"x\" isn't understood; here stands a number",
+        "\"x\" isn't understood; expected here: a number",
     ),
     (
         "watermark 0",
-        "\"0\" isn't understood; here stands the end of the line",
+        "\"0\" isn't understood; expected here: the end of the line",
     ),
     (
         "durable",
-        "the line ends too early; here stands a collector's number",
+        "the line ends too early; expected here: a collector's number",
     ),
 ];
 
 /// Whether this is said of the line; nothing exactly where it is read as a request.
-fn is_said(alloc: Global, line: &str, wanted: &str) -> Option<bool> {
+fn is_said(alloc: Global, line: &str, expected: &str) -> Option<bool> {
     let is_request = read_request(alloc, line).is_ok();
     let Some(it) = first_misread(line) else {
-        return Some(is_request && wanted.is_empty());
+        return Some(is_request && expected.is_empty());
     };
     let text = format!(in alloc; "{it}").ok()?;
-    Some(!is_request && !wanted.is_empty() && text.as_str().starts_with(wanted))
+    Some(!is_request && !expected.is_empty() && text.as_str().starts_with(expected))
 }
 
 #[test]
 fn a_word_that_is_not_understood_is_named(rt: HostRuntime) {
-    for (line, wanted) in &LINES {
-        be(&rt, is_said(rt.alloc(), line, wanted) == Some(true), line);
+    for (line, expected) in &LINES {
+        be(&rt, is_said(rt.alloc(), line, expected) == Some(true), line);
     }
 }

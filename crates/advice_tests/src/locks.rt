@@ -27,10 +27,10 @@ const HOLDERS: [(u64, u64, Option<u32>); 7] = [
 
 #[test]
 fn the_process_that_has_a_file_is_found(rt: HostRuntime) {
-    for (device, inode, wanted) in &HOLDERS {
+    for (device, inode, expected) in &HOLDERS {
         be(
             &rt,
-            holder_of(LOCKS, *device, *inode) == *wanted,
+            holder_of(LOCKS, *device, *inode) == *expected,
             "a holder",
         );
     }

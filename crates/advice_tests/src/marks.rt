@@ -39,7 +39,7 @@ const FAR: [(u64, bool, &str); 4] = [
 ];
 
 /// Whether this is said of the mark of the beginning of 2042.
-fn is_said(alloc: Global, present: u64, is_held: bool, wanted: &str) -> Option<bool> {
+fn is_said(alloc: Global, present: u64, is_held: bool, expected: &str) -> Option<bool> {
     let mark = Mark::new(2_272_147_200)?;
     let text = said(
         alloc,
@@ -49,16 +49,16 @@ fn is_said(alloc: Global, present: u64, is_held: bool, wanted: &str) -> Option<b
             is_held,
         },
     );
-    Some(text.as_slice() == wanted.as_bytes())
+    Some(text.as_slice() == expected.as_bytes())
 }
 
 #[test]
 fn marks_that_lie_far_ahead_are_warned_of(rt: HostRuntime) {
-    for (present, is_held, wanted) in &FAR {
+    for (present, is_held, expected) in &FAR {
         be(
             &rt,
-            is_said(rt.alloc(), *present, *is_held, wanted) == Some(true),
-            wanted,
+            is_said(rt.alloc(), *present, *is_held, expected) == Some(true),
+            expected,
         );
     }
 }

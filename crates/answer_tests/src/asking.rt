@@ -86,7 +86,7 @@ pub(crate) fn answers_as(
     lines: &str,
 ) -> bool {
     match ask(alloc, archive, reader, line) {
-        Some(told) => told.as_str() == lines,
+        Some(reported) => reported.as_str() == lines,
         None => false,
     }
 }

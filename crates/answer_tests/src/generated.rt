@@ -37,7 +37,7 @@ struct Asked {
 
 /// A question and its answer.
 #[derive(Drop)]
-struct Told {
+struct Reported {
     query: Query,
     answer: Answer,
 }
@@ -48,8 +48,8 @@ struct Told {
 #[derive(Clone, Copy)]
 struct Counts {
     answers: u32,
-    telling: u32,
-    behind: u32,
+    reporting: u32,
+    beyond: u32,
     applied: u32,
     flushed: u32,
     read: u32,
@@ -58,23 +58,23 @@ struct Counts {
 
 const NOTHING: Counts = Counts {
     answers: 0,
-    telling: 0,
-    behind: 0,
+    reporting: 0,
+    beyond: 0,
     applied: 0,
     flushed: 0,
     read: 0,
     split: 0,
 };
 
-fn tells(answer: &Answer) -> bool {
+fn reports(answer: &Answer) -> bool {
     match answer {
-        Answer::Rows(told) => !told.rows.is_empty(),
-        Answer::Events(told) => !told.events.is_empty(),
+        Answer::Rows(reported) => !reported.rows.is_empty(),
+        Answer::Events(reported) => !reported.events.is_empty(),
     }
 }
 
 // Whether a question is of what comes after a place, or after skipped events.
-fn is_behind(query: &Query) -> bool {
+fn is_after(query: &Query) -> bool {
     match query {
         Query::Rows(question) => question.after.is_some(),
         Query::Events(question) => question.skip > 0,
@@ -83,13 +83,17 @@ fn is_behind(query: &Query) -> bool {
 
 impl Counts {
     // With one answer more.
-    fn with(self, told: &Told) -> Counts {
-        let telling = u32::from(tells(&told.answer));
-        let behind = if is_behind(&told.query) { telling } else { 0 };
+    fn with(self, reported: &Reported) -> Counts {
+        let reporting = u32::from(reports(&reported.answer));
+        let beyond = if is_after(&reported.query) {
+            reporting
+        } else {
+            0
+        };
         Counts {
             answers: self.answers.saturating_add(1),
-            telling: self.telling.saturating_add(telling),
-            behind: self.behind.saturating_add(behind),
+            reporting: self.reporting.saturating_add(reporting),
+            beyond: self.beyond.saturating_add(beyond),
             ..self
         }
     }
@@ -98,8 +102,8 @@ impl Counts {
     fn and(self, other: Counts) -> Counts {
         Counts {
             answers: self.answers.saturating_add(other.answers),
-            telling: self.telling.saturating_add(other.telling),
-            behind: self.behind.saturating_add(other.behind),
+            reporting: self.reporting.saturating_add(other.reporting),
+            beyond: self.beyond.saturating_add(other.beyond),
             applied: self.applied.saturating_add(other.applied),
             flushed: self.flushed.saturating_add(other.flushed),
             read: self.read.saturating_add(other.read),
@@ -212,7 +216,7 @@ impl Both {
     }
 
     // The lines of the machine's answer to a question.
-    fn wanted(&mut self, query: Query) -> Option<String> {
+    fn expected(&mut self, query: Query) -> Option<String> {
         let Ok(Reply::Begun(number)) = self.machine.begin(query) else {
             return None;
         };
@@ -223,9 +227,9 @@ impl Both {
     }
 
     // Whether an answer is that of the machine.
-    fn agrees(&mut self, told: &Told) -> Option<bool> {
-        let wanted = self.wanted(told.query)?;
-        Some(lines_of(self.alloc, &told.query, &told.answer)? == wanted)
+    fn agrees(&mut self, reported: &Reported) -> Option<bool> {
+        let expected = self.expected(reported.query)?;
+        Some(lines_of(self.alloc, &reported.query, &reported.answer)? == expected)
     }
 }
 
@@ -240,7 +244,7 @@ struct Questions {
     counter: Reader,
     blocks: u64,
     asked: Vec<Asked>,
-    told: Vec<Told>,
+    reported: Vec<Reported>,
 }
 
 /// What a turn of a question came to.
@@ -282,7 +286,7 @@ impl Questions {
             counter: reader_of(disk, 1)?,
             blocks: 0,
             asked: Vec::new(alloc),
-            told: Vec::new(alloc),
+            reported: Vec::new(alloc),
         })
     }
 
@@ -304,8 +308,8 @@ impl Questions {
         self.asked.push(asked).ok()
     }
 
-    fn tell(&mut self, query: Query, answer: Answer) -> Option<()> {
-        self.told.push(Told { query, answer }).ok()
+    fn report(&mut self, query: Query, answer: Answer) -> Option<()> {
+        self.reported.push(Reported { query, answer }).ok()
     }
 
     // Begins a question with each reader.
@@ -337,8 +341,8 @@ impl Questions {
             both.counts.split = both.counts.split.saturating_add(1);
         }
         let again = answer_with(&mut both.disk, self.reader(small), query)?;
-        self.tell(query, again)?;
-        self.tell(query, answer)
+        self.report(query, again)?;
+        self.report(query, answer)
     }
 
     // The next turn of a question, after more work.
@@ -388,11 +392,11 @@ impl Questions {
     // What the history came to, where each answer is that of the machine.
     fn counted(&self, both: &mut Both) -> Option<Counts> {
         let mut counts = both.counts;
-        for told in &self.told {
-            if !both.agrees(told)? {
+        for reported in &self.reported {
+            if !both.agrees(reported)? {
                 return None;
             }
-            counts = counts.with(told);
+            counts = counts.with(reported);
         }
         Some(counts)
     }
@@ -425,8 +429,8 @@ fn expect_pure(rt: &impl Abort, alloc: Global, first: u64) {
     be(rt, counts.is_some(), "answers as the machine's");
     let counts = counts.unwrap_or(NOTHING);
     be(rt, counts.answers == 800, "answers");
-    be(rt, counts.telling >= 200, "answers that tell something");
-    be(rt, counts.behind >= 100, "answers behind a place");
+    be(rt, counts.reporting >= 200, "answers that tell something");
+    be(rt, counts.beyond >= 100, "answers after a place");
     be(rt, counts.applied >= 1_000, "steps of applying");
     be(rt, counts.flushed >= 1_500, "pages that are flushed");
     be(rt, counts.read >= 500, "errands that are read");

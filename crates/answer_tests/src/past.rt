@@ -50,7 +50,7 @@ fn announced(alloc: Global) -> Option<Made> {
 }
 
 // Whether the field of this number of each line, with a space after each, is this text.
-fn has_fields(alloc: Global, lines: &str, number: usize, wanted: &str) -> Option<bool> {
+fn has_fields(alloc: Global, lines: &str, number: usize, expected: &str) -> Option<bool> {
     let mut fields = String::new(alloc);
     for line in lines.lines() {
         fields
@@ -58,21 +58,26 @@ fn has_fields(alloc: Global, lines: &str, number: usize, wanted: &str) -> Option
             .ok()?;
         fields.push(' ').ok()?;
     }
-    Some(fields.as_str() == wanted)
+    Some(fields.as_str() == expected)
 }
 
 // Whether the route that is answered at a second has the MED of the one that was announced at it.
-fn is_told(alloc: Global, archive: &mut Made, reader: &mut Reader, second: u32) -> Option<bool> {
+fn is_reported(
+    alloc: Global,
+    archive: &mut Made,
+    reader: &mut Reader,
+    second: u32,
+) -> Option<bool> {
     let line = format!(in alloc; "at {second} route 0 192.0.2.1 65001 10.1.0.0/16").ok()?;
-    let told = ask(alloc, archive, reader, &line)?;
-    let wanted = format!(in alloc; "{second} - ").ok()?;
-    has_fields(alloc, &told, 8, &wanted)
+    let reported = ask(alloc, archive, reader, &line)?;
+    let expected = format!(in alloc; "{second} - ").ok()?;
+    has_fields(alloc, &reported, 8, &expected)
 }
 
 // Backwards, so that a reader of one block has another one than it is asked for.
-fn are_told(alloc: Global, archive: &mut Made, reader: &mut Reader) -> bool {
+fn are_reported(alloc: Global, archive: &mut Made, reader: &mut Reader) -> bool {
     for back in 0..SECONDS {
-        if is_told(alloc, archive, reader, SECONDS - 1 - back) != Some(true) {
+        if is_reported(alloc, archive, reader, SECONDS - 1 - back) != Some(true) {
             return false;
         }
     }
@@ -80,18 +85,21 @@ fn are_told(alloc: Global, archive: &mut Made, reader: &mut Reader) -> bool {
 }
 
 // Whether the history is returned from a second on, up to a second.
-fn is_history_told(alloc: Global, archive: &mut Made, reader: &mut Reader) -> Option<bool> {
+fn is_history_reported(alloc: Global, archive: &mut Made, reader: &mut Reader) -> Option<bool> {
     let line = "history 3 58 0 192.0.2.1 65001 10.1.0.0/16 skip 54";
-    let told = ask(alloc, archive, reader, line)?;
-    Some(has_fields(alloc, &told, 1, "57 58 2 ")? && has_fields(alloc, &told, 5, "57 58 - ")?)
+    let reported = ask(alloc, archive, reader, line)?;
+    Some(
+        has_fields(alloc, &reported, 1, "57 58 2 ")?
+            && has_fields(alloc, &reported, 5, "57 58 - ")?,
+    )
 }
 
 // Whether all is answered through a reader that keeps `capacity` blocks. Of the 60 routes a leaf has room for 15 or 16.
 fn is_read_by(alloc: Global, archive: &mut Made, capacity: usize) -> Option<bool> {
     let mut reader = reader_of(archive, capacity)?;
-    let are_told = are_told(alloc, archive, &mut reader);
+    let are_reported = are_reported(alloc, archive, &mut reader);
     let has_kept = reader.kept() >= capacity.min(2);
-    Some(are_told && has_kept && is_history_told(alloc, archive, &mut reader)?)
+    Some(are_reported && has_kept && is_history_reported(alloc, archive, &mut reader)?)
 }
 
 #[test]

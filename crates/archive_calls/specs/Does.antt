@@ -1,4 +1,4 @@
--- What a call on an archive does to the history that it carries, and what it returns.
+-- What a call on an archive does to the history that it represents, and what it returns.
 use Rattle.std.specs.Prelude.{◌≡◌, ◌<◌, ◌≤◌, ⊤, ℕ, List, length, sum_by, Some, slice_get, Result, Ok, Err}
 use Rattle.route_model.specs.Admission.{Admitted}
 use Rattle.route_meaning.specs.Merged.{Placed}
@@ -18,8 +18,8 @@ use Rattle.archive_calls.specs.declared.refusal.MarkError.{MarkError}
 use Rattle.archive_calls.specs.declared.refusal.MarkError.TheVariants as marks
 use Rattle.archive_calls.specs.declared.refusal.AskError.{AskError}
 use Rattle.archive_calls.specs.declared.refusal.AskError.TheVariants as asks
-use Rattle.archive_calls.specs.declared.told.Step.{Step}
-use Rattle.archive_calls.specs.declared.told.Step.TheVariants.{Applied, Idle}
+use Rattle.archive_calls.specs.declared.reported.Step.{Step}
+use Rattle.archive_calls.specs.declared.reported.Step.TheVariants.{Applied, Idle}
 
 -- Why no batch is taken. Only the archive knows how full a ring is.
 abbrev pub IsRefusal : History → ℕ → List Admitted → AdmitError → Type 0
@@ -76,7 +76,7 @@ abbrev pub applied_changes : History → ℕ
 applied_changes h = changes_in (applied h)
 
 -- Why the applied changes aren't counted: a device failed, the archive must be opened again, or memory ran out; or the count can't hold this
--- many changes. In an archive that carries a history no page and no block is reported as damaged.
+-- many changes. In an archive that represents a history no page and no block is reported as damaged.
 abbrev pub IsUnchecked : History → Trouble → Type 0
 IsUnchecked h troubles.Fault = ⊤
 IsUnchecked h troubles.NeedsRecovery = ⊤

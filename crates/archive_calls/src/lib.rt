@@ -2,22 +2,22 @@
 //!
 //! Feeds, requests and loads are written over the trait [`RouteArchive`], and not over one archive: their proofs
 //! don't wait for the archive on disks, and tests give them an archive whose rings are full. Which history an archive
-//! carries is a relation, and no value of the archive's: so one that must be opened again still carries what it
-//! reports, and one over files carries nothing of which a clause could speak. A question has one call, `answer`: how
+//! represents is a relation, and no value of the archive's: so one that must be opened again still represents what it
+//! reports, and one over files represents nothing of which a clause could speak. A question has one call, `answer`: how
 //! many turns it takes, and which blocks are read, is the archive's own.
 //!
 //! Troubles are one enum in the refusals of each call: a failed device, damage, and a lack of pages, blocks or memory
 //! may end any of them. No clause says when a trouble comes, so an archive that refuses every call meets this trait.
-//! `check` returns a count or a trouble; of an archive that carries a history it never blames a page or a block.
+//! `check` returns a count or a trouble; of an archive that represents a history it never blames a page or a block.
 #![tactic(auto)]
 
 mod calls;
 mod refusal;
-mod told;
+mod reported;
 
 pub use calls::RouteArchive;
 pub use refusal::{AdmitError, AskError, MarkError, Trouble};
-pub use told::{Flush, Step};
+pub use reported::{Flush, Step};
 
 /// The maximum length of a batch in octets: for each admission the octets of its encoding and 4 more.
 pub const MAX_BATCH_LEN: usize = 262_144;

@@ -25,7 +25,7 @@ pub(crate) fn answers_as(
     lines: &[u8],
 ) -> bool {
     match answer(alloc, archive, line) {
-        Some(told) => told.as_slice() == lines,
+        Some(reported) => reported.as_slice() == lines,
         None => false,
     }
 }

@@ -4,7 +4,7 @@
 use crate::asked::answers_as;
 use crate::be;
 use crate::disks::{
-    Both, IN_TURN, KINDS, failed_write, given_up, opened, opened_behind, reopened, torn,
+    Both, IN_TURN, KINDS, failed_write, given_up, opened, opened_after, reopened, torn,
 };
 use crate::given::{Given, SETTINGS, give_second, has_records, leaves, one_given};
 use crate::made::{Made, MemArchive, apply, give, large, made, mark_at, set_mark, vectors};
@@ -108,7 +108,7 @@ fn is_down(alloc: Global, disks: Option<Both>) -> Option<bool> {
 
 // Four writes, and two syncs after those of the opening.
 #[test]
-fn an_archive_that_failed_tells_and_does_nothing_else(rt: HostRuntime) {
+fn an_archive_that_failed_reports_and_does_nothing_else(rt: HostRuntime) {
     let alloc = rt.alloc();
     let disks = one_given(alloc).expect(&rt, "disks");
     for number in 0..4 {
@@ -277,7 +277,7 @@ fn spends_its_block(alloc: Global, disks: Option<Both>, crash: u8) -> Option<boo
 
 // A header and three images are written before the commit flag: of a leaf, a column and the head.
 #[test]
-fn a_step_that_is_stopped_behind_its_settle_spends_a_block(rt: HostRuntime) {
+fn a_step_that_is_stopped_after_its_settle_spends_a_block(rt: HostRuntime) {
     let alloc = rt.alloc();
     let disks = five_applied(alloc).expect(&rt, "disks");
     be(&rt, is_tried(&disks, &[]), "no block");
@@ -299,7 +299,7 @@ fn is_applied_whole(
     crash: u8,
 ) -> Option<bool> {
     let applied = apply_one(alloc, disks?)?;
-    let archive = opened_behind(alloc, &applied.disks, crash)?;
+    let archive = opened_after(alloc, &applied.disks, crash)?;
     let is_before = archive.settled() == mark_at(1_704_067_205);
     let changes = if is_before { 5 } else { 6 };
     let is_kept = !(is_before && applied.is_acknowledged);

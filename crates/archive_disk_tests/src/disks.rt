@@ -177,7 +177,7 @@ pub(crate) fn opened(alloc: Global, disks: Both) -> Option<Made> {
 }
 
 /// The archive on the disks after a crash now.
-pub(crate) fn opened_behind(alloc: Global, disks: &Both, crash: u8) -> Option<Made> {
+pub(crate) fn opened_after(alloc: Global, disks: &Both, crash: u8) -> Option<Made> {
     opened(alloc, disks.crash(alloc, crash)?)
 }
 

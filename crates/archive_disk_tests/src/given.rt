@@ -12,8 +12,8 @@ pub(crate) const SETTINGS: Settings = Settings {
 };
 
 // Gives a record, this many seconds after the first moment. None where it isn't taken.
-fn give_one(alloc: Global, archive: &mut Made, behind: u8) -> Option<()> {
-    give(archive, 0, &vectors(alloc, 1, behind)?)
+fn give_one(alloc: Global, archive: &mut Made, beyond: u8) -> Option<()> {
+    give(archive, 0, &vectors(alloc, 1, beyond)?)
 }
 
 /// Disks on which one record waits. No page of them waits to go home.
@@ -54,7 +54,7 @@ pub(crate) fn give_second(alloc: Global, disks: Both) -> Option<Given> {
 }
 
 /// Where the collector goes on after this many records.
-fn behind(records: u32) -> Resume {
+fn beyond(records: u32) -> Resume {
     Resume {
         offered: u64::from(records),
         admitted: u64::from(records),
@@ -64,7 +64,7 @@ fn behind(records: u32) -> Resume {
 
 /// Whether an archive has this many records.
 pub(crate) fn has_records(archive: &Made, records: u32) -> bool {
-    resume_of(archive, 0) == Some(behind(records))
+    resume_of(archive, 0) == Some(beyond(records))
 }
 
 /// Whether this many records are there after a crash now.

@@ -27,9 +27,9 @@ mod opened;
 #[cfg(test)]
 mod playing;
 #[cfg(test)]
-mod scripts;
+mod reported;
 #[cfg(test)]
-mod told;
+mod scripts;
 
 #[cfg(test)]
 use std::process::Abort;

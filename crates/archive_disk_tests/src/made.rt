@@ -172,9 +172,9 @@ pub(crate) fn large(alloc: Global, count: u8) -> Option<Vec<Admission>> {
 }
 
 /// `count` admissions of 67 octets, of the moment 1704067200 or the given number of seconds after it.
-pub(crate) fn vectors(alloc: Global, count: usize, behind: u8) -> Option<Vec<Admission>> {
+pub(crate) fn vectors(alloc: Global, count: usize, beyond: u8) -> Option<Vec<Admission>> {
     let mut octets = VECTOR;
-    octets[7] = 0x80u8.saturating_add(behind);
+    octets[7] = 0x80u8.saturating_add(beyond);
     let one = Admission::decode(alloc, &octets).ok()??;
     let mut batch = Vec::new(alloc);
     for _ in 0..count {

@@ -6,7 +6,7 @@ use crate::disks::{Both, CRASHES, Calls, given_up, open, opened};
 use crate::drawn::{Chance, draw_call, draw_failure, draw_once_failure};
 use crate::made::{Disks, Made, MemArchive, disks_of, made_on, octets_of, one};
 use crate::model::Model;
-use crate::told::{State, Told, make, state_of};
+use crate::reported::{Reported, State, make, state_of};
 use archive_pages::Settings;
 use disk_calls::NoReasons;
 use interleaving_core::Step;
@@ -142,8 +142,8 @@ fn answers_alike(
     };
     let prefix = chance.below(4);
     let line = format!(in alloc; "at {moment} prefix 10.{prefix}.0.0/16").ok()?;
-    let told = answer(alloc, witness, &line)?;
-    Some(!told.starts_with(b"X") && model.answers_as(&line, &told))
+    let reported = answer(alloc, witness, &line)?;
+    Some(!reported.starts_with(b"X") && model.answers_as(&line, &reported))
 }
 
 /// How often a run was stopped: in a call by either disk, in an opening, and by crashes between two calls.
@@ -164,10 +164,10 @@ const NONE: Stops = Stops {
 
 impl Stops {
     // A call was stopped on these disks, or all crashed after it.
-    fn count(&mut self, told: Told, disks: &Both) {
-        match (told, disks.once_failed()) {
-            (Told::Stopped, false) => self.erasable = self.erasable.saturating_add(1),
-            (Told::Stopped, true) => self.once = self.once.saturating_add(1),
+    fn count(&mut self, reported: Reported, disks: &Both) {
+        match (reported, disks.once_failed()) {
+            (Reported::Stopped, false) => self.erasable = self.erasable.saturating_add(1),
+            (Reported::Stopped, true) => self.once = self.once.saturating_add(1),
             _ => self.between = self.between.saturating_add(1),
         }
     }
@@ -189,9 +189,9 @@ impl Stops {
 }
 
 // Whether the archive is what the model is after a call that wasn't stopped.
-fn goes_on(model: &mut Model, disk: &MemArchive, step: Step, told: Told) -> bool {
+fn goes_on(model: &mut Model, disk: &MemArchive, step: Step, reported: Reported) -> bool {
     let applied = disk.applied();
-    model.does(step, told, applied) && model.state() == Some(state_of(disk, applied))
+    model.does(step, reported, applied) && model.state() == Some(state_of(disk, applied))
 }
 
 /// Whether the model is left in this state, where a call of this step was stopped, if one was.
@@ -260,9 +260,14 @@ impl Run {
     }
 
     // All crashes: the archive to go on with.
-    fn crash(&mut self, disk: MemArchive, told: Told, stopped: Option<Step>) -> Option<MemArchive> {
+    fn crash(
+        &mut self,
+        disk: MemArchive,
+        reported: Reported,
+        stopped: Option<Step>,
+    ) -> Option<MemArchive> {
         let disks = given_up(disk.into_archive());
-        self.stops.count(told, &disks);
+        self.stops.count(reported, &disks);
         let Found {
             disk,
             was_stopped,
@@ -281,15 +286,15 @@ impl Run {
     // Makes the call of this number: the archive to go on with. It crashes after each call that fails, and after each sixteenth one.
     fn call(&mut self, mut disk: MemArchive, number: u32) -> Option<MemArchive> {
         let step = draw_call(self.alloc, &mut self.chance, number)?;
-        let told = make(&mut disk, &step);
-        if told == Told::Stopped {
-            return self.crash(disk, told, Some(step));
+        let reported = make(&mut disk, &step);
+        if reported == Reported::Stopped {
+            return self.crash(disk, reported, Some(step));
         }
-        if !goes_on(&mut self.model, &disk, step, told) {
+        if !goes_on(&mut self.model, &disk, step, reported) {
             return None;
         }
         if number % 16 == 15 {
-            return self.crash(disk, told, None);
+            return self.crash(disk, reported, None);
         }
         Some(disk)
     }
@@ -330,16 +335,16 @@ fn expect_alike(rt: &impl Abort, alloc: Global, first: u64) {
 }
 
 #[test]
-fn mixed_calls_go_on_behind_stops(rt: HostRuntime) {
+fn mixed_calls_go_on_after_stops(rt: HostRuntime) {
     expect_alike(&rt, rt.alloc(), 0);
 }
 
 #[test]
-fn other_mixed_calls_go_on_behind_stops(rt: HostRuntime) {
+fn other_mixed_calls_go_on_after_stops(rt: HostRuntime) {
     expect_alike(&rt, rt.alloc(), RUNS);
 }
 
 #[test]
-fn further_mixed_calls_go_on_behind_stops(rt: HostRuntime) {
+fn further_mixed_calls_go_on_after_stops(rt: HostRuntime) {
     expect_alike(&rt, rt.alloc(), 2 * RUNS);
 }

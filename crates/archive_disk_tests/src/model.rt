@@ -1,7 +1,7 @@
 //! What an archive on disks is compared with: the pure machine, step by step, and run through all steps at once.
 
 use crate::asked::query_of;
-use crate::told::{State, Told, told_of};
+use crate::reported::{Reported, State, reported_of};
 use interleaving_core::{Answer, Machine, Query, Ran, Reach, Reply, Resume, Step, run};
 use route_meaning::{RowsQuestion, Select};
 use route_model::{Mark, Moment};
@@ -20,7 +20,7 @@ pub(crate) struct Model {
     machine: Machine,
     applied: u64,
     steps: Vec<Step>,
-    told: Vec<Told>,
+    reported: Vec<Reported>,
     /// Whether there was memory for all of them.
     is_whole: bool,
 }
@@ -33,7 +33,7 @@ impl Model {
             machine: Machine::created(alloc, collectors).ok()?,
             applied: 0,
             steps: Vec::new(alloc),
-            told: Vec::new(alloc),
+            reported: Vec::new(alloc),
             is_whole: true,
         })
     }
@@ -67,7 +67,7 @@ impl Model {
     }
 
     // Makes a step.
-    fn make(&mut self, step: &Step) -> Told {
+    fn make(&mut self, step: &Step) -> Reported {
         let reply = match step {
             Step::Admit(collector, batch) => self.machine.admit(*collector, batch).ok(),
             Step::Mark(collector, mark) => Some(self.machine.mark(*collector, *mark)),
@@ -75,61 +75,61 @@ impl Model {
             Step::Flush => Some(self.machine.flush()),
             _ => None,
         };
-        let told = match &reply {
-            Some(reply) => told_of(reply),
-            None => Told::Refused,
+        let reported = match &reply {
+            Some(reply) => reported_of(reply),
+            None => Reported::Refused,
         };
-        if told == Told::Applied {
+        if reported == Reported::Applied {
             self.applied = self.applied.saturating_add(1);
         }
-        told
+        reported
     }
 
     // Applies a change at a time, until `applied` are applied.
     fn catch_up(&mut self, applied: u64) {
         for _ in 0..WAITING {
-            if self.applied >= applied || self.make(&Step::Apply(0)) != Told::Applied {
+            if self.applied >= applied || self.make(&Step::Apply(0)) != Reported::Applied {
                 return;
             }
         }
     }
 
-    fn remember(&mut self, step: Step, told: Told) {
-        self.is_whole &= self.steps.push(step).is_ok() && self.told.push(told).is_ok();
+    fn remember(&mut self, step: Step, reported: Reported) {
+        self.is_whole &= self.steps.push(step).is_ok() && self.reported.push(reported).is_ok();
     }
 
     // Makes a step. One that applies a change goes on until `applied` are applied.
-    fn make_until(&mut self, step: Step, applied: u64) -> Told {
+    fn make_until(&mut self, step: Step, applied: u64) -> Reported {
         let before = self.applied;
-        let told = self.make(&step);
-        if told == Told::Applied {
+        let reported = self.make(&step);
+        if reported == Reported::Applied {
             self.catch_up(applied);
             let more = self.applied.saturating_sub(before).saturating_sub(1);
-            self.remember(Step::Apply(more), told);
+            self.remember(Step::Apply(more), reported);
         } else {
-            self.remember(step, told);
+            self.remember(step, reported);
         }
-        told
+        reported
     }
 
     /// Whether the model returns the same, and `applied` changes are applied then. A step of the disks' archive applies one or more.
-    pub(crate) fn does(&mut self, step: Step, told: Told, applied: u64) -> bool {
-        self.make_until(step, applied) == told && self.applied == applied
+    pub(crate) fn does(&mut self, step: Step, reported: Reported, applied: u64) -> bool {
+        self.make_until(step, applied) == reported && self.applied == applied
     }
 
     /// Whether the model returns the same. Where the step applies a change it goes on until all is settled up to this mark.
-    pub(crate) fn does_up_to(&mut self, step: &Step, told: Told, settled: Mark) -> bool {
-        if self.make(step) != told {
+    pub(crate) fn does_up_to(&mut self, step: &Step, reported: Reported, settled: Mark) -> bool {
+        if self.make(step) != reported {
             return false;
         }
-        if told != Told::Applied {
+        if reported != Reported::Applied {
             return true;
         }
         for _ in 0..WAITING {
             if self.settled() == Some(settled) {
                 return true;
             }
-            if self.make(step) != Told::Applied {
+            if self.make(step) != Reported::Applied {
                 return false;
             }
         }
@@ -141,7 +141,7 @@ impl Model {
         if self.state() == Some(*found) {
             return true;
         }
-        let _told = self.make_until(step, found.applied);
+        let _reported = self.make_until(step, found.applied);
         self.state() == Some(*found)
     }
 
@@ -155,11 +155,11 @@ impl Model {
     /// machine, which the model goes on with, has the same state.
     pub(crate) fn crash(&mut self) -> Option<bool> {
         let before = self.state();
-        self.remember(Step::Crash, Told::Crashed);
-        self.remember(Step::Recover, Told::Recovered);
+        self.remember(Step::Crash, Reported::Crashed);
+        self.remember(Step::Recover, Reported::Recovered);
         let Ran { machine, replies } = self.ran()?;
         self.machine = machine;
-        Some(self.is_whole && are_told(&replies, &self.told) && self.state() == before)
+        Some(self.is_whole && are_reported(&replies, &self.reported) && self.state() == before)
     }
 
     /// The lines by which the machine answers or refuses the question of a line.
@@ -174,7 +174,7 @@ impl Model {
     /// Whether the machine answers or refuses the question of a line by these lines.
     pub(crate) fn answers_as(&mut self, line: &str, lines: &[u8]) -> bool {
         match self.answer(line) {
-            Some(told) => told.as_bytes() == lines,
+            Some(reported) => reported.as_bytes() == lines,
             None => false,
         }
     }
@@ -214,12 +214,12 @@ fn settled_in(reply: &Reply) -> Option<Mark> {
 }
 
 // Whether the replies are these.
-fn are_told(replies: &[Reply], told: &[Told]) -> bool {
-    replies.len() == told.len()
+fn are_reported(replies: &[Reply], reported: &[Reported]) -> bool {
+    replies.len() == reported.len()
         && replies
             .iter()
-            .zip(told.iter())
-            .all(|(reply, told)| told_of(reply) == *told)
+            .zip(reported.iter())
+            .all(|(reply, reported)| reported_of(reply) == *reported)
 }
 
 // The lines of an answer.

@@ -165,7 +165,7 @@ const WRITTEN: [Written; 14] = [
         answer: Err(OpenError::NotAJournal),
     },
     Written {
-        name: "rings that end behind the last home page",
+        name: "rings that end after the last home page",
         at: 26,
         octets: &[20],
         answer: Err(OpenError::NotAJournal),
@@ -190,7 +190,7 @@ const WRITTEN: [Written; 14] = [
         answer: Err(OpenError::BadNode(0)),
     },
     Written {
-        name: "a root behind the last home page",
+        name: "a root after the last home page",
         at: 265 * 16_384 + 24,
         octets: b"\0\0\0\0\0\0\0\x28\0\0\0\0\0\0\0\0\0\0\0\0\0\0\0\x27",
         answer: Err(OpenError::BadNode(0)),
@@ -202,7 +202,7 @@ const WRITTEN: [Written; 14] = [
         answer: Err(OpenError::BadNode(0)),
     },
     Written {
-        name: "an octet behind the head",
+        name: "an octet after the head",
         at: 265 * 16_384 + 16_383,
         octets: &[1],
         answer: Err(OpenError::BadNode(0)),

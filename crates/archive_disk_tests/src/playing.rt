@@ -7,8 +7,8 @@ use crate::made::{
     Made, MemArchive, apply_all, empties, empty_at, flush_all, made, mark_at, two_changes, vectors,
 };
 use crate::model::Model;
+use crate::reported::{Reported, make};
 use crate::scripts::SCRIPTS;
-use crate::told::{Told, make};
 use archive_calls::RouteArchive;
 use archive_pages::Settings;
 use disk_calls::NoReasons;
@@ -98,28 +98,32 @@ fn step_of(alloc: Global, call: Call, collector: u8, numbers: &[u32]) -> Option<
 }
 
 // What is returned, as a text.
-fn is_told(alloc: Global, told: Told, wanted: &str) -> bool {
-    match told {
-        Told::Taken(offered, from, to, late) => {
+fn is_reported(alloc: Global, reported: Reported, expected: &str) -> bool {
+    match reported {
+        Reported::Taken(offered, from, to, late) => {
             match format!(in alloc; "{offered} {from} {to} {late}") {
-                Ok(text) => text.as_str() == wanted,
+                Ok(text) => text.as_str() == expected,
                 Err(_) => false,
             }
         }
-        Told::Marked => wanted == "marked",
-        Told::MarkBack => wanted == "back",
-        Told::NoCollector => wanted == "no collector",
-        Told::Applied => wanted == "applied",
-        Told::Idle => wanted == "idle",
-        Told::TooLarge => wanted == "too large",
-        Told::IntakeFull => wanted == "full",
-        Told::Flushed | Told::Crashed | Told::Recovered | Told::Stopped | Told::Refused => false,
+        Reported::Marked => expected == "marked",
+        Reported::MarkBack => expected == "back",
+        Reported::NoCollector => expected == "no collector",
+        Reported::Applied => expected == "applied",
+        Reported::Idle => expected == "idle",
+        Reported::TooLarge => expected == "too large",
+        Reported::IntakeFull => expected == "full",
+        Reported::Flushed
+        | Reported::Crashed
+        | Reported::Recovered
+        | Reported::Stopped
+        | Reported::Refused => false,
     }
 }
 
-fn is_number(alloc: Global, number: u64, wanted: &str) -> bool {
+fn is_number(alloc: Global, number: u64, expected: &str) -> bool {
     match format!(in alloc; "{number}") {
-        Ok(text) => text.as_str() == wanted,
+        Ok(text) => text.as_str() == expected,
         Err(_) => false,
     }
 }
@@ -158,91 +162,91 @@ impl Stage {
     }
 
     // Whether both make the step and return this.
-    fn takes(&mut self, step: Option<Step>, wanted: &str) -> bool {
+    fn takes(&mut self, step: Option<Step>, expected: &str) -> bool {
         let Some(step) = step else {
             return false;
         };
-        let told = make(&mut self.disk, &step);
-        if !is_told(self.alloc, told, wanted) {
+        let reported = make(&mut self.disk, &step);
+        if !is_reported(self.alloc, reported, expected) {
             return false;
         }
-        match told {
+        match reported {
             // Of what there is room for the machine knows nothing.
-            Told::TooLarge | Told::IntakeFull => true,
+            Reported::TooLarge | Reported::IntakeFull => true,
             _ => {
                 let settled = self.disk.settled();
-                self.model.does_up_to(&step, told, settled)
+                self.model.does_up_to(&step, reported, settled)
             }
         }
     }
 
-    // Whether `wanted` steps apply all, and both are settled up to the same mark then.
-    fn applies_all(&mut self, wanted: &str) -> bool {
+    // Whether `expected` steps apply all, and both are settled up to the same mark then.
+    fn applies_all(&mut self, expected: &str) -> bool {
         let Some(count) = apply_all(&mut self.disk.archive) else {
             return false;
         };
         self.model.apply_all();
-        is_number(self.alloc, u64::from(count), wanted)
+        is_number(self.alloc, u64::from(count), expected)
             && self.model.settled() == Some(self.disk.settled())
     }
 
-    // Whether `wanted` pages are written home.
-    fn flushes(&mut self, wanted: &str) -> bool {
+    // Whether `expected` pages are written home.
+    fn flushes(&mut self, expected: &str) -> bool {
         match flush_all(&mut self.disk.archive) {
-            Some(count) => is_number(self.alloc, u64::from(count), wanted),
+            Some(count) => is_number(self.alloc, u64::from(count), expected),
             None => false,
         }
     }
 
     // Whether both are settled up to this mark.
-    fn is_settled(&mut self, wanted: &str) -> bool {
+    fn is_settled(&mut self, expected: &str) -> bool {
         let settled = self.disk.settled();
-        is_number(self.alloc, settled.seconds(), wanted) && self.model.settled() == Some(settled)
+        is_number(self.alloc, settled.seconds(), expected) && self.model.settled() == Some(settled)
     }
 
     // Whether both return this for where a collector goes on.
-    fn goes_on(&self, collector: u8, wanted: &str) -> Option<bool> {
+    fn goes_on(&self, collector: u8, expected: &str) -> Option<bool> {
         let resume = self.disk.resume(collector)?;
         let offered = resume.offered;
         let admitted = resume.admitted;
         let mark = resume.mark.seconds();
         let text = format!(in self.alloc; "{offered} {admitted} {mark}").ok()?;
-        Some(text.as_str() == wanted && self.model.resume(collector) == Some(resume))
+        Some(text.as_str() == expected && self.model.resume(collector) == Some(resume))
     }
 
     // Whether both answer or refuse a question by these lines.
-    fn answers(&mut self, call: Call, seconds: u32, wanted: &str) -> Option<bool> {
+    fn answers(&mut self, call: Call, seconds: u32, expected: &str) -> Option<bool> {
         let line = line_of(self.alloc, call, seconds)?;
-        let lines = wanted.as_bytes();
+        let lines = expected.as_bytes();
         Some(
             answers_as(self.alloc, &mut self.disk, &line, lines)
                 && self.model.answers_as(&line, lines),
         )
     }
 
-    // Whether a check counts `wanted` changes.
-    fn checks(&mut self, wanted: &str) -> bool {
+    // Whether a check counts `expected` changes.
+    fn checks(&mut self, expected: &str) -> bool {
         match self.disk.check() {
-            Ok(count) => is_number(self.alloc, count, wanted),
+            Ok(count) => is_number(self.alloc, count, expected),
             Err(_) => false,
         }
     }
 
     // Whether a call is answered so.
     fn does(&mut self, act: &Act) -> bool {
-        let (call, collector, numbers, wanted) = *act;
+        let (call, collector, numbers, expected) = *act;
         match call {
-            Call::ApplyAll => self.applies_all(wanted),
-            Call::Flush => self.flushes(wanted),
-            Call::Settled => self.is_settled(wanted),
-            Call::Resume => self.goes_on(collector, wanted) == Some(true),
+            Call::ApplyAll => self.applies_all(expected),
+            Call::Flush => self.flushes(expected),
+            Call::Settled => self.is_settled(expected),
+            Call::Resume => self.goes_on(collector, expected) == Some(true),
             Call::Rows | Call::Events => {
-                self.answers(call, number_at(numbers, 0), wanted) == Some(true)
+                self.answers(call, number_at(numbers, 0), expected) == Some(true)
             }
-            Call::Check => self.checks(wanted),
+            Call::Check => self.checks(expected),
             _ => {
                 let step = step_of(self.alloc, call, collector, numbers);
-                self.takes(step, wanted)
+                self.takes(step, expected)
             }
         }
     }
@@ -298,16 +302,16 @@ fn an_archive_goes_on_where_it_was_given_up(rt: HostRuntime) {
 // Whether the archive says which record came late, and of whom.
 fn says_late(alloc: Global, archive: &mut Made) -> Option<bool> {
     let reply = archive.admit(0, &empty_at(alloc, &[100, 99, 100])?).ok()?;
-    let wanted = Late {
+    let expected = Late {
         index: 1,
         time: Moment::from(99),
         mark: mark_at(100),
     };
-    Some(reply.receipt.collector == 0 && reply.late.as_slice() == [wanted].as_slice())
+    Some(reply.receipt.collector == 0 && reply.late.as_slice() == [expected].as_slice())
 }
 
 #[test]
-fn a_late_record_is_told(rt: HostRuntime) {
+fn a_late_record_is_reported(rt: HostRuntime) {
     let settings = Settings {
         collectors: 1,
         ring: 9,

@@ -7,7 +7,7 @@ use Rattle.archive_facts.specs.declared.facts.Lane.{Lane}
 use Rattle.archive_facts.specs.declared.identity.Sizes.{Sizes}
 use Rattle.archive_facts.specs.declared.slots.TheConstants.{PAGE, SLOTS}
 
--- what is shown of a collector whose ring has so many octets: its number, and what the head has of it
+-- what is shown of a collector whose ring has this many octets: its number, and what the head has of it
 abbrev pub shown_at : ℕ → ℕ → HeadLane → Lane
 shown_at ring n lane = record { collector = n; mark = lane.mark; offered = lane.offered; admitted = lane.admitted; ring = record { used = lane.used; of = ring } }
 

@@ -44,7 +44,7 @@ pub struct Facts {
     pub collectors: Vec<Lane>,
 }
 
-/// What is shown of the collector of this number, whose ring has so many octets.
+/// What is shown of the collector of this number, whose ring has this many octets.
 fn lane_of(collector: u64, ring: u64, kept: &HeadLane) -> Lane
     ensures lane { result ≡ shown_at ring collector kept.now }
 {
@@ -60,7 +60,7 @@ fn lane_of(collector: u64, ring: u64, kept: &HeadLane) -> Lane
     }
 }
 
-/// What is shown of all collectors, whose rings have so many octets each.
+/// What is shown of all collectors, whose rings have this many octets each.
 fn lanes_of(alloc: Global, ring: u64, lanes: &[HeadLane]) -> Result<Vec<Lane>, AllocError>
     ensures lanes { IfOk result (λ shown. shown.items ≡ shown_from ring 0 lanes.now) }
 {

@@ -1,2 +1,2 @@
-mod Spelling
+mod Encoding
 mod Places

@@ -2,11 +2,11 @@
 use Rattle.std.proofs.Common.{◌≡◌, ℕ, zero, suc, ◌+◌, ◌*◌, ◌-◌, ◌<◌, List, [], ◌∷◌, ◌++◌, length, replicate, flat_map, refl, sym, ap, subst, inl, inr, ◌∙◌, arith}
 use Rattle.std.specs.List.{AllByRecursion}
 use Rattle.std.proofs.lemmas.List.{length-append, append_assoc}
-use Rattle.route_model.specs.Octets.{number_at, Spells}
+use Rattle.route_model.specs.Octets.{number_at, Encodes}
 use Rattle.archive_head.specs.declared.lane.Lane.{Lane}
 use Rattle.archive_head.specs.Head.{number, lane_octets, head_octets, Contents, IsLane, IsHead}
 use Rattle.archive_head.specs.inner.Places.{lane_at, lanes_from, contents_at, HasNoReading}
-use Rattle.archive_head.proofs.Spelling.{length-numbers, length-lane, behind, number_read}
+use Rattle.archive_head.proofs.Encoding.{length-numbers, length-lane, beyond, number_read}
 
 -- one more collector is read
 pub lanes_more : (octets : List ℕ) (i n : ℕ) → lanes_from octets i (suc n) ≡ lanes_from octets i n ++ (lane_at octets (64 + 64 * (i + n)) ∷ [])
@@ -32,7 +32,7 @@ pub lane_read : (front rest : List ℕ) (l : Lane) (place : ℕ) → IsLane l �
 lane_read front rest l place is at =
     let ns : List ℕ = l.offered ∷ l.admitted ∷ l.mark ∷ l.first ∷ l.used ∷ 0 ∷ 0 ∷ 0 ∷ [] in
     let octets : List ℕ = front ++ (lane_octets l ++ rest) in
-    let one : (k : ℕ) → number_at 8 (place + 8 * k) octets ≡ number_at 8 (8 * k) (lane_octets l ++ rest) = λ k. ap (λ (p : ℕ). number_at 8 (p + 8 * k) octets) (sym at) ∙ behind front (lane_octets l ++ rest) (8 * k) in
+    let one : (k : ℕ) → number_at 8 (place + 8 * k) octets ≡ number_at 8 (8 * k) (lane_octets l ++ rest) = λ k. ap (λ (p : ℕ). number_at 8 (p + 8 * k) octets) (sym at) ∙ beyond front (lane_octets l ++ rest) (8 * k) in
     let o : number_at 8 place octets ≡ l.offered = ap (λ (p : ℕ). number_at 8 p octets) (let e : place ≡ place + 8 * 0 = omega arith in e) ∙ one 0 ∙ number_read ns rest 0 (omega arith) is.offered in
     let a : number_at 8 (place + 8) octets ≡ l.admitted = one 1 ∙ number_read ns rest 1 (omega arith) is.admitted in
     let m : number_at 8 (place + 16) octets ≡ l.mark = one 2 ∙ number_read ns rest 2 (omega arith) (omega (arith, is.mark)) in
@@ -76,18 +76,18 @@ lane_in octets i (suc n) zero lt are = subst (λ (j : ℕ). IsLane (lane_at octe
 lane_in octets i (suc n) (suc k) lt are = subst (λ (j : ℕ). IsLane (lane_at octets (64 + 64 * j))) (let e : suc i + k ≡ i + suc k = omega arith in e) (lane_in octets (suc i) n k (omega (arith, lt)) are.1)
 
 -- what is read from a page is a head that it encodes
-pub one_read : (octets page : List ℕ) (count : ℕ) (head : Contents) → octets ≡ page → length head.lanes ≡ count → Spells IsHead head_octets head page → contents_at octets count ≡ head
-one_read octets page count head same n spells =
-    ap (λ (o : List ℕ). contents_at o count) (same ∙ spells.spelled) ∙ ap (contents_at (head_octets head)) (sym n) ∙ head_read head spells.valid
+pub one_read : (octets page : List ℕ) (count : ℕ) (head : Contents) → octets ≡ page → length head.lanes ≡ count → Encodes IsHead head_octets head page → contents_at octets count ≡ head
+one_read octets page count head same n encodes =
+    ap (λ (o : List ℕ). contents_at o count) (same ∙ encodes.encoded) ∙ ap (contents_at (head_octets head)) (sym n) ∙ head_read head encodes.valid
 
 -- and it has a reading
-pub none_read : (octets page : List ℕ) (count : ℕ) (head : Contents) → octets ≡ page → length head.lanes ≡ count → Spells IsHead head_octets head page → HasNoReading octets count → ⊥
-none_read octets page count head same n spells lacks =
-    let is : contents_at octets count ≡ head = one_read octets page count head same n spells in
+pub none_read : (octets page : List ℕ) (count : ℕ) (head : Contents) → octets ≡ page → length head.lanes ≡ count → Encodes IsHead head_octets head page → HasNoReading octets count → ⊥
+none_read octets page count head same n encodes lacks =
+    let is : contents_at octets count ≡ head = one_read octets page count head same n encodes in
     let last : number_at 8 8 octets ≡ head.last = ap (λ (h : Contents). h.last) is in
     let lanes : lanes_from octets 0 count ≡ head.lanes = ap (λ (h : Contents). h.lanes) is in
-    let are : AllByRecursion IsLane (lanes_from octets 0 count) = subst (AllByRecursion IsLane) (sym lanes) spells.valid.lanes in
+    let are : AllByRecursion IsLane (lanes_from octets 0 count) = subst (AllByRecursion IsLane) (sym lanes) encodes.valid.lanes in
     elim lacks [
-      | inl above ↦ let most = spells.valid.last in omega (arith, last, most, above)
+      | inl above ↦ let most = encodes.valid.last in omega (arith, last, most, above)
       | inr there ↦ let lane = subst (λ (j : ℕ). IsLane (lane_at octets (64 + 64 * j))) (let e : 0 + there.0 ≡ there.0 = omega arith in e) (lane_in octets 0 count there.0 there.1 are) in let most = lane.mark in let bad = there.2 in omega (arith, most, bad)
     ]

@@ -75,9 +75,9 @@ fn read_places(alloc: Global, octets: &[u8], count: usize) -> Result<Option<Head
 }
 
 // Whether a page is the encoding of the head.
-fn is_spelled(alloc: Global, head: &Head, page: &Page) -> Result<bool, AllocError>
+fn is_encoded(alloc: Global, head: &Head, page: &Page) -> Result<bool, AllocError>
     requires few { length head.now.lanes ≤ 16 }
-    ensures spelled { IfOk result (λ is. IsTrue is ↔ (page.now ≡ head_octets head.now)) }
+    ensures encoded { IfOk result (λ is. IsTrue is ↔ (page.now ≡ head_octets head.now)) }
 {
     let again = head.write(alloc)?;
     Ok(again.octets() == page.octets())
@@ -85,22 +85,22 @@ fn is_spelled(alloc: Global, head: &Head, page: &Page) -> Result<bool, AllocErro
 
 impl Head {
     ghost use Rattle.std.specs.Prelude.{◌≡◌, ◌≤◌, length, IfOk, IfSome, IfNone};
-    ghost use Rattle.route_model.specs.Octets.{Spells};
+    ghost use Rattle.route_model.specs.Octets.{Encodes};
     ghost use Rattle.archive_head.specs.Head.{Contents, IsHead, head_octets};
 
     /// The head of this many collectors that the page encodes, which is the only one, or none where it encodes no such head.
     /// It fails where memory is refused, and only then.
     pub fn read(alloc: Global, page: &Page, collectors: usize) -> Result<Option<Head>, AllocError>
         requires few { collectors ≤ 16 }
-        ensures head { IfOk result (λ found. IfSome found (λ head. Spells IsHead head_octets head page.now)) }
+        ensures head { IfOk result (λ found. IfSome found (λ head. Encodes IsHead head_octets head page.now)) }
         ensures collectors { IfOk result (λ found. IfSome found (λ head. length head.lanes ≡ collectors)) }
-        ensures none { IfOk result (λ found. IfNone found ((head : Contents) → length head.lanes ≡ collectors → Spells IsHead head_octets head page.now → ⊥)) }
-        ensures one { IfOk result (λ found. IfSome found (λ head. (other : Contents) → length other.lanes ≡ collectors → Spells IsHead head_octets other page.now → other ≡ head)) }
+        ensures none { IfOk result (λ found. IfNone found ((head : Contents) → length head.lanes ≡ collectors → Encodes IsHead head_octets head page.now → ⊥)) }
+        ensures one { IfOk result (λ found. IfSome found (λ head. (other : Contents) → length other.lanes ≡ collectors → Encodes IsHead head_octets other page.now → other ≡ head)) }
     {
         let Some(head) = read_places(alloc, page.octets(), collectors)? else {
             return Ok(None);
         };
-        if !is_spelled(alloc, &head, page)? {
+        if !is_encoded(alloc, &head, page)? {
             return Ok(None);
         }
         Ok(Some(head))

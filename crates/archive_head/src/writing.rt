@@ -76,9 +76,9 @@ impl Head {
     ghost use Rattle.archive_head.specs.Head.{head_octets};
 
     // The octets of the head's page.
-    fn spell(&self, alloc: Global) -> Result<Vec<u8>, AllocError>
+    fn encode(&self, alloc: Global) -> Result<Vec<u8>, AllocError>
         requires few { length self.now.lanes ≤ 16 }
-        ensures spelled { IfOk result (λ octets. octets.items ≡ head_octets self.now) }
+        ensures encoded { IfOk result (λ octets. octets.items ≡ head_octets self.now) }
     {
         let mut out = Vec::with_capacity(alloc, PAGE_SIZE)?;
         let last = self.last.seconds();
@@ -105,7 +105,7 @@ impl Head {
         requires few { length self.now.lanes ≤ 16 }
         ensures page { IfOk result (λ page. page ≡ head_octets self.now) }
     {
-        let octets = self.spell(alloc)?;
+        let octets = self.encode(alloc)?;
         Page::from_slice(alloc, &octets)
     }
 }

@@ -13,7 +13,7 @@ use Rattle.intake.specs.Ring.{IsRing}
 use Rattle.intake.proofs.api.Staying.{holds_same}
 use Rattle.archive_pages.specs.declared.settings.Settings.{Settings}
 use Rattle.archive_pages.specs.Places.{SamePages, ring_low, ring_of, tree_low}
-use Rattle.archive_pages.specs.Carried.{LaneStands}
+use Rattle.archive_pages.specs.Represented.{LaneStands}
 use Rattle.archive_pages.proofs.api.Histories.{changed_there, changed_other}
 
 -- ---- where the parts of the map lie

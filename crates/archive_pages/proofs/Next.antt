@@ -5,7 +5,7 @@ use Rattle.route_model.specs.Admission.{Admitted}
 use Rattle.route_meaning.specs.Merged.{Placed}
 use Rattle.route_meaning.specs.Holds.{time_of}
 use Rattle.route_history.specs.Kept.{at_time}
-use Rattle.archive_pages.specs.Carried.{last_time}
+use Rattle.archive_pages.specs.Represented.{last_time}
 use Rattle.archive_pages.specs.Changes.{next_change}
 
 one_mapped : (d time : ℕ) (n : ℕ) (xs : List Change) → n < length xs → (length (map (at_time time) (take 1 (drop n xs))) ≡ 1) × (last_time d (map (at_time time) (take 1 (drop n xs))) ≡ time)

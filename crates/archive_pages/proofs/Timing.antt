@@ -10,7 +10,7 @@ use Rattle.route_meaning.proofs.api.Front.{take_next}
 use Rattle.interleaving_core.specs.Steps.{moved}
 use Rattle.version_model.specs.Versions.{Version}
 use Rattle.route_history.specs.Kept.{Timed, at_time, timed, AreVersions}
-use Rattle.archive_pages.specs.Carried.{last_time}
+use Rattle.archive_pages.specs.Represented.{last_time}
 use Rattle.archive_pages.specs.Changes.{next_change}
 
 pub timed-append : (ps qs : List (Placed Admitted)) → timed (ps ++ qs) ≡ timed ps ++ timed qs

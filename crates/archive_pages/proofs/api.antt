@@ -1,5 +1,5 @@
 pub mod Histories
-pub mod Bearing
+pub mod Representing
 pub mod Creating
 pub mod Moving
 pub mod Giving

@@ -12,7 +12,7 @@ use Rattle.archive_head.specs.Head.{Contents}
 use Rattle.intake.specs.Ring.{entry, size_of, wrapped}
 use Rattle.archive_pages.specs.declared.settings.Settings.{Settings}
 use Rattle.archive_pages.specs.Places.{ChangesFrom, ring_of, tree_low}
-use Rattle.archive_pages.specs.Carried.{TreeOn, last_time}
+use Rattle.archive_pages.specs.Represented.{TreeOn, last_time}
 
 -- the head with another lane of a collector
 abbrev pub with_lane : Contents → ℕ → Lane → Contents

@@ -1,5 +1,5 @@
 pub mod Places
-pub mod Carried
+pub mod Represented
 pub mod Changes
 pub mod Refusals
 pub mod Batches

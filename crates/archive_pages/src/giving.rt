@@ -6,7 +6,7 @@ ghost use Rattle.page_tx.specs.Start.{Start};
 ghost use Rattle.page_tx.specs.declared.error.PageError.TheVariants as pages_refusals;
 ghost use Rattle.route_model.specs.Admission.{Admitted};
 ghost use Rattle.archive_head.specs.declared.lane.Lane.{Lane};
-ghost use Rattle.intake.specs.Ring.{entry_octets, octets_for, size_of, IsRing, Holds, Gains, ListsBehind, Crowds};
+ghost use Rattle.intake.specs.Ring.{entry_octets, octets_for, size_of, IsRing, Holds, Gains, ListsAfter, Crowds};
 ghost use Rattle.intake.specs.Calls.{OnlyReads, AppendRefusal, most_pages};
 ghost use Rattle.archive_pages.specs.Places.{ring_of};
 ghost use Rattle.archive_pages.specs.Changes.{with_lane};
@@ -81,7 +81,7 @@ fn take<P: Pages>(
     ensures full { (result ≡ Err IntakeError.IntakeFull) ↔ (size_of (ring_of settings collector lane) < lane.used + octets_for batch.now.timely) }
     ensures untouched { result ≡ Err IntakeError.IntakeFull → pages.new ≡ pages.old }
     ensures nothing { OnErr result (OnlyReads P.Pages pages.old pages.new (result ≡ Err (IntakeError.Pages pages_refusals.Fault))) }
-    ensures set { OnOk result (ListsBehind (ring_of settings collector lane) (octets_for batch.now.timely) (P.named pages.old) (P.named pages.new)) }
+    ensures set { OnOk result (ListsAfter (ring_of settings collector lane) (octets_for batch.now.timely) (P.named pages.old) (P.named pages.new)) }
     ensures room { result ≡ Err (IntakeError.Pages pages_refusals.TooManyImages) → Crowds (ring_of settings collector lane) (octets_for batch.now.timely) (P.named pages.old) }
     ensures few { OnOk result (length (P.named pages.new) ≤ length (P.named pages.old) + most_pages (octets_for batch.now.timely)) }
     ensures few_of_batch { sum_by entry_octets batch.now.timely ≤ 262144 → OnOk result (length (P.named pages.new) ≤ length (P.named pages.old) + 17) }
@@ -126,7 +126,7 @@ pub fn give<P: Pages>(
     ensures nothing { OnErr result (OnlyReads P.Pages pages.old pages.new (result ≡ Err (IntakeError.Pages pages_refusals.Fault))) }
 
     // Images are held of the pages that hold an octet of the batch, and of those of before.
-    ensures set { OnOk result ((lane : Lane) → HasLane head.old collector lane → ListsBehind (ring_of settings collector lane) (octets_for batch.now.timely) (P.named pages.old) (P.named pages.new)) }
+    ensures set { OnOk result ((lane : Lane) → HasLane head.old collector lane → ListsAfter (ring_of settings collector lane) (octets_for batch.now.timely) (P.named pages.old) (P.named pages.new)) }
     ensures room { result ≡ Err (IntakeError.Pages pages_refusals.TooManyImages) → (lane : Lane) → HasLane head.old collector lane → Crowds (ring_of settings collector lane) (octets_for batch.now.timely) (P.named pages.old) }
     ensures few { OnOk result (length (P.named pages.new) ≤ length (P.named pages.old) + most_pages (octets_for batch.now.timely)) }
     ensures few_of_batch { sum_by entry_octets batch.now.timely ≤ 262144 → OnOk result (length (P.named pages.new) ≤ length (P.named pages.old) + 17) }

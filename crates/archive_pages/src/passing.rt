@@ -3,7 +3,7 @@
 ghost use Rattle.std.specs.Prelude.{◌≡◌, ◌<◌, ◌≤◌, ◌+◌, ◌^◌, ◌↔◌, suc, length, slice_set, IsTrue};
 ghost use Rattle.route_meaning.specs.Merged.{placed};
 ghost use Rattle.archive_head.specs.declared.lane.Lane.{Lane};
-ghost use Rattle.archive_pages.specs.Carried.{last_time};
+ghost use Rattle.archive_pages.specs.Represented.{last_time};
 ghost use Rattle.archive_pages.specs.Changes.{head_moved, lane_popped, next_change};
 ghost use Rattle.archive_pages.specs.Batches.{CanPop, HasLane};
 

@@ -423,21 +423,21 @@ pub(crate) fn words_of<'a>(alloc: Global, text: &'a str) -> Option<Vec<&'a str>>
 }
 
 /// Whether the words ask for this, or are refused so.
-fn is_accepted(alloc: Global, words: &str, wanted: &str) -> Option<bool> {
+fn is_accepted(alloc: Global, words: &str, expected: &str) -> Option<bool> {
     let words = words_of(alloc, words)?;
     let line = match command(alloc, words.as_slice()) {
         Ok(invocation) => line_of(alloc, &invocation),
         Err(error) => refusal_of(alloc, &error),
     };
-    Some(line.is_whole && line.text.as_str() == wanted)
+    Some(line.is_whole && line.text.as_str() == expected)
 }
 
 #[test]
 fn words_of_commands_are_accepted(rt: HostRuntime) {
-    for (words, wanted) in &ACCEPTED {
+    for (words, expected) in &ACCEPTED {
         be(
             &rt,
-            is_accepted(rt.alloc(), words, wanted) == Some(true),
+            is_accepted(rt.alloc(), words, expected) == Some(true),
             words,
         );
     }

@@ -6,8 +6,8 @@ use crate::feeds::QUESTION;
 use crate::pure::Pure;
 use crate::samples::{LONG_PREFIX, UPDATE, stream};
 use service::{
-    End, FeedSettings, FeedStop, Input, LoadSettings, Output, Status, WithoutHop, tell_lost,
-    tell_outside,
+    End, FeedSettings, FeedStop, Input, LoadSettings, Output, Status, WithoutHop, report_lost,
+    report_outside,
 };
 use std::alloc::Global;
 use std::io::{Error, ErrorKind, Read, Write};
@@ -54,7 +54,7 @@ impl Read for Slow<'_> {
     }
 }
 
-/// A writer of one octet at a time, each behind an interruption.
+/// A writer of one octet at a time, each after an interruption.
 #[derive(Drop)]
 struct SlowOut<'a> {
     octets: &'a mut Vec<u8>,
@@ -109,11 +109,11 @@ fn is_given_up(alloc: Global) -> Option<bool> {
     let mut lines = Output::new(&mut out);
     let end = feed_to(alloc, &mut archive, 0, &mut reader, &mut lines);
     drop(lines);
-    let wanted = "B|0|2|2\nX|29|Outside\n";
+    let expected = "B|0|2|2\nX|29|Outside\n";
     Some(
         end == End::Refused(FeedStop::Outside)
             && reader.failure().is_some()
-            && out.as_slice() == wanted.as_bytes(),
+            && out.as_slice() == expected.as_bytes(),
     )
 }
 
@@ -190,8 +190,8 @@ fn are_reasons_shown(alloc: Global) -> Option<bool> {
     let missing = Error::from(ErrorKind::NotFound);
     let mut err: Vec<u8> = Vec::new(alloc);
     let mut shown = Output::new(&mut err);
-    let code = tell_outside(alloc, &mut shown, "a.mrt", "open", &missing);
-    tell_lost(alloc, "a.mrt", &file, &mut shown);
+    let code = report_outside(alloc, &mut shown, "a.mrt", "open", &missing);
+    report_lost(alloc, "a.mrt", &file, &mut shown);
     drop(shown);
     Some(code == 1 && err.as_slice() == REASONS.as_bytes())
 }

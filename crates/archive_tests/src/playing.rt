@@ -263,13 +263,13 @@ struct Played {
 fn play(alloc: Global, script: &Script, most: usize) -> Played {
     let mut shown = Gathered::new(alloc);
     let commands = show(alloc, script, most, &mut shown);
-    let mut wanted = Gathered::new(alloc);
-    wanted.add_lines(script.shown);
-    let is_shown = shown.octets.as_slice() == wanted.octets.as_slice();
+    let mut expected = Gathered::new(alloc);
+    expected.add_lines(script.shown);
+    let is_shown = shown.octets.as_slice() == expected.octets.as_slice();
     Played {
         commands: commands.unwrap_or(0),
-        is_right: commands.is_some() && shown.is_whole && wanted.is_whole && is_shown,
-        line: shown.first_difference(&wanted),
+        is_right: commands.is_some() && shown.is_whole && expected.is_whole && is_shown,
+        line: shown.first_difference(&expected),
     }
 }
 

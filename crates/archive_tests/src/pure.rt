@@ -82,13 +82,13 @@ fn refusal_of(reply: &Reply) -> AskError {
     }
 }
 
-/// It carries no history: of what its calls answer, these tests ask the lines that are written.
+/// It represents no history: of what its calls answer, these tests ask the lines that are written.
 impl RouteArchive for Pure {
-    ghost carries = { λ pure h. ⊥ };
+    ghost represents = { λ pure h. ⊥ };
 
     ghost most = { λ _. 262144 };
 
-    ghost right = { λ pure h carried. absurd carried };
+    ghost right = { λ pure h represented. absurd represented };
 
     fn collectors(&self) -> u8 {
         self.collectors.clamp(1, 16)

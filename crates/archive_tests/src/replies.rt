@@ -28,10 +28,10 @@ const REPLIES: [(&str, &str); 10] = [
 ];
 
 /// Whether a line has this reply, or is refused by this name.
-fn is_replied(alloc: Global, archive: &mut Pure, line: &str, wanted: &str) -> bool {
+fn is_replied(alloc: Global, archive: &mut Pure, line: &str, expected: &str) -> bool {
     match reply(alloc, archive, line) {
-        Ok(text) => text.as_str() == wanted,
-        Err(why) => Refusal::from(why).name() == wanted,
+        Ok(text) => text.as_str() == expected,
+        Err(why) => Refusal::from(why).name() == expected,
     }
 }
 
@@ -39,7 +39,7 @@ fn is_replied(alloc: Global, archive: &mut Pure, line: &str, wanted: &str) -> bo
 fn lines_are_replied(rt: HostRuntime) {
     let alloc = rt.alloc();
     let mut archive = loaded_of(alloc, &[UPDATE, NOTIFICATION]).expect(&rt, "an archive");
-    for (line, wanted) in &REPLIES {
-        be(&rt, is_replied(alloc, &mut archive, line, wanted), line);
+    for (line, expected) in &REPLIES {
+        be(&rt, is_replied(alloc, &mut archive, line, expected), line);
     }
 }

@@ -7,8 +7,8 @@ use crate::pure::Pure;
 use crate::samples::{EARLIER, LONG_PREFIX, UPDATE, stream};
 use route_model::Mark;
 use service::{
-    Creation, FileLoad, Loading, Output, Question, Refusal, ask_line, load_files, tell_created,
-    tell_listening, tell_refusal,
+    Creation, FileLoad, Loading, Output, Question, Refusal, ask_line, load_files, report_created,
+    report_listening, report_refusal,
 };
 use std::alloc::Global;
 use std::io::{BufWriter, Write};
@@ -174,7 +174,7 @@ enum Before {
 }
 
 /// Writes its line: the exit status.
-fn tell_to<W: Write + Drop>(
+fn report_to<W: Write + Drop>(
     alloc: Global,
     before: Before,
     out: &mut Output<W>,
@@ -182,12 +182,12 @@ fn tell_to<W: Write + Drop>(
 ) -> u8 {
     let mut refusals = Output::new(err);
     match before {
-        Before::Made => tell_created(alloc, &MADE, out, &mut refusals),
+        Before::Made => report_created(alloc, &MADE, out, &mut refusals),
         Before::Served => {
             let http = Some(bound(17_980));
-            tell_listening(alloc, &bound(17_900), http, out, &mut refusals)
+            report_listening(alloc, &bound(17_900), http, out, &mut refusals)
         }
-        Before::Listening => tell_listening(alloc, &bound(17_900), None, out, &mut refusals),
+        Before::Listening => report_listening(alloc, &bound(17_900), None, out, &mut refusals),
     }
 }
 
@@ -195,7 +195,7 @@ fn tell_to<W: Write + Drop>(
 fn is_shown(alloc: Global, before: Before, line: &str) -> bool {
     let mut out: Vec<u8> = Vec::new(alloc);
     let mut err: Vec<u8> = Vec::new(alloc);
-    let code = tell_to(alloc, before, &mut Output::new(&mut out), &mut err);
+    let code = report_to(alloc, before, &mut Output::new(&mut out), &mut err);
     code == 0 && out.as_slice() == line.as_bytes() && err.is_empty()
 }
 
@@ -205,14 +205,14 @@ fn is_unwritten(alloc: Global, before: Before) -> Option<bool> {
     let full: &mut [u8] = &mut small;
     let mut out = Output::new(BufWriter::new(alloc, full).ok()?);
     let mut err: Vec<u8> = Vec::new(alloc);
-    let code = tell_to(alloc, before, &mut out, &mut err);
+    let code = report_to(alloc, before, &mut out, &mut err);
     Some(code == 1 && err.as_slice() == UNBUFFERED.as_bytes())
 }
 
 /// Whether standard error shows that a folder has no archive.
 fn is_refusal_shown(alloc: Global) -> bool {
     let mut err: Vec<u8> = Vec::new(alloc);
-    let code = tell_refusal(&Refusal::NotAJournal, &mut Output::new(&mut err));
+    let code = report_refusal(&Refusal::NotAJournal, &mut Output::new(&mut err));
     code == 1 && err.as_slice() == "rha: 4 NotAJournal\n".as_bytes()
 }
 

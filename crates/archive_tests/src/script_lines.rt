@@ -86,8 +86,8 @@ impl Gathered {
     /// The number of the line, from 1 on, in which this differs from the other; that after the last where it doesn't.
     pub(crate) fn first_difference(&self, other: &Gathered) -> u64 {
         let mut line = 1u64;
-        for (octet, wanted) in self.octets.iter().zip(other.octets.iter()) {
-            if octet != wanted {
+        for (octet, expected) in self.octets.iter().zip(other.octets.iter()) {
+            if octet != expected {
                 return line;
             }
             if *octet == b'\n' {

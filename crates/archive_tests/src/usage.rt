@@ -467,7 +467,7 @@ const WRONG: [Shown; 16] = [
     },
 ];
 
-/// An option whose number is beyond its limits, or is none, after words that want it, and what is printed of it.
+/// An option whose number is beyond its limits, or is none, after words that need it, and what is printed of it.
 const BEYOND: [(&str, &str); 20] = [
     (
         "rha|create|a|--collectors=0",
@@ -578,28 +578,28 @@ fn is_printed(
 }
 
 /// Whether it is printed as it has to be.
-fn is_shown(alloc: Global, wanted: &Shown) -> bool {
+fn is_shown(alloc: Global, expected: &Shown) -> bool {
     let Shown {
         words,
         kind,
         code,
         text,
         end,
-    } = *wanted;
+    } = *expected;
     is_printed(alloc, words, kind, code, "", text, end) == Some(true)
 }
 
 #[test]
 fn help_is_shown(rt: HostRuntime) {
-    for wanted in &ASKED_FOR {
-        be(&rt, is_shown(rt.alloc(), wanted), wanted.text);
+    for expected in &ASKED_FOR {
+        be(&rt, is_shown(rt.alloc(), expected), expected.text);
     }
 }
 
 #[test]
 fn other_words_are_refused(rt: HostRuntime) {
-    for wanted in &WRONG {
-        be(&rt, is_shown(rt.alloc(), wanted), wanted.text);
+    for expected in &WRONG {
+        be(&rt, is_shown(rt.alloc(), expected), expected.text);
     }
 }
 

@@ -12,7 +12,7 @@ pub left_by : {E O Pen Seen : Type 0} (erase : EraseGhosts E) (once : OnceGhosts
     → LeftNow (erase.model e) (once.model pen) left ⊎ LeavesNoneOrEmpty (site_on s (erase.octet_count e) (once.block_count o)) left → LeftByCreation erase once s e o pen left
 left_by erase once s e o pen left are is = ⊎_elim
     (λ now. inl (now, refl))
-    (λ other. inr (⊎_elim inl (λ carries. inr (site_on s (erase.octet_count e) (once.block_count o), record { settings = are; note = refl }, refl, refl, carries)) other))
+    (λ other. inr (⊎_elim inl (λ represents. inr (site_on s (erase.octet_count e) (once.block_count o), record { settings = are; note = refl }, refl, refl, represents)) other))
     is
 
 -- two things are true of what was created

@@ -1,4 +1,4 @@
--- What a crash inside a call leaves of an archive that carries a history.
+-- What a crash inside a call leaves of an archive that represents a history.
 use Rattle.std.proofs.Common.{◌≡◌, ◌<◌, ◌≤◌, ◌⊎◌, inl, inr, ⊎_elim, ℕ, zero, suc, List, [], ◌∷◌, length, true, false, refl, ap, subst, arith, Result}
 use Rattle.std.specs.Global.{Vec}
 use Rattle.std.proofs.lemmas.Bool.{cases_lt}
@@ -20,18 +20,18 @@ use Rattle.disk_archive.specs.declared.error.AdmitError.{AdmitError}
 use Rattle.disk_archive.specs.declared.mark_error.MarkError.{MarkError}
 use Rattle.disk_archive.specs.declared.apply_error.ApplyError.{ApplyError}
 use Rattle.disk_archive.specs.declared.applying.Step.{Step}
-use Rattle.disk_archive.specs.Archives.{Carries, site_of}
+use Rattle.disk_archive.specs.Archives.{Represents, site_of}
 use Rattle.disk_archive.specs.Crashes.{Crashes}
 use Rattle.disk_archive.specs.Moves.{Moves}
-use Rattle.disk_archive.specs.Sites.{LeftCarries, Site}
+use Rattle.disk_archive.specs.Sites.{LeftRepresents, Site}
 use Rattle.archive_uses.specs.Use.{Call}
 use Rattle.archive_uses.specs.Use.Call.{admit, mark, apply}
 use Rattle.archive_uses.specs.Calls.{Admits, Marks, Steps}
 use Rattle.archive_uses.proofs.Machine.{Answers}
 
--- what was left carries the history of before, or one to which the call leads, answered somehow
+-- what was left represents the history of before, or one to which the call leads, answered somehow
 abbrev pub LeftDone : Call → Site → History → Left → Type 0
-LeftDone call site h left = LeftCarries site h left ⊎ ((g : History) × (reply : Reply) × Answers call reply h g × LeftCarries site g left)
+LeftDone call site h left = LeftRepresents site h left ⊎ ((g : History) × (reply : Reply) × Answers call reply h g × LeftRepresents site g left)
 
 -- where there is no such collector nothing changes
 changed_none : (c : ℕ) (f : Intake → Intake) (is : List Intake) → length is ≤ c → changed c f is ≡ is
@@ -61,20 +61,20 @@ taken h c batch right lt =
     let s = step_answered w (Admit c batch) right in
     taken_from w c batch s.0 s.1 refl lt s.2
 
-pub cuts_admit : {E O Pen Seen : Type 0} {erase : EraseGhosts E} {once : OnceGhosts O Pen Seen} (a z : Archive E O Pen Seen erase once) (c : ℕ) (batch : Vec Admitted) (result : Result BatchReply AdmitError) → Admits a z c batch.items result → (h : History) → Carries a h → Crashes a z (LeftDone (admit c batch) (site_of a) h)
+pub cuts_admit : {E O Pen Seen : Type 0} {erase : EraseGhosts E} {once : OnceGhosts O Pen Seen} (a z : Archive E O Pen Seen erase once) (c : ℕ) (batch : Vec Admitted) (result : Result BatchReply AdmitError) → Admits a z c batch.items result → (h : History) → Represents a h → Crashes a z (LeftDone (admit c batch) (site_of a) h)
 cuts_admit a z c batch result m h k =
     let crash = m.crash h k in
     record {
       later = crash.later;
       each = λ left pair. ⊎_elim inl
           (λ is. elim (cases_lt c (length h.intakes)) [
-            | inl lt ↦ (let t = taken h c batch k.bears.right lt in inr (given h c batch.items, Taken t.0, t.1, is))
-            | inr ge ↦ inl (subst (λ x. LeftCarries (site_of a) x left) (given_none h c batch.items ge) is)
+            | inl lt ↦ (let t = taken h c batch k.head_represents.right lt in inr (given h c batch.items, Taken t.0, t.1, is))
+            | inr ge ↦ inl (subst (λ x. LeftRepresents (site_of a) x left) (given_none h c batch.items ge) is)
           ])
           (crash.each left pair);
     }
 
-pub cuts_mark : {E O Pen Seen : Type 0} {erase : EraseGhosts E} {once : OnceGhosts O Pen Seen} (a z : Archive E O Pen Seen erase once) (c at : ℕ) (result : Result (Unit {0}) MarkError) → Marks a z c at result → (h : History) → Carries a h → Crashes a z (LeftDone (mark c at) (site_of a) h)
+pub cuts_mark : {E O Pen Seen : Type 0} {erase : EraseGhosts E} {once : OnceGhosts O Pen Seen} (a z : Archive E O Pen Seen erase once) (c at : ℕ) (result : Result (Unit {0}) MarkError) → Marks a z c at result → (h : History) → Represents a h → Crashes a z (LeftDone (mark c at) (site_of a) h)
 cuts_mark a z c at result m h k =
     let crash = m.crash h k in
     record {
@@ -82,20 +82,20 @@ cuts_mark a z c at result m h k =
       each = λ left pair. ⊎_elim inl
           (λ is. elim (cases_lt c (length h.intakes)) [
             | inl lt ↦ inr (marked h c at, Marked, (lt, is.0, refl), is.1)
-            | inr ge ↦ inl (subst (λ x. LeftCarries (site_of a) x left) (marked_none h c at ge) is.1)
+            | inr ge ↦ inl (subst (λ x. LeftRepresents (site_of a) x left) (marked_none h c at ge) is.1)
           ])
           (crash.each left pair);
     }
 
-moves_or : (site : Site) (h g : History) (left : Left) → (g ≡ h) ⊎ Moves h g → LeftCarries site g left → LeftDone apply site h left
-moves_or site h g left (inl same) is = inl (subst (λ x. LeftCarries site x left) same is)
+moves_or : (site : Site) (h g : History) (left : Left) → (g ≡ h) ⊎ Moves h g → LeftRepresents site g left → LeftDone apply site h left
+moves_or site h g left (inl same) is = inl (subst (λ x. LeftRepresents site x left) same is)
 moves_or site h g left (inr moves) is = inr (g, Applied, moves, is)
 
-pub cuts_apply : {E O Pen Seen : Type 0} {erase : EraseGhosts E} {once : OnceGhosts O Pen Seen} (a z : Archive E O Pen Seen erase once) (result : Result Step ApplyError) → Steps a z result → (h : History) → Carries a h → Crashes a z (LeftDone apply (site_of a) h)
+pub cuts_apply : {E O Pen Seen : Type 0} {erase : EraseGhosts E} {once : OnceGhosts O Pen Seen} (a z : Archive E O Pen Seen erase once) (result : Result Step ApplyError) → Steps a z result → (h : History) → Represents a h → Crashes a z (LeftDone apply (site_of a) h)
 cuts_apply a z result m h k =
     let crash = m.crash h k in
     record { later = crash.2.later; each = λ left pair. ⊎_elim inl (λ is. moves_or (site_of a) h crash.0 left crash.1 is) (crash.2.each left pair) }
 
 -- a call that leads to no other history
-pub cuts_still : {E O Pen Seen : Type 0} {erase : EraseGhosts E} {once : OnceGhosts O Pen Seen} (call : Call) (a z : Archive E O Pen Seen erase once) (h : History) → Crashes a z (LeftCarries (site_of a) h) → Crashes a z (LeftDone call (site_of a) h)
+pub cuts_still : {E O Pen Seen : Type 0} {erase : EraseGhosts E} {once : OnceGhosts O Pen Seen} (call : Call) (a z : Archive E O Pen Seen erase once) (h : History) → Crashes a z (LeftRepresents (site_of a) h) → Crashes a z (LeftDone call (site_of a) h)
 cuts_still call a z h crash = record { later = crash.later; each = λ left pair. inl (crash.each left pair) }

@@ -13,10 +13,10 @@ use Rattle.archive_pages.specs.declared.settings.Settings.{Settings}
 use Rattle.disk_archive.specs.declared.archive.Archive.{Archive}
 use Rattle.disk_archive.specs.declared.open_error.OpenError.{OpenError}
 use Rattle.disk_archive.specs.declared.refused.Refused.{Refused}
-use Rattle.disk_archive.specs.Archives.{Carries, IsHonest, erase_of, erase_state, is_down, once_of, once_state, pen_in, settings_of, site_of}
+use Rattle.disk_archive.specs.Archives.{Represents, IsHonest, erase_of, erase_state, is_down, once_of, once_state, pen_in, settings_of, site_of}
 use Rattle.disk_archive.specs.Crashes.{Crashes}
 use Rattle.disk_archive.specs.Outcome.{erase_after, pen_after}
-use Rattle.disk_archive.specs.Sites.{LeftCarries, Site}
+use Rattle.disk_archive.specs.Sites.{LeftRepresents, Site}
 use Rattle.archive_uses.specs.Use.{AreBroken, Call, IsCall, StepsOf, IsUse, Use, Verdict}
 use Rattle.archive_uses.specs.Use.Call.{admit, mark, apply, flush, ask}
 use Rattle.archive_uses.specs.Use.Use.{called, cut, looked, cut_looking, closed, lost, found, opened, shut, cut_opening}
@@ -27,13 +27,13 @@ use Rattle.archive_uses.specs.Openings.{Opens}
 use Rattle.archive_uses.specs.Uses.{CallCut, CallEnds, Leads, LookCut, Stage}
 use Rattle.archive_uses.specs.Uses.Stage.{on, off, gone}
 use Rattle.archive_uses.proofs.Ran.{Ran, Stays, ran_answered, ran_crash, ran_down, ran_opened, ran_still, ran_whole}
-use Rattle.archive_uses.proofs.Meanings.{Means, holds, is_up, up_carries, means_admit, means_apply, means_ask, means_flush, means_mark}
+use Rattle.archive_uses.proofs.Meanings.{Means, holds, is_up, up_represents, means_admit, means_apply, means_ask, means_flush, means_mark}
 use Rattle.archive_uses.proofs.Cuts.{LeftDone, cuts_admit, cuts_apply, cuts_mark, cuts_still}
-use Rattle.archive_uses.proofs.Resting.{AllSound, Lying, Resting, carried_rests, lying_found, rests_left, rests_on, rests_reads}
+use Rattle.archive_uses.proofs.Resting.{AllSound, Lying, Resting, represented_rests, lying_found, rests_left, rests_on, rests_reads}
 
 -- what is true of a stage after these uses
 abbrev pub Inv : {E O Pen Seen : Type 0} (erase : EraseGhosts E) (once : OnceGhosts O Pen Seen) → Settings → (History → Type 0) → List Use → Stage E O Pen Seen erase once → Type 0
-Inv erase once made Q past (on a) = ((h : History) × Ran made.collectors Q past false h × Carries a h × (settings_of a ≡ made)) ⊎ ((is_down a ≡ true) × Resting erase once made Q past (erase_of a) (once_of a) (pen_in a))
+Inv erase once made Q past (on a) = ((h : History) × Ran made.collectors Q past false h × Represents a h × (settings_of a ≡ made)) ⊎ ((is_down a ≡ true) × Resting erase once made Q past (erase_of a) (once_of a) (pen_in a))
 Inv erase once made Q past (off e o pen) = Resting erase once made Q past e o pen
 Inv erase once made Q past (gone blocks left) = Lying made Q past blocks left
 
@@ -43,7 +43,7 @@ pub grows_none : (o : OnceState) → Grows o o
 grows_none o = record { tried = λ n t. t; settled = λ n b s. s }
 
 -- what was left by a call that went down
-left_done : (made : Settings) (Q : History → Type 0) (stays : Stays Q) (past : List Use) (u : Use) (call : Call) (site : Site) (h : History) (left : Left) → IsCall call → ((ss : List _) (rs : List _) → AreBroken call ss rs → StepsOf u ss rs) → Ran made.collectors Q past false h → LeftDone call site h left → (g : History) × Ran made.collectors Q (past ++ u ∷ []) true g × LeftCarries site g left
+left_done : (made : Settings) (Q : History → Type 0) (stays : Stays Q) (past : List Use) (u : Use) (call : Call) (site : Site) (h : History) (left : Left) → IsCall call → ((ss : List _) (rs : List _) → AreBroken call ss rs → StepsOf u ss rs) → Ran made.collectors Q past false h → LeftDone call site h left → (g : History) × Ran made.collectors Q (past ++ u ∷ []) true g × LeftRepresents site g left
 left_done made Q stays past u call site h left valid says run (inl was) = (h, ran_crash made.collectors Q past u false h (says _ _ (inl (refl, refl))) run, was)
 left_done made Q stays past u call site h left valid says run (inr is) = (is.0, ran_whole made.collectors Q stays past u call is.1 h is.0 valid says is.2 run, is.3)
 
@@ -69,7 +69,7 @@ reply_of (replied reply) = reply
 reply_of quiet = NeedsRecovery
 reply_of failed = NeedsRecovery
 
-pub call_ends : {E O Pen Seen : Type 0} (erase : EraseGhosts E) (once : OnceGhosts O Pen Seen) → AllSound erase → (made : Settings) (Q : History → Type 0) (stays : Stays Q) (past : List Use) (call : Call) (v : Verdict) (a z : Archive E O Pen Seen erase once) → IsCall call → Keeps a z → (is_down a ≡ true → v ≡ replied NeedsRecovery) → Means Q call a z v → ((h : History) → Carries a h → Crashes a z (LeftDone call (site_of a) h))
+pub call_ends : {E O Pen Seen : Type 0} (erase : EraseGhosts E) (once : OnceGhosts O Pen Seen) → AllSound erase → (made : Settings) (Q : History → Type 0) (stays : Stays Q) (past : List Use) (call : Call) (v : Verdict) (a z : Archive E O Pen Seen erase once) → IsCall call → Keeps a z → (is_down a ≡ true → v ≡ replied NeedsRecovery) → Means Q call a z v → ((h : History) → Represents a h → Crashes a z (LeftDone call (site_of a) h))
     → Inv erase once made Q past (on a) → Inv erase once made Q (past ++ called call v ∷ []) (on z)
 call_ends erase once sound made Q stays past call (replied reply) a z valid keeps needs means cuts (inl up) =
     let t = means up.0 up.1.held up.2 in
@@ -119,28 +119,28 @@ cut_down {E} erase once sound made Q past u a z left says keeps pair down r =
       settled = pair.settled;
     } in
     let f = r.rests left now in
-    record { site = r.site; noted = r.noted; settings = r.settings; count = r.count; history = f.0; run = ran_crash made.collectors Q past u true f.0 says f.1; carries = f.2 }
+    record { site = r.site; noted = r.noted; settings = r.settings; count = r.count; history = f.0; run = ran_crash made.collectors Q past u true f.0 says f.1; represents = f.2 }
 
 -- a crash inside a call
-pub call_cut : {E O Pen Seen : Type 0} (erase : EraseGhosts E) (once : OnceGhosts O Pen Seen) → AllSound erase → (made : Settings) (Q : History → Type 0) (stays : Stays Q) (past : List Use) (call : Call) (a z : Archive E O Pen Seen erase once) (left : Left) → IsCall call → Keeps a z → ((h : History) → Carries a h → Crashes a z (LeftDone call (site_of a) h)) → IsCut a z left
+pub call_cut : {E O Pen Seen : Type 0} (erase : EraseGhosts E) (once : OnceGhosts O Pen Seen) → AllSound erase → (made : Settings) (Q : History → Type 0) (stays : Stays Q) (past : List Use) (call : Call) (a z : Archive E O Pen Seen erase once) (left : Left) → IsCall call → Keeps a z → ((h : History) → Represents a h → Crashes a z (LeftDone call (site_of a) h)) → IsCut a z left
     → Inv erase once made Q past (on a) → Lying made Q (past ++ cut call ∷ []) (once.block_count (once_of a)) left
 call_cut erase once sound made Q stays past call a z left valid keeps cuts pair (inl up) =
     let f = left_done made Q stays past (cut call) call (site_of a) up.0 left valid (λ ss rs b. b) up.1 ((cuts up.0 up.2).each left pair) in
-    record { site = site_of a; noted = up.2.noted; settings = up.3; count = refl; history = f.0; run = f.1; carries = f.2 }
+    record { site = site_of a; noted = up.2.noted; settings = up.3; count = refl; history = f.0; run = f.1; represents = f.2 }
 call_cut erase once sound made Q stays past call a z left valid keeps cuts pair (inr down) = cut_down erase once sound made Q past (cut call) a z left (inl (refl, refl)) keeps pair down.0 down.1
 
 -- ---- calls that only read, which the machine doesn't have
 
 look_ends : {E O Pen Seen : Type 0} (erase : EraseGhosts E) (once : OnceGhosts O Pen Seen) (made : Settings) (Q : History → Type 0) (past : List Use) (a z : Archive E O Pen Seen erase once) → Looks a z → Inv erase once made Q past (on a) → Inv erase once made Q (past ++ looked ∷ []) (on z)
 look_ends erase once made Q past a z m (inl up) =
-    inl (up.0, ran_still made.collectors Q past looked false up.0 (refl, refl) up.1, up_carries z up.0 (m.holds up.0 (holds a up.0 up.2)) (m.keeps.honest.0 up.2.honest) (m.down ∙ is_up a up.0 up.2), m.keeps.settings ∙ up.3)
+    inl (up.0, ran_still made.collectors Q past looked false up.0 (refl, refl) up.1, up_represents z up.0 (m.holds up.0 (holds a up.0 up.2)) (m.keeps.honest.0 up.2.honest) (m.down ∙ is_up a up.0 up.2), m.keeps.settings ∙ up.3)
 look_ends erase once made Q past a z m (inr down) = inr (
   m.down ∙ down.0,
   rests_on erase once made Q past (past ++ looked ∷ []) (erase_of z) (once_of z) (pen_in z) (λ g run. ran_still made.collectors Q past looked true g (refl, refl) run) (rests_idle erase once made Q past a z m.keeps down.0 down.1),
 )
 
 look_cut : {E O Pen Seen : Type 0} (erase : EraseGhosts E) (once : OnceGhosts O Pen Seen) → AllSound erase → (made : Settings) (Q : History → Type 0) (past : List Use) (a : Archive E O Pen Seen erase once) (left : Left) → LookCut a left → Inv erase once made Q past (on a) → Lying made Q (past ++ cut_looking ∷ []) (once.block_count (once_of a)) left
-look_cut erase once sound made Q past a left c (inl up) = record { site = site_of a; noted = up.2.noted; settings = up.3; count = refl; history = up.0; run = ran_crash made.collectors Q past cut_looking false up.0 (refl, refl) up.1; carries = (c.1.crash up.0 up.2).each left c.2 }
+look_cut erase once sound made Q past a left c (inl up) = record { site = site_of a; noted = up.2.noted; settings = up.3; count = refl; history = up.0; run = ran_crash made.collectors Q past cut_looking false up.0 (refl, refl) up.1; represents = (c.1.crash up.0 up.2).each left c.2 }
 look_cut erase once sound made Q past a left c (inr down) = cut_down erase once sound made Q past cut_looking a c.0 left (refl, refl) c.1.keeps c.2 down.0 down.1
 
 -- ---- each call
@@ -183,7 +183,7 @@ cuts_off erase once sound made Q stays past (ask query) a left valid did inv = c
 
 -- an archive is given up, or a crash comes while it makes no call: it rests after a use that is a crash
 on_rests : {E O Pen Seen : Type 0} (erase : EraseGhosts E) (once : OnceGhosts O Pen Seen) (made : Settings) (Q : History → Type 0) (past : List Use) (u : Use) (a : Archive E O Pen Seen erase once) → StepsOf u (Crash ∷ []) (Crashed ∷ []) → Inv erase once made Q past (on a) → Resting erase once made Q (past ++ u ∷ []) (erase_of a) (once_of a) (pen_in a)
-on_rests erase once made Q past u a says (inl up) = carried_rests erase once made Q (past ++ u ∷ []) a up.0 up.3 (ran_crash made.collectors Q past u false up.0 says up.1) up.2
+on_rests erase once made Q past u a says (inl up) = represented_rests erase once made Q (past ++ u ∷ []) a up.0 up.3 (ran_crash made.collectors Q past u false up.0 says up.1) up.2
 on_rests erase once made Q past u a says (inr down) = rests_on erase once made Q past (past ++ u ∷ []) (erase_of a) (once_of a) (pen_in a) (λ g run. ran_crash made.collectors Q past u true g says run) down.1
 
 -- both disks are opened
@@ -214,8 +214,8 @@ off_cut : {E O Pen Seen : Type 0} (erase : EraseGhosts E) (once : OnceGhosts O P
     → CrashPair (erase.model e) (erase.model (erase_after result)) (once.model pen) (once.model pen) (once.model (pen_after result)) left → Resting erase once made Q past e o pen → Lying made Q (past ++ cut_opening ∷ []) (once.block_count o) left
 off_cut erase once made Q past e o pen result left m pair r =
     let f = rests_reads erase once made Q past e o pen r in
-    let b : (g : History) × Ran made.collectors Q past true g × LeftCarries r.site g left = ⊎_elim (λ was. r.rests left was) (λ is. (f.0, f.1, is)) (m.inside r.honest_erase r.honest_once r.site f.0 f.2 left pair) in
-    record { site = r.site; noted = r.noted; settings = r.settings; count = r.count; history = b.0; run = ran_crash made.collectors Q past cut_opening true b.0 (refl, refl) b.1; carries = b.2 }
+    let b : (g : History) × Ran made.collectors Q past true g × LeftRepresents r.site g left = ⊎_elim (λ was. r.rests left was) (λ is. (f.0, f.1, is)) (m.inside r.honest_erase r.honest_once r.site f.0 f.2 left pair) in
+    record { site = r.site; noted = r.noted; settings = r.settings; count = r.count; history = b.0; run = ran_crash made.collectors Q past cut_opening true b.0 (refl, refl) b.1; represents = b.2 }
 
 -- ---- all of them
 

@@ -17,7 +17,7 @@ use Rattle.disk_archive.specs.Archives.{Holds, IsHonest, erase_of, erase_state, 
 use Rattle.archive_uses.specs.Calls.{Keeps, Looks}
 use Rattle.archive_uses.specs.Openings.{Opens}
 use Rattle.archive_uses.proofs.Following.{grows_none}
-use Rattle.archive_uses.proofs.Resting.{AllSound, carried_is_left}
+use Rattle.archive_uses.proofs.Resting.{AllSound, represented_is_left}
 
 -- a call that leaves the erasable disk, and all that is tried or settled, is one that only reads
 pub looks_by : {E O Pen Seen : Type 0} {erase : EraseGhosts E} {once : OnceGhosts O Pen Seen} → AllSound erase → (a z : Archive E O Pen Seen erase once) → ((h : History) → Holds a h → Holds z h) → erase_of z ≡ erase_of a → is_down z ≡ is_down a → settings_of z ≡ settings_of a → IsHonest a ↔ IsHonest z → once_of z ≡ once_of a → (IsHonest a → once_state z ≡ once_state a) → Looks a z
@@ -27,7 +27,7 @@ looks_by {erase = erase} sound a z holds pages down settings honest disk blocks 
       holds = holds;
       crash = λ h k. record {
         later = subst (λ (x : DiskState). (erase_state a).clock ≤ x.clock) (sym same) (omega arith);
-        each = λ left pair. carried_is_left a h k left (record {
+        each = λ left pair. represented_is_left a h k left (record {
           erase = (sound (erase_of a) k.honest.0).only_now left.erase (subst (λ (x : DiskState). x.left_since (erase_state a).clock left.erase) same pair.erase);
           tried = pair.tried;
           within = subst (λ (x : OnceState). TriedWithin x left) (blocks k.honest) pair.within;

@@ -31,7 +31,7 @@ pub record Takes (c : ℕ) (batch : List Admitted) (h g : History) (says : Intak
   pub reply : says intake
   pub after : g ≡ given h c batch
 
--- over a history that is carried the call is answered so, and leads to that history
+-- over a history that is represented the call is answered so, and leads to that history
 abbrev pub Answers : Call → Reply → History → History → Type 0
 Answers (admit c batch) (Taken receipt) h g = Takes c batch.items h g (λ i. IsReply i c batch.items receipt)
 Answers (admit c batch) NoCollector h g = (IsCollector h c → ⊥) × (g ≡ h)
@@ -189,7 +189,7 @@ answered_goes (ask query) (AboveWatermark at) w g valid up a =
                 question = started query;
                 here = get_pushed w.questions (started query);
                 in_progress = in_progress query;
-                told_is = a.0;
+                reported_is = a.0;
                 above = subst (λ q. settled w.history ≤ last_moment q) (sym (asked_started query)) a.1;
               },
               refl,

@@ -15,7 +15,7 @@ use Rattle.interleaving_core.specs.declared.reply.Reply.TheVariants.{Taken, Begu
 use Rattle.interleaving_core.specs.declared.step.Reach.TheVariants.{End}
 use Rattle.interleaving_core.specs.declared.step.Step.{Step}
 use Rattle.interleaving_core.specs.declared.step.Step.TheVariants.{Admit, Mark, Apply, Flush, Begin, Turn, Crash, Recover}
-use Rattle.interleaving_core.specs.Headline.{WasDone, taken_by, taken_of, told_by}
+use Rattle.interleaving_core.specs.Headline.{WasDone, taken_by, taken_of, reported_by}
 use Rattle.archive_uses.specs.Use.{AllStepsOf, AreBroken, AreSteps, Call, StepsOf, Use}
 use Rattle.archive_uses.specs.Use.Call.{admit, mark, apply, flush, ask}
 use Rattle.archive_uses.specs.Use.Use.{called, cut, looked, cut_looking, begun, finished, closed, lost, found, opened, shut, cut_opening}
@@ -200,8 +200,8 @@ taken_split c earlier [] ts [] qs same = (earlier, refl)
 taken_split c earlier [] ts (r ∷ rs) qs same = absurd (omega (arith, same))
 taken_split c earlier (s ∷ ss) ts [] qs same = absurd (omega (arith, same))
 taken_split c earlier (s ∷ ss) ts (r ∷ rs) qs same =
-    let rest = taken_split c (earlier ++ told_by c s r) ss ts rs qs (omega (arith, same)) in
-    (rest.0, ap (λ (l : List Admitted). taken_by c earlier s r ++ l) rest.1 ∙ sym (append_assoc (taken_by c earlier s r) (taken_of c (earlier ++ told_by c s r) ss rs) (taken_of c rest.0 ts qs)))
+    let rest = taken_split c (earlier ++ reported_by c s r) ss ts rs qs (omega (arith, same)) in
+    (rest.0, ap (λ (l : List Admitted). taken_by c earlier s r ++ l) rest.1 ∙ sym (append_assoc (taken_by c earlier s r) (taken_of c (earlier ++ reported_by c s r) ss rs) (taken_of c rest.0 ts qs)))
 
 part_uses : (c : ℕ) (earlier : List ℕ) (us : List Use) (steps : List Step) (replies : List Reply) → AllStepsOf us steps replies → IsPartOf (taken_of c earlier steps replies) (offered_in c us)
 part_uses c earlier [] steps replies none = at_steps c earlier [] steps [] replies [] none.0 none.1 refl

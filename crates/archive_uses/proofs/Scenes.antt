@@ -41,7 +41,7 @@ inv_with erase once made P Q past (on a) so inv = ⊎_elim
     (λ down. inr (down.0, rests_with erase once made P Q past (erase_of a) (once_of a) (pen_in a) so down.1))
     inv
 inv_with erase once made P Q past (off e o pen) so inv = rests_with erase once made P Q past e o pen so inv
-inv_with erase once made P Q past (gone k left) so inv = record { site = inv.site; noted = inv.noted; settings = inv.settings; count = inv.count; history = inv.history; run = ran_with made.collectors P Q past true inv.history (so inv.history inv.run.held) inv.run; carries = inv.carries }
+inv_with erase once made P Q past (gone k left) so inv = record { site = inv.site; noted = inv.noted; settings = inv.settings; count = inv.count; history = inv.history; run = ran_with made.collectors P Q past true inv.history (so inv.history inv.run.held) inv.run; represents = inv.represents }
 
 -- a use that does nothing
 rests_still : {E O Pen Seen : Type 0} (erase : EraseGhosts E) (once : OnceGhosts O Pen Seen) (made : Settings) (Q : History → Type 0) (past : List Use) (u : Use) (e : E) (o : O) (pen : Pen) → StepsOf u [] [] → Resting erase once made Q past e o pen → Resting erase once made Q (past ++ u ∷ []) e o pen
@@ -61,7 +61,7 @@ inv_still erase once made Q past u (on a) says inv = ⊎_elim
     (λ down. inr (down.0, rests_still erase once made Q past u (erase_of a) (once_of a) (pen_in a) says down.1))
     inv
 inv_still erase once made Q past u (off e o pen) says inv = rests_still erase once made Q past u e o pen says inv
-inv_still erase once made Q past u (gone k left) says inv = record { site = inv.site; noted = inv.noted; settings = inv.settings; count = inv.count; history = inv.history; run = ran_still made.collectors Q past u true inv.history says inv.run; carries = inv.carries }
+inv_still erase once made Q past u (gone k left) says inv = record { site = inv.site; noted = inv.noted; settings = inv.settings; count = inv.count; history = inv.history; run = ran_still made.collectors Q past u true inv.history says inv.run; represents = inv.represents }
 
 -- R is true of the history, and so is what is true of the questions in hand
 abbrev pub With : (History → Type 0) → List Asked → History → Type 0

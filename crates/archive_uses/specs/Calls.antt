@@ -33,11 +33,11 @@ use Rattle.disk_archive.specs.declared.errand.Errand.{Errand}
 use Rattle.once_store.specs.declared.reader.ShelfReader.{ShelfReader}
 use Rattle.once_store.specs.declared.error.BlockError.{BlockError}
 use Rattle.disk_archive.specs.Cursors.{asks as query_of, IsGathered}
-use Rattle.disk_archive.specs.Descents.{Descends, LiesKnown}
-use Rattle.disk_archive.specs.Archives.{Carries, Holds, IsHonest, erase_of, erase_state, is_down, once_of, once_state, settings_of, site_of}
+use Rattle.disk_archive.specs.Descents.{Descends, LocatedKnown}
+use Rattle.disk_archive.specs.Archives.{Represents, Holds, IsHonest, erase_of, erase_state, is_down, once_of, once_state, settings_of, site_of}
 use Rattle.disk_archive.specs.Crashes.{Crashes}
 use Rattle.disk_archive.specs.Moves.{Moves}
-use Rattle.disk_archive.specs.Sites.{LeftCarries, LeftEither, LeftMarked}
+use Rattle.disk_archive.specs.Sites.{LeftRepresents, LeftEither, LeftMarked}
 
 -- What each call keeps: the settings, the disks, whether they follow their models, and what is tried and settled. On an archive that must be opened again
 -- it does nothing.
@@ -53,7 +53,7 @@ pub record Admits {E O Pen Seen : Type 0} {erase : EraseGhosts E} {once : OnceGh
   pub ok : OnOk result ((h : History) → Holds old h → Holds new (given h c batch))
   pub reply : IsHonest old → (h : History) → Holds old h → (i : Intake) → slice_get h.intakes c ≡ Some i → IfOk result (IsReply i c batch)
   pub err : OnErr result ((h : History) → Holds old h → Holds new h)
-  pub crash : (h : History) → Carries old h → Crashes old new (LeftEither (site_of old) h (given h c batch))
+  pub crash : (h : History) → Represents old h → Crashes old new (LeftEither (site_of old) h (given h c batch))
   pub still_usable : OnOk result (is_down new ≡ false)
   pub falls : is_down old ≡ false → is_down new ≡ true → result ≡ Err admits.Fault
   pub recovery : (result ≡ Err admits.NeedsRecovery) ↔ (is_down old ≡ true)
@@ -64,7 +64,7 @@ pub record Admits {E O Pen Seen : Type 0} {erase : EraseGhosts E} {once : OnceGh
 pub record Marks {E O Pen Seen : Type 0} {erase : EraseGhosts E} {once : OnceGhosts O Pen Seen} (old new : Archive E O Pen Seen erase once) (c mark : ℕ) (result : Result (Unit {0}) MarkError) : Type 0 where
   pub ok : OnOk result ((h : History) → Holds old h → Holds new (marked h c mark))
   pub err : OnErr result ((h : History) → Holds old h → Holds new h)
-  pub crash : (h : History) → Carries old h → Crashes old new (LeftMarked (site_of old) h c mark)
+  pub crash : (h : History) → Represents old h → Crashes old new (LeftMarked (site_of old) h c mark)
   pub still_usable : OnOk result (is_down new ≡ false)
   pub falls : is_down old ≡ false → is_down new ≡ true → result ≡ Err marks.Fault
   pub recovery : (result ≡ Err marks.NeedsRecovery) ↔ (is_down old ≡ true)
@@ -78,7 +78,7 @@ pub record Steps {E O Pen Seen : Type 0} {erase : EraseGhosts E} {once : OnceGho
   pub idle : IfOk result (λ step. IsHonest old → (h : History) → Holds old h → (step ≡ steps.Idle) ↔ NothingToApply h)
   pub idle_same : result ≡ Ok steps.Idle → (h : History) → Holds old h → Holds new h
   pub err : OnErr result ((h : History) → Holds old h → Holds new h)
-  pub crash : (h : History) → Carries old h → (g : History) × ((g ≡ h) ⊎ Moves h g) × Crashes old new (LeftEither (site_of old) h g)
+  pub crash : (h : History) → Represents old h → (g : History) × ((g ≡ h) ⊎ Moves h g) × Crashes old new (LeftEither (site_of old) h g)
   pub still_usable : OnOk result (is_down new ≡ false)
   pub recovery : (result ≡ Err applies.NeedsRecovery) ↔ (is_down old ≡ true)
   pub keeps : Keeps old new
@@ -86,7 +86,7 @@ pub record Steps {E O Pen Seen : Type 0} {erase : EraseGhosts E} {once : OnceGho
 -- a step of flushing
 pub record Flushes {E O Pen Seen : Type 0} {erase : EraseGhosts E} {once : OnceGhosts O Pen Seen} (old new : Archive E O Pen Seen erase once) (result : Result Flush FlushError) : Type 0 where
   pub holds : (h : History) → Holds old h → Holds new h
-  pub crash : (h : History) → Carries old h → Crashes old new (LeftCarries (site_of old) h)
+  pub crash : (h : History) → Represents old h → Crashes old new (LeftRepresents (site_of old) h)
   pub usable : OnOk result ((is_down old ≡ false) × (is_down new ≡ false))
   pub recovery : (result ≡ Err flushes.NeedsRecovery) ↔ (is_down old ≡ true)
   pub keeps : Keeps old new
@@ -94,7 +94,7 @@ pub record Flushes {E O Pen Seen : Type 0} {erase : EraseGhosts E} {once : OnceG
 -- a call that only reads
 pub record Looks {E O Pen Seen : Type 0} {erase : EraseGhosts E} {once : OnceGhosts O Pen Seen} (old new : Archive E O Pen Seen erase once) : Type 0 where
   pub holds : (h : History) → Holds old h → Holds new h
-  pub crash : (h : History) → Carries old h → Crashes old new (LeftCarries (site_of old) h)
+  pub crash : (h : History) → Represents old h → Crashes old new (LeftRepresents (site_of old) h)
   pub down : is_down new ≡ is_down old
   pub keeps : Keeps old new
 
@@ -119,7 +119,7 @@ pub record Turns {E O Pen Seen : Type 0} {erase : EraseGhosts E} {once : OnceGho
 
 -- an errand is finished by a reader of blocks, with a look at what is settled, from one cursor to the next
 pub record Finishes {O Pen Seen : Type 0} (once : OnceGhosts O Pen Seen) (reader : ShelfReader O Pen Seen once) (seen : Seen) (errand : Errand) (c d : Cursor) (result : Result (Unit {0}) BlockError) : Type 0 where
-  pub gathered : (h : History) → LiesKnown once reader seen errand c h → OnOk result (IsGathered d h)
+  pub gathered : (h : History) → LocatedKnown once reader seen errand c h → OnOk result (IsGathered d h)
   pub same : query_of d ≡ query_of c
   pub kept : OnErr result ((h : History) → IsGathered c h → IsGathered d h)
 

@@ -7,18 +7,18 @@ use Rattle.disk_models.specs.Left.{Left}
 use Rattle.page_journal.specs.Identity.{HoldsNone}
 use Rattle.interleaving_core.specs.Steps.{empty}
 use Rattle.archive_pages.specs.declared.settings.Settings.{Settings}
-use Rattle.disk_archive.specs.Archives.{Carries, settings_of}
-use Rattle.disk_archive.specs.Sites.{IsNoted, LeftCarries, Site}
+use Rattle.disk_archive.specs.Archives.{Represents, settings_of}
+use Rattle.disk_archive.specs.Sites.{IsNoted, LeftRepresents, Site}
 use Rattle.archive_uses.specs.Use.{IsUse, Use}
 use Rattle.archive_uses.specs.Use.Use.{lost}
 use Rattle.archive_uses.specs.Uses.{Leads, Scene, Stage, Uses}
 use Rattle.archive_uses.specs.Uses.Stage.{on, off, gone}
 
 -- The life of an archive of these settings begins here, with these uses: with none, where it was created; or a crash came inside its creation, and
--- left what carries the history of one to which nothing was given. That is as though it had been created, and lost then.
+-- left what represents the history of one to which nothing was given. That is as though it had been created, and lost then.
 abbrev pub Starts : {E O Pen Seen : Type 0} {erase : EraseGhosts E} {once : OnceGhosts O Pen Seen} → Settings → List Use → Stage E O Pen Seen erase once → Type 0
-Starts made [] (on a) = Carries a (empty made.collectors) × (settings_of a ≡ made)
-Starts made (lost ∷ []) (gone k left) = (site : Site) × IsNoted site × (site.settings ≡ made) × (site.blocks ≡ k) × LeftCarries site (empty made.collectors) left
+Starts made [] (on a) = Represents a (empty made.collectors) × (settings_of a ≡ made)
+Starts made (lost ∷ []) (gone k left) = (site : Site) × IsNoted site × (site.settings ≡ made) × (site.blocks ≡ k) × LeftRepresents site (empty made.collectors) left
 Starts made _ _ = ⊥
 
 -- A crash while an archive of these settings was created on both disks left what one at rest leaves before that; or no journal; or a life begins.

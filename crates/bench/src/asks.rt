@@ -30,7 +30,7 @@ struct Size {
 }
 
 /// What follows a question so that it goes on after a reply that ended so: after its last row, or after that many events.
-fn behind(alloc: Global, end: &str) -> Result<String> {
+fn beyond(alloc: Global, end: &str) -> Result<String> {
     if end.contains('|') {
         return Ok(format!(in alloc; " after {}", end.replace(alloc, "|", " ")?)?);
     }
@@ -43,7 +43,7 @@ fn continuation(alloc: Global, reply: &str) -> Result<Option<String>> {
         bail!("a reply without lines")
     };
     match end.strip_prefix("M|") {
-        Some(end) => Ok(Some(behind(alloc, end)?)),
+        Some(end) => Ok(Some(beyond(alloc, end)?)),
         None => Ok(None),
     }
 }
@@ -54,9 +54,9 @@ fn ask_whole<A: RouteArchive>(alloc: Global, archive: &mut A, question: &str) ->
         rows: 0,
         replies: 0,
     };
-    let mut behind = String::new(alloc);
+    let mut beyond = String::new(alloc);
     for _ in 0..u64::MAX {
-        let line = format!(in alloc; "{question}{behind}")?;
+        let line = format!(in alloc; "{question}{beyond}")?;
         let text = reply(alloc, archive, line.as_str())?;
         more(&mut size.replies, 1);
         more(
@@ -64,7 +64,7 @@ fn ask_whole<A: RouteArchive>(alloc: Global, archive: &mut A, question: &str) ->
             text.as_str().lines().count().saturating_sub(1),
         );
         match continuation(alloc, text.as_str())? {
-            Some(next) => behind = next,
+            Some(next) => beyond = next,
             None => break,
         }
     }

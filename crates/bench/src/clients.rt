@@ -123,11 +123,11 @@ pub fn print_clients<H: Threads + Clock + Net<Listener = TcpListener, Stream = T
     clients: u32,
 ) -> Result<()> {
     if clients < 1 || clients > MOST {
-        bail!("1 to 64 connections are wanted")
+        bail!("1 to 64 connections are needed")
     }
     let address = address
         .parse::<SocketAddr>()
-        .context("an address and a port are wanted")?;
+        .context("an address and a port are needed")?;
     let questions = fs::read_to_string(rt, file).context("the questions can't be read")?;
     let clients = clients as usize;
     let began = Instant::now(rt)?;

@@ -1,4 +1,8 @@
 //! Programs that measure the crates, a word for each. What they count of a file can be compared with other readers.
+//!
+//! `framing`, `messages` and `admissions` read an MRT file as far as records, messages and admissions, and print counts; how long that takes
+//! is timed from outside. `counts` prints what these three count of each file. `asks` and `clients` answer a file of request lines, by an
+//! archive in a folder or by a server over connections at once, and print times in nanoseconds. A file is read in pieces; no item is kept.
 #![tactic(auto)]
 
 mod admissions;
@@ -172,7 +176,7 @@ fn program<'a>(alloc: Global) -> Result<Command<'a>, AllocError> {
 /// The number of an option, or another one where the option isn't there.
 fn number_or(matches: &ArgMatches<'_>, name: &str, or: u32) -> Result<u32> {
     match matches.get_str(name) {
-        Some(text) => text.parse::<u32>().context("a number is wanted"),
+        Some(text) => text.parse::<u32>().context("a number is needed"),
         None => Ok(or),
     }
 }
@@ -250,7 +254,7 @@ fn run<H: Threads + Clock + Net<Listener = TcpListener, Stream = TcpStream> + Sy
     match program.try_get_matches_from(words.as_slice()) {
         Ok(matches) => {
             let Some((word, matches)) = matches.subcommand() else {
-                bail!("a word is wanted")
+                bail!("a word is needed")
             };
             match word {
                 "clients" => print_clients(rt, host, matches)?,

@@ -162,7 +162,7 @@ leads_on path total i left s lt e le so_far =
 pub first_here : (path after : List Segment) (i : ℕ) (s x : Segment) → i < length path → s ≡ get_or path i s → drop i path ≡ x ∷ after → x ≡ s
 first_here path after i s x lt e is = let both : (x ∷ after) ≡ s ∷ drop (i + 1) path = sym is ∙ here path i s lt e in cc
 
--- nothing is cut where no segment is left, or no number is wanted
+-- nothing is cut where no segment is left, or no number is needed
 pub leads_nowhere : (rest : List Segment) (left : ℕ) → ((s : Segment) (after : List Segment) → rest ≡ s ∷ after → left < weight s)
     → (length rest ≡ 0) ⊎ (left ≡ 0) → leading rest left ≡ []
 leads_nowhere [] left cut none = refl

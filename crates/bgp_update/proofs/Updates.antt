@@ -22,23 +22,23 @@ use Rattle.bgp_update.proofs.api.OneReading.{attributes_one}
 use Rattle.bgp_update.proofs.api.Reached.{reached_one, prefixes_one, ipv4_one}
 
 -- where the size, the field and the rest stand
-tells_size : (size more field : List ℕ) → length size ≡ 2 → number_at 2 0 size ≡ length field → number_at 2 0 (size ++ more) ≡ length field
-tells_size size more field two tells = number_at-append 2 0 size more (omega (arith, two)) ∙ tells
+reports_size : (size more field : List ℕ) → length size ≡ 2 → number_at 2 0 size ≡ length field → number_at 2 0 (size ++ more) ≡ length field
+reports_size size more field two reports = number_at-append 2 0 size more (omega (arith, two)) ∙ reports
 
-behind_size : (size more : List ℕ) → length size ≡ 2 → drop 2 (size ++ more) ≡ more
-behind_size size more two = subst (λ (n : ℕ). drop n (size ++ more) ≡ more) two (drop-append_seam size more)
+after_size : (size more : List ℕ) → length size ≡ 2 → drop 2 (size ++ more) ≡ more
+after_size size more two = subst (λ (n : ℕ). drop n (size ++ more) ≡ more) two (drop-append_seam size more)
 
 size_of : (bytes f r : List ℕ) → IsCounted bytes f r → number_at 2 0 bytes ≡ length f
-size_of bytes f r p = sym (sym (tells_size p.size (f ++ r) f p.two p.tells) ∙ ap (λ (t : List ℕ). number_at 2 0 t) (sym p.parts))
+size_of bytes f r p = sym (sym (reports_size p.size (f ++ r) f p.two p.reports) ∙ ap (λ (t : List ℕ). number_at 2 0 t) (sym p.parts))
 
-behind_of : (bytes f r : List ℕ) → IsCounted bytes f r → drop 2 bytes ≡ f ++ r
-behind_of bytes f r p = ap (λ (t : List ℕ). drop 2 t) p.parts ∙ behind_size p.size (f ++ r) p.two
+after_of : (bytes f r : List ℕ) → IsCounted bytes f r → drop 2 bytes ≡ f ++ r
+after_of bytes f r p = ap (λ (t : List ℕ). drop 2 t) p.parts ∙ after_size p.size (f ++ r) p.two
 
 field_of : (bytes f r : List ℕ) → IsCounted bytes f r → take (number_at 2 0 bytes) (drop 2 bytes) ≡ f
-field_of bytes f r p = rw (size_of bytes f r p, behind_of bytes f r p) (take-append_seam f r)
+field_of bytes f r p = rw (size_of bytes f r p, after_of bytes f r p) (take-append_seam f r)
 
 rest_of : (bytes f r : List ℕ) → IsCounted bytes f r → drop (number_at 2 0 bytes) (drop 2 bytes) ≡ r
-rest_of bytes f r p = rw (size_of bytes f r p, behind_of bytes f r p) (drop-append_seam f r)
+rest_of bytes f r p = rw (size_of bytes f r p, after_of bytes f r p) (drop-append_seam f r)
 
 -- the octets are one counted field and one rest
 pub counted_one : (bytes f g r s : List ℕ) → IsCounted bytes f r → IsCounted bytes g s → (f ≡ g) × (r ≡ s)

@@ -1,3 +1,3 @@
 pub mod OneReading
 pub mod Reached
-pub mod Told
+pub mod Reported

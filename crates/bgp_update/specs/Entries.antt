@@ -1,6 +1,6 @@
 -- The routes of RIB entries (RFC 6396 section 4.3.4).
 use Rattle.std.specs.Prelude.{◌≡◌, ◌<◌, ◌≤◌, length, Option, Some, Result, Ok, Err}
-use Rattle.route_model.specs.Spelling.{route_octets}
+use Rattle.route_model.specs.Encoding.{route_octets}
 use Rattle.route_model.specs.declared.route.NextHop.{NextHop}
 use Rattle.route_model.specs.declared.route.Route.{Route}
 use Rattle.route_model.specs.declared.wire.Family.{Family}

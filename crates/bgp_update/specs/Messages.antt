@@ -3,7 +3,7 @@ use Rattle.std.specs.Prelude.{◌≡◌, ◌≢◌, ℕ, ◌<◌, ◌≤◌, ◌
 use Rattle.std.specs.List.{list_all}
 use Rattle.route_model.specs.Octets.{number_at}
 use Rattle.route_model.specs.Sequence.{Sequence}
-use Rattle.route_model.specs.Spelling.{route_octets}
+use Rattle.route_model.specs.Encoding.{route_octets}
 use Rattle.route_model.specs.Prefix.{IpPrefix}
 use Rattle.route_model.specs.PrefixFields.{IsPrefixField}
 use Rattle.route_model.specs.declared.route.Route.{Route}
@@ -36,34 +36,34 @@ pub record Changes : Type 0 where
   pub reachable : Option Announced
 
 -- what a message says: an UPDATE what it changes; a NOTIFICATION nothing more; of another type the type alone
-pub data Told : Type 0 where
-  Update : (changes : Changes) → Told
-  Notification : Told
-  Other : (kind : ℕ) → Told
+pub data Reported : Type 0 where
+  Update : (changes : Changes) → Reported
+  Notification : Reported
+  Other : (kind : ℕ) → Reported
 
 -- an announcement, with a list for its prefixes
-abbrev pub announced_told : Announcement → Announced
-announced_told a = record { route = a.route; prefixes = a.prefixes.items }
+abbrev pub announced_reported : Announcement → Announced
+announced_reported a = record { route = a.route; prefixes = a.prefixes.items }
 
 -- the same where there is one
-abbrev pub option_told : Option Announcement → Option Announced
-option_told None = None
-option_told (Some a) = Some (announced_told a)
+abbrev pub option_reported : Option Announcement → Option Announced
+option_reported None = None
+option_reported (Some a) = Some (announced_reported a)
 
 -- the changes of an UPDATE, with lists for its four places
-abbrev pub changes_told : updates.Update → Changes
-changes_told u = record {
+abbrev pub changes_reported : updates.Update → Changes
+changes_reported u = record {
   withdrawn = u.withdrawn.items;
   unreachable = u.unreachable.items;
-  announced = option_told u.announced;
-  reachable = option_told u.reachable;
+  announced = option_reported u.announced;
+  reachable = option_reported u.reachable;
 }
 
 -- what a message says, with lists for what it owns
-abbrev pub told : Message → Told
-told (messages.Update update) = Update (changes_told update)
-told messages.Notification = Notification
-told (messages.Other kind) = Other kind
+abbrev pub reported : Message → Reported
+reported (messages.Update update) = Update (changes_reported update)
+reported messages.Notification = Notification
+reported (messages.Other kind) = Other kind
 
 -- ---- what octets read as
 
@@ -79,7 +79,7 @@ pub record IsHeader (bytes : List ℕ) (kind : ℕ) : Type 0 where
 pub record IsCounted (bytes field rest : List ℕ) : Type 0 where
   pub size : List ℕ
   pub two : length size ≡ 2
-  pub tells : number_at 2 0 size ≡ length field
+  pub reports : number_at 2 0 size ≡ length field
   pub parts : bytes ≡ size ++ (field ++ rest)
 
 -- where there are prefixes there is a route, which all of them share; else nothing is announced
@@ -113,7 +113,7 @@ pub record IsUpdate (width : AsWidth) (bytes : List ℕ) (u : Changes) : Type 0 
   pub parts : IsUpdateOf width withdrawn_field attribute_field announced_field u
 
 -- the whole octets are a message: of types other than UPDATE the header is read, and a KEEPALIVE is nothing more
-abbrev pub IsMessage : AsWidth → List ℕ → Told → Type 0
+abbrev pub IsMessage : AsWidth → List ℕ → Reported → Type 0
 IsMessage width bytes (Update changes) = IsHeader bytes 2 × IsUpdate width (drop 19 bytes) changes
 IsMessage width bytes Notification = IsHeader bytes 3
 IsMessage width bytes (Other kind) = IsHeader bytes kind × (kind ≢ 2) × (kind ≢ 3) × (kind ≡ 4 → length bytes ≡ 19)
@@ -126,14 +126,14 @@ IsLarge None = ⊥
 IsLarge (Some a) = 3072 < length (route_octets a.route)
 
 -- the message announces such a route
-abbrev pub HasLarge : Told → Type 0
+abbrev pub HasLarge : Reported → Type 0
 HasLarge (Update changes) = IsLarge changes.announced ⊎ IsLarge changes.reachable
 HasLarge Notification = ⊥
 HasLarge (Other kind) = ⊥
 
 -- a message whose routes all fit; or why there is none. Only an UPDATE needs memory
 abbrev pub AnswersMessage : AsWidth → List ℕ → Result Message MessageFault → Type 0
-AnswersMessage width bytes (Ok message) = IsMessage width bytes (told message) × (HasLarge (told message) → ⊥)
-AnswersMessage width bytes (Err faults.Malformed) = (m : Told) → IsMessage width bytes m → ⊥
-AnswersMessage width bytes (Err faults.RouteTooLarge) = (m : Told) × IsMessage width bytes m × HasLarge m
+AnswersMessage width bytes (Ok message) = IsMessage width bytes (reported message) × (HasLarge (reported message) → ⊥)
+AnswersMessage width bytes (Err faults.Malformed) = (m : Reported) → IsMessage width bytes m → ⊥
+AnswersMessage width bytes (Err faults.RouteTooLarge) = (m : Reported) × IsMessage width bytes m × HasLarge m
 AnswersMessage width bytes (Err faults.OutOfMemory) = IsHeader bytes 2

@@ -36,10 +36,10 @@ abbrev pub family_at : List ℕ → Option Family
 family_at value = family_of (number_at 2 0 value) (slice_index value 2)
 
 -- the size of the next hop, the next hop, an octet of any value, and the prefixes
-pub record IsBehind (family : Family) (behind : List ℕ) (hop : NextHop) (nlri : List ℕ) : Type 0 where
+pub record IsAfter (family : Family) (beyond : List ℕ) (hop : NextHop) (nlri : List ℕ) : Type 0 where
   pub octets : List ℕ
   pub reserved : ℕ
-  pub parts : behind ≡ length octets ∷ octets ++ (reserved ∷ nlri)
+  pub parts : beyond ≡ length octets ∷ octets ++ (reserved ∷ nlri)
   pub is_hop : IsHop octets hop
   pub may_lead : MayLead family octets
 
@@ -47,7 +47,7 @@ pub record IsBehind (family : Family) (behind : List ℕ) (hop : NextHop) (nlri 
 pub record IsReachOf (value : List ℕ) (reach : Reach) : Type 0 where
   pub room : 3 ≤ length value
   pub family : family_at value ≡ Some reach.family
-  pub behind : IsBehind reach.family (drop 3 value) reach.next_hop reach.nlri
+  pub beyond : IsAfter reach.family (drop 3 value) reach.next_hop reach.nlri
 
 -- MP_REACH_NLRI: of another family than the two nothing is read
 abbrev pub IsReach : List ℕ → Option Reach → Type 0

@@ -1,7 +1,7 @@
 -- The values of single attributes (RFC 4271 section 4.3), and which of the two-octet era's attributes count (RFC 6793).
 use Rattle.std.specs.Prelude.{◌≡◌, ℕ, Bool, true, false, not, ◌&&◌, ◌||◌, ◌==◌, if◌then◌else◌, nat_lt, bit_and, List, [], ◌∷◌, length, drop, Option, Some, None, ◌⊎◌}
 use Rattle.route_model.specs.Octets.{number_at}
-use Rattle.route_model.specs.Spelling.{origin_octet}
+use Rattle.route_model.specs.Encoding.{origin_octet}
 use Rattle.route_model.specs.declared.route.Origin.{Origin}
 use Rattle.route_model.specs.declared.route.Aggregator.{Aggregator}
 use Rattle.route_model.specs.declared.attribute.Attribute.{Attribute}

@@ -4,7 +4,7 @@ ghost use Rattle.std.specs.Prelude.{◌≡◌, Option};
 ghost use Rattle.route_model.specs.Reading.{Exactly};
 ghost use Rattle.bgp_update.specs.Readings.{AreAttributes};
 ghost use Rattle.bgp_update.specs.Routes.{route_of, four_hop};
-ghost use Rattle.bgp_update.specs.Messages.{Announced, IsAnnounced, option_told};
+ghost use Rattle.bgp_update.specs.Messages.{Announced, IsAnnounced, option_reported};
 
 use crate::attributes::read_attributes;
 use crate::reading::PathAttributes;
@@ -21,7 +21,7 @@ fn announced_by(
     next_hop: Option<NextHop>,
     prefixes: Vec<Prefix>,
 ) -> Result<Option<Announcement>, ReadFault>
-    ensures { Exactly option_told (IsAnnounced prefixes.items (route_of attributes.entry next_hop)) result }
+    ensures { Exactly option_reported (IsAnnounced prefixes.items (route_of attributes.entry next_hop)) result }
 {
     if prefixes.is_empty() {
         return Ok(None);
@@ -58,7 +58,7 @@ pub(crate) fn announcements(
     width: AsWidth,
 ) -> Result<(Option<Announcement>, Option<Announcement>), ReadFault>
     requires { AreAttributes width field.now of.attributes }
-    ensures { Exactly (λ r. (option_told r.0, option_told r.1)) (λ (r : Option Announced × Option Announced). IsAnnounced of.entry.announced.items (route_of of.entry.attributes (four_hop of.entry.attributes.next_hop)) r.0 × IsAnnounced of.entry.reached.items (route_of of.entry.attributes of.entry.next_hop) r.1) result }
+    ensures { Exactly (λ r. (option_reported r.0, option_reported r.1)) (λ (r : Option Announced × Option Announced). IsAnnounced of.entry.announced.items (route_of of.entry.attributes (four_hop of.entry.attributes.next_hop)) r.0 × IsAnnounced of.entry.reached.items (route_of of.entry.attributes of.entry.next_hop) r.1) result }
 {
     let four = four_hop_of(&of.attributes);
     if of.announced.is_empty() {

@@ -61,7 +61,12 @@ fn lay(
     Ok(path)
 }
 
-/// The path of AS_PATH, where it stands, with that of AS4_PATH laid over it where that is looked at.
+/// The path of AS_PATH, if that is present, merged with that of AS4_PATH. The steps of RFC 6793:
+///
+/// 1. AS4_PATH is ignored if AS numbers have four octets (section 4.1).
+/// 2. AS4_PATH is ignored if AGGREGATOR has another AS number than AS_TRANS, and there is an AS4_AGGREGATOR of eight octets (section 4.2.3).
+/// 3. AS4_PATH is ignored if it is malformed (section 6).
+/// 4. AS4_PATH is ignored if it counts more AS numbers than AS_PATH (section 4.2.3). Otherwise the two are merged (`join`).
 fn path_in(
     alloc: Global,
     list: &[PathAttribute<'_>],

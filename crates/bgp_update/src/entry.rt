@@ -96,10 +96,15 @@ fn made(alloc: Global, attributes: PathAttributes<'_>, next_hop: Option<NextHop>
     })
 }
 
-/// The route of a RIB entry whose attributes read so, in a record of this family (RFC 6396 section 4.3.4). A missing
-/// ORIGIN counts as INCOMPLETE, a missing AS_PATH as empty; MP_UNREACH_NLRI isn't looked at. Malformed where
-/// MP_REACH_NLRI has no reading, or no attribute gives a next hop; `RouteTooLarge` where the encoding of the route has
-/// more than 3,072 octets. Nothing is allocated.
+/// The route of a RIB entry whose attributes read so, in a record of this family (RFC 6396 section 4.3.4):
+///
+/// 1. The next hop of MP_REACH_NLRI is read, in the short form: its length and its octets (RFC 6396 section 4.3.4). If the first octet
+///    is zero, the value is in the form of messages (RFC 4760 section 3).
+/// 2. In an IPv4 record NEXT_HOP goes before it, in an IPv6 record it goes before NEXT_HOP.
+/// 3. Of the attributes that a message must have (RFC 4271 section 5) a missing ORIGIN counts as INCOMPLETE, a missing AS_PATH as empty.
+///
+/// MP_UNREACH_NLRI isn't looked at. Malformed where MP_REACH_NLRI has no reading, or no attribute gives a next hop; `RouteTooLarge` where
+/// the encoding of the route has more than 3,072 octets. Nothing is allocated.
 pub fn entry_route(
     alloc: Global,
     attributes: PathAttributes<'_>,

@@ -30,13 +30,13 @@ pub(crate) fn count_of(path: &[Segment]) -> usize
     sum
 }
 
-/// The leading part of weight `wanted`: how many whole segments it has, and how many numbers of the next one.
-fn place_of(path: &[Segment], wanted: usize) -> (usize, usize)
+/// The leading part of weight `needed`: how many whole segments it has, and how many numbers of the next one.
+fn place_of(path: &[Segment], needed: usize) -> (usize, usize)
     ensures within { result.0 ≤ length path.now }
-    ensures leading { leading path.now wanted ≡ take result.0 path.now ++ leading (drop result.0 path.now) result.1 }
+    ensures leading { leading path.now needed ≡ take result.0 path.now ++ leading (drop result.0 path.now) result.1 }
     ensures cut { (s : Segment) (after : List Segment) → drop result.0 path.now ≡ s ∷ after → result.1 < weight s }
 {
-    let mut left = wanted;
+    let mut left = needed;
     for (i, s) in path.iter().enumerate() {
         let weight = weight_of(s);
         if left < weight {
@@ -47,25 +47,25 @@ fn place_of(path: &[Segment], wanted: usize) -> (usize, usize)
     (path.len(), left)
 }
 
-/// The first `wanted` numbers of a segment.
-fn first_of(alloc: Global, s: &Segment, wanted: usize) -> Result<Segment, AllocError>
-    requires { (0 < wanted) × (wanted < weight s.now) }
-    ensures { IfOk result (λ x. x ≡ first_numbers wanted s.now) }
+/// The first `needed` numbers of a segment.
+fn first_of(alloc: Global, s: &Segment, needed: usize) -> Result<Segment, AllocError>
+    requires { (0 < needed) × (needed < weight s.now) }
+    ensures { IfOk result (λ x. x ≡ first_numbers needed s.now) }
 {
     match s {
         Segment::Set(_) => unreachable!(),
         Segment::Sequence(numbers) => {
-            let front = numbers.as_slice().split_at(wanted).0;
+            let front = numbers.as_slice().split_at(needed).0;
             Ok(Segment::Sequence(AsNumbers::new(Vec::from_slice(alloc, front)?)))
         }
     }
 }
 
-/// Cuts a path to its leading part of weight `wanted`.
-fn cut(alloc: Global, path: &mut Vec<Segment>, wanted: usize) -> Result<(), AllocError>
-    ensures { OnOk result (path.new.items ≡ leading path.old.items wanted) }
+/// Cuts a path to its leading part of weight `needed`.
+fn cut(alloc: Global, path: &mut Vec<Segment>, needed: usize) -> Result<(), AllocError>
+    ensures { OnOk result (path.new.items ≡ leading path.old.items needed) }
 {
-    let (whole, left) = place_of(path, wanted);
+    let (whole, left) = place_of(path, needed);
     if whole == path.len() || left == 0 {
         path.truncate(whole);
         return Ok(());
@@ -76,7 +76,12 @@ fn cut(alloc: Global, path: &mut Vec<Segment>, wanted: usize) -> Result<(), Allo
     Ok(())
 }
 
-/// The path with the other laid over its end, where the other counts no more.
+/// The path with the other laid over its end, where the other counts no more. The steps of RFC 6793 section 4.2.3:
+///
+/// 1. The AS numbers of both are counted, a set as one (RFC 4271 section 9.1.2.2).
+/// 2. If AS_PATH counts fewer than AS4_PATH, AS_PATH is the path.
+/// 3. Otherwise as many leading numbers of AS_PATH are kept as it counts more: whole segments, and then part of a sequence.
+/// 4. AS4_PATH follows them, so the path counts as many numbers as AS_PATH.
 pub(crate) fn join(
     alloc: Global,
     own: Vec<Segment>,
@@ -92,7 +97,7 @@ pub(crate) fn join(
         return Ok(path);
     }
     cut(alloc, &mut path, own_count - longer_count)?;
-    let mut behind = longer;
-    path.append(&mut behind)?;
+    let mut beyond = longer;
+    path.append(&mut beyond)?;
     Ok(path)
 }

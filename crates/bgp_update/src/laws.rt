@@ -2,7 +2,7 @@
 
 ghost use Rattle.std.specs.Prelude.{◌≡◌, ◌≤◌, ℕ, List, filter, map, IsTrue};
 ghost use Rattle.std.specs.List.Sorted.{IsPermutation};
-ghost use Rattle.route_model.specs.Spelling.{is_ascending};
+ghost use Rattle.route_model.specs.Encoding.{is_ascending};
 ghost use Rattle.route_model.specs.declared.path.Segment.{Segment};
 ghost use Rattle.route_model.specs.declared.wire.AsWidth.{AsWidth};
 ghost use Rattle.bgp_update.specs.declared.attribute.PathAttribute.{PathAttribute};
@@ -11,7 +11,7 @@ ghost use Rattle.bgp_update.specs.AttributeFields.{NoneTwice};
 ghost use Rattle.bgp_update.specs.Values.{is_kept, kept, others_of};
 ghost use Rattle.bgp_update.specs.Joining.{Joined, NoneEmpty, count, joined_path};
 ghost use Rattle.bgp_update.specs.Readings.{AreAttributes};
-ghost use Rattle.bgp_update.specs.Messages.{Told, IsMessage};
+ghost use Rattle.bgp_update.specs.Messages.{Reported, IsMessage};
 
 /// AS4_PATH that counts no more can be laid over AS_PATH in one way, which `joined_path` computes.
 pub fn joined_paths_are_one()
@@ -32,5 +32,5 @@ pub fn attributes_are_one()
 
 /// Octets are one message.
 pub fn messages_are_one()
-    ensures one { (width : AsWidth) (bytes : List ℕ) (x y : Told) → IsMessage width bytes x → IsMessage width bytes y → x ≡ y }
+    ensures one { (width : AsWidth) (bytes : List ℕ) (x y : Reported) → IsMessage width bytes x → IsMessage width bytes y → x ≡ y }
 {}

@@ -4,7 +4,7 @@ ghost use Rattle.std.specs.Prelude.{◌≡◌, ◌==◌, ℕ, IfSome, IfNone, If
 ghost use Rattle.std.specs.List.{list_all};
 ghost use Rattle.route_model.specs.Reading.{Exactly};
 ghost use Rattle.route_model.specs.declared.octets.ReadFault.TheVariants.{OutOfMemory};
-ghost use Rattle.bgp_update.specs.Messages.{IsHeader, IsMessage, IsLarge, HasLarge, AnswersMessage, told, option_told};
+ghost use Rattle.bgp_update.specs.Messages.{IsHeader, IsMessage, IsLarge, HasLarge, AnswersMessage, reported, option_reported};
 
 use crate::fault::MessageFault;
 use crate::message::Message;
@@ -53,7 +53,7 @@ fn kind_of(bytes: &[u8]) -> Option<u8>
 
 /// The message that all of the octets are, however large its routes.
 fn message_of(alloc: Global, bytes: &[u8], width: AsWidth) -> Result<Message, ReadFault>
-    ensures message { Exactly told (IsMessage width bytes.now) result }
+    ensures message { Exactly reported (IsMessage width bytes.now) result }
     ensures memory { IfErr result (λ e. e ≡ OutOfMemory → IsHeader bytes.now 2) }
 {
     let Some(kind) = kind_of(bytes) else {
@@ -74,7 +74,7 @@ fn message_of(alloc: Global, bytes: &[u8], width: AsWidth) -> Result<Message, Re
 
 /// Whether a route is too large for an admission.
 fn is_large(announcement: &Option<Announcement>) -> bool
-    ensures { IsTrue result ↔ IsLarge (option_told announcement.now) }
+    ensures { IsTrue result ↔ IsLarge (option_reported announcement.now) }
 {
     match announcement {
         None => false,
@@ -83,7 +83,7 @@ fn is_large(announcement: &Option<Announcement>) -> bool
 }
 
 fn has_large(message: &Message) -> bool
-    ensures { IsTrue result ↔ HasLarge (told message.now) }
+    ensures { IsTrue result ↔ HasLarge (reported message.now) }
 {
     match message {
         Message::Update(update) => is_large(&update.announced) || is_large(&update.reachable),

@@ -2,7 +2,7 @@
 
 ghost use Rattle.std.specs.Prelude.{◌≡◌, ◌≤◌, ℕ, List, length, Option, IfSome, IfNone};
 ghost use Rattle.route_model.specs.declared.route.NextHop.{NextHop};
-ghost use Rattle.bgp_update.specs.NextHops.{OrNone, IsHop, IsBehind, family_at, IsReach, IsReached, hop_of};
+ghost use Rattle.bgp_update.specs.NextHops.{OrNone, IsHop, IsAfter, family_at, IsReach, IsReached, hop_of};
 
 use crate::attribute::ValueOctets;
 use crate::reach::Reach;
@@ -40,11 +40,11 @@ pub(crate) fn family_in(value: &[u8]) -> Option<Family>
 }
 
 /// The next hop and the prefixes after AFI and SAFI.
-fn hop_and_prefixes(family: Family, behind: &[u8]) -> Option<(NextHop, &[u8])>
-    ensures found { IfSome result (λ r. IsBehind family behind.now r.0 r.1.now) }
-    ensures none { IfNone result ((hop : NextHop) (nlri : List ℕ) → IsBehind family behind.now hop nlri → ⊥) }
+fn hop_and_prefixes(family: Family, beyond: &[u8]) -> Option<(NextHop, &[u8])>
+    ensures found { IfSome result (λ r. IsAfter family beyond.now r.0 r.1.now) }
+    ensures none { IfNone result ((hop : NextHop) (nlri : List ℕ) → IsAfter family beyond.now hop nlri → ⊥) }
 {
-    let (&size, rest) = behind.split_first()?;
+    let (&size, rest) = beyond.split_first()?;
     let size = size as usize;
     if rest.len() < size + 1 {
         return None;
@@ -57,7 +57,12 @@ fn hop_and_prefixes(family: Family, behind: &[u8]) -> Option<(NextHop, &[u8])>
     Some((hop, more.split_at(1).1))
 }
 
-/// What the value of MP_REACH_NLRI says: nothing where its family isn't read. None where it is malformed.
+/// What the value of MP_REACH_NLRI says: nothing where its family isn't read. None where it is malformed. Its fields (RFC 4760 section 3):
+///
+/// 1. AFI, two octets, and SAFI, one. Of another family than IPv4 or IPv6 unicast nothing more is read.
+/// 2. The length of the next hop, one octet, and the next hop: 4, 16 or 32 octets, for IPv6 16 or 32 (RFC 2545 section 3).
+/// 3. A reserved octet, of any value.
+/// 4. The prefixes, to the end; they are read later, by `read_prefixes`.
 pub(crate) fn reach_in<'a>(value: &ValueOctets<'a>) -> Option<Option<Reach<'a>>>
     ensures { OrNone (IsReach value.now) result }
 {

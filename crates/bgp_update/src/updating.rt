@@ -2,7 +2,7 @@
 
 ghost use Rattle.std.specs.Prelude.{◌≡◌, ℕ, List, IfSome, IfNone};
 ghost use Rattle.route_model.specs.Reading.{Exactly};
-ghost use Rattle.bgp_update.specs.Messages.{IsCounted, IsUpdateOf, IsUpdate, changes_told};
+ghost use Rattle.bgp_update.specs.Messages.{IsCounted, IsUpdateOf, IsUpdate, changes_reported};
 
 use crate::announcing::{Announcing, announcements};
 use crate::attributes::read_attributes;
@@ -28,7 +28,15 @@ fn counted_at(bytes: &[u8]) -> Option<(&[u8], &[u8])>
     Some(bytes.split_at(2).1.split_at(size))
 }
 
-/// What the three fields of an UPDATE withdraw and announce.
+/// What the three fields of an UPDATE withdraw and announce. They are read in this order:
+///
+/// 1. The withdrawn routes, prefixes of IPv4 (RFC 4271 section 4.3).
+/// 2. The path attributes (RFC 4271 section 4.3).
+/// 3. NLRI, prefixes of IPv4 (RFC 4271 section 4.3).
+/// 4. MP_UNREACH_NLRI: its family, then its prefixes (RFC 4760 section 4).
+/// 5. MP_REACH_NLRI: its family and next hop, then its prefixes (RFC 4760 section 3).
+/// 6. The routes of NLRI and of MP_REACH_NLRI, where these have prefixes: ORIGIN, AS_PATH and a next hop are mandatory (RFC 4271
+///    section 5), that of NEXT_HOP for the first, that of MP_REACH_NLRI for the second (RFC 4760 section 3).
 fn read_parts(
     alloc: Global,
     withdrawn_field: &[u8],
@@ -36,7 +44,7 @@ fn read_parts(
     announced_field: &[u8],
     width: AsWidth,
 ) -> Result<Update, ReadFault>
-    ensures { Exactly changes_told (IsUpdateOf width withdrawn_field.now attribute_field.now announced_field.now) result }
+    ensures { Exactly changes_reported (IsUpdateOf width withdrawn_field.now attribute_field.now announced_field.now) result }
 {
     let withdrawn = read_prefixes(alloc, Family::Ipv4, withdrawn_field)?;
     let attributes = read_attributes(alloc, attribute_field, width)?;
@@ -63,7 +71,7 @@ fn read_parts(
 
 /// What the octets after the header of an UPDATE withdraw and announce.
 pub(crate) fn read_update(alloc: Global, bytes: &[u8], width: AsWidth) -> Result<Update, ReadFault>
-    ensures { Exactly changes_told (IsUpdate width bytes.now) result }
+    ensures { Exactly changes_reported (IsUpdate width bytes.now) result }
 {
     let Some((withdrawn_field, more)) = counted_at(bytes) else {
         return Err(ReadFault::Malformed);

@@ -168,8 +168,8 @@ impl<N: Named> Board<N> {
         let asked = shared.split_seat::<Same>(&mut pass.seat);
         shared.join_seat::<Hears>(&mut writer.seat, asked);
         shared.load::<Compares>(&mut writer.seat, 0);
-        let told = shared.split_seat::<Same>(&mut writer.seat);
-        shared.join_seat::<Takes>(&mut pass.seat, told);
+        let reported = shared.split_seat::<Same>(&mut writer.seat);
+        shared.join_seat::<Takes>(&mut pass.seat, reported);
     }
 
     /// Another pass, which has seen the same.

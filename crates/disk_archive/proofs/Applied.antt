@@ -17,7 +17,7 @@ use Rattle.disk_archive.specs.declared.apply_error.ApplyError.{ApplyError}
 use Rattle.disk_archive.specs.declared.apply_error.ApplyError.TheVariants as applies
 use Rattle.disk_archive.specs.declared.archive.Archive.{Archive}
 use Rattle.once_store.specs.Shelves.{AllTried, next_of}
-use Rattle.disk_archive.specs.Archives.{Carries, GoesOn, Holds, IsHonest, is_down, once_of, once_state}
+use Rattle.disk_archive.specs.Archives.{Represents, GoesOn, Holds, IsHonest, is_down, once_of, once_state}
 use Rattle.disk_archive.specs.Blanks.{NoneBlank}
 use Rattle.disk_archive.specs.Moves.{Moves}
 use Rattle.page_journal.specs.declared.error.UseError.{UseError}
@@ -26,12 +26,12 @@ use Rattle.page_journal.specs.Refusals.{UseRefusal}
 use Rattle.disk_archive.specs.inner.Applications.{ApplyRefusal, apply_of_use}
 use Rattle.disk_archive.specs.inner.Outcomes.{StepIs}
 
-carries_here : {E O Pen Seen : Type 0} {erase : EraseGhosts E} {once : OnceGhosts O Pen Seen} (a : Archive E O Pen Seen erase once) (h : History) → is_down a ≡ false → GoesOn a h → Carries a h
-carries_here a h usable goes = ⊎_elim (λ k. k) (λ w. absurd (true≢false (sym w.unusable ∙ usable))) goes
+represents_here : {E O Pen Seen : Type 0} {erase : EraseGhosts E} {once : OnceGhosts O Pen Seen} (a : Archive E O Pen Seen erase once) (h : History) → is_down a ≡ false → GoesOn a h → Represents a h
+represents_here a h usable goes = ⊎_elim (λ k. k) (λ w. absurd (true≢false (sym w.unusable ∙ usable))) goes
 
-pub applied_of : {E O Pen Seen : Type 0} {erase : EraseGhosts E} {once : OnceGhosts O Pen Seen} (a z : Archive E O Pen Seen erase once) (r : Result Step ApplyError) → OnOk r (is_down a ≡ false) → IfOk r (λ step. (h : History) → Carries a h → StepIs z step h)
+pub applied_of : {E O Pen Seen : Type 0} {erase : EraseGhosts E} {once : OnceGhosts O Pen Seen} (a z : Archive E O Pen Seen erase once) (r : Result Step ApplyError) → OnOk r (is_down a ≡ false) → IfOk r (λ step. (h : History) → Represents a h → StepIs z step h)
     → IfOk r (λ step. step ≡ Applied → IsHonest a → (h : History) → Holds a h → (g : History) × Moves h g × Holds z g)
-applied_of a z (Ok Applied) usable ok = λ e honest h held. (let s = ok h (carries_here a h usable (held honest)) in (s.0, s.1, λ is. inl s.2))
+applied_of a z (Ok Applied) usable ok = λ e honest h held. (let s = ok h (represents_here a h usable (held honest)) in (s.0, s.1, λ is. inl s.2))
 applied_of a z (Ok Idle) usable ok = λ e honest h held. absurd cc
 applied_of a z (Err e) usable ok = tt
 
@@ -42,22 +42,22 @@ not_both h g m none = (subst (AllByRecursion (λ p. IsBelowMarks h (time_of p) �
 pub begins_moved : (h g : History) → IsHistory h → Moves h g → Begins h g
 begins_moved h g right m = Begins-trans h m.first g (begins_applied h m.first m.next) (goes_more m.more m.first g (right_applied h m.first right m.next) m.others).begins
 
-pub idle_of : {E O Pen Seen : Type 0} {erase : EraseGhosts E} {once : OnceGhosts O Pen Seen} (a z : Archive E O Pen Seen erase once) (r : Result Step ApplyError) → OnOk r (is_down a ≡ false) → IfOk r (λ step. (h : History) → Carries a h → StepIs z step h)
+pub idle_of : {E O Pen Seen : Type 0} {erase : EraseGhosts E} {once : OnceGhosts O Pen Seen} (a z : Archive E O Pen Seen erase once) (r : Result Step ApplyError) → OnOk r (is_down a ≡ false) → IfOk r (λ step. (h : History) → Represents a h → StepIs z step h)
     → IfOk r (λ step. IsHonest a → (h : History) → Holds a h → (step ≡ Idle) ↔ NothingToApply h)
-idle_of a z (Ok Applied) usable ok = λ honest h held. (let s = ok h (carries_here a h usable (held honest)) in ((λ e. absurd cc), (λ none. absurd (not_both h s.0 s.1 none))))
-idle_of a z (Ok Idle) usable ok = λ honest h held. (let s = ok h (carries_here a h usable (held honest)) in ((λ e. s.0), (λ none. refl)))
+idle_of a z (Ok Applied) usable ok = λ honest h held. (let s = ok h (represents_here a h usable (held honest)) in ((λ e. absurd cc), (λ none. absurd (not_both h s.0 s.1 none))))
+idle_of a z (Ok Idle) usable ok = λ honest h held. (let s = ok h (represents_here a h usable (held honest)) in ((λ e. s.0), (λ none. refl)))
 idle_of a z (Err e) usable ok = tt
 
-pub idle_same : {E O Pen Seen : Type 0} {erase : EraseGhosts E} {once : OnceGhosts O Pen Seen} (a z : Archive E O Pen Seen erase once) (r : Result Step ApplyError) → (IsHonest z → IsHonest a) → OnOk r (is_down a ≡ false) → IfOk r (λ step. (h : History) → Carries a h → StepIs z step h)
+pub idle_same : {E O Pen Seen : Type 0} {erase : EraseGhosts E} {once : OnceGhosts O Pen Seen} (a z : Archive E O Pen Seen erase once) (r : Result Step ApplyError) → (IsHonest z → IsHonest a) → OnOk r (is_down a ≡ false) → IfOk r (λ step. (h : History) → Represents a h → StepIs z step h)
     → r ≡ Ok Idle → (h : History) → Holds a h → Holds z h
 idle_same a z (Ok Applied) back usable ok e h held = absurd cc
-idle_same a z (Ok Idle) back usable ok e h held = λ honest. inl (ok h (carries_here a h usable (held (back honest)))).1
+idle_same a z (Ok Idle) back usable ok e h held = λ honest. inl (ok h (represents_here a h usable (held (back honest)))).1
 idle_same a z (Err e') back usable ok e h held = absurd cc
 
 -- it goes on with the history, or with one that this begins
-pub goes_of : {E O Pen Seen : Type 0} {erase : EraseGhosts E} {once : OnceGhosts O Pen Seen} (a z : Archive E O Pen Seen erase once) (r : Result Step ApplyError) → IfOk r (λ step. (h : History) → Carries a h → StepIs z step h) → OnErr r ((h : History) → Carries a h → GoesOn z h)
-    → (g : History) → Carries a g → (k : History) × Begins g k × GoesOn z k
-goes_of a z (Ok Applied) ok err g k = let s = ok g k in (s.0, begins_moved g s.0 k.bears.right s.1, inl s.2)
+pub goes_of : {E O Pen Seen : Type 0} {erase : EraseGhosts E} {once : OnceGhosts O Pen Seen} (a z : Archive E O Pen Seen erase once) (r : Result Step ApplyError) → IfOk r (λ step. (h : History) → Represents a h → StepIs z step h) → OnErr r ((h : History) → Represents a h → GoesOn z h)
+    → (g : History) → Represents a g → (k : History) × Begins g k × GoesOn z k
+goes_of a z (Ok Applied) ok err g k = let s = ok g k in (s.0, begins_moved g s.0 k.head_represents.right s.1, inl s.2)
 goes_of a z (Ok Idle) ok err g k = (g, Begins-refl g, inl (ok g k).1)
 goes_of a z (Err e) ok err g k = (g, Begins-refl g, err g k)
 
@@ -65,11 +65,11 @@ pub same_or_moved : (h g : History) → IsHistory h → (g ≡ h) ⊎ Moves h g 
 same_or_moved h g right either = ⊎_elim (λ same. subst (Begins h) (sym same) (Begins-refl h)) (λ m. begins_moved h g right m) either
 
 -- a page is never reported as damaged
-pub never_bad : {E O Pen Seen : Type 0} {erase : EraseGhosts E} {once : OnceGhosts O Pen Seen} (a : Archive E O Pen Seen erase once) (r : Result Step ApplyError) → (is_down a ≡ true → r ≡ Err applies.NeedsRecovery) → ((h : History) → Carries a h → (page : ℕ) → r ≡ Err (applies.BadNode page) → ⊥)
+pub never_bad : {E O Pen Seen : Type 0} {erase : EraseGhosts E} {once : OnceGhosts O Pen Seen} (a : Archive E O Pen Seen erase once) (r : Result Step ApplyError) → (is_down a ≡ true → r ≡ Err applies.NeedsRecovery) → ((h : History) → Represents a h → (page : ℕ) → r ≡ Err (applies.BadNode page) → ⊥)
     → IsHonest a → (h : History) → Holds a h → (page : ℕ) → r ≡ Err (applies.BadNode page) → ⊥
-never_bad a r told sound honest h held page bad = elim (cases_Bool (is_down a)) [
-  | inl down ↦ (let e : Err applies.NeedsRecovery ≡ Err (applies.BadNode page) = sym (told down) ∙ bad in cc)
-  | inr up ↦ sound h (carries_here a h up (held honest)) page bad
+never_bad a r reported sound honest h held page bad = elim (cases_Bool (is_down a)) [
+  | inl down ↦ (let e : Err applies.NeedsRecovery ≡ Err (applies.BadNode page) = sym (reported down) ∙ bad in cc)
+  | inr up ↦ sound h (represents_here a h up (held honest)) page bad
 ]
 
 pub needs_recovery_of : {X : Type 0} (r : Result X ApplyError) (down : Bool) → IfErr r (ApplyRefusal down) → r ≡ Err applies.NeedsRecovery → down ≡ true
@@ -82,9 +82,9 @@ pub commit_not_bad : (e : UseError) (page : ℕ) → apply_of_use e ≡ applies.
 commit_not_bad uses.Fault page e = cc
 commit_not_bad uses.NeedsRecovery page e = cc
 
-pub commit_told : (down : Bool) (e : UseError) → UseRefusal down e → ApplyRefusal down (apply_of_use e)
-commit_told down uses.Fault refused = tt
-commit_told down uses.NeedsRecovery refused = refused
+pub commit_reported : (down : Bool) (e : UseError) → UseRefusal down e → ApplyRefusal down (apply_of_use e)
+commit_reported down uses.Fault refused = tt
+commit_reported down uses.NeedsRecovery refused = refused
 
 -- two facts that go along with two others
 pub both_same : (A B P Q : Type 0) → A ↔ B → P ↔ Q → (A × P) ↔ (B × Q)

@@ -30,10 +30,10 @@ use Rattle.tree_questions.specs.Reading.{ReadsTree}
 use Rattle.disk_archive.specs.declared.archive.Archive.{Archive}
 use Rattle.disk_archive.specs.declared.ask_error.AskError.{AskError}
 use Rattle.disk_archive.specs.declared.ask_error.AskError.TheVariants as asks
-use Rattle.disk_archive.specs.Archives.{Carries, Holds, IsHonest, is_down}
+use Rattle.disk_archive.specs.Archives.{Represents, Holds, IsHonest, is_down}
 use Rattle.disk_archive.specs.Reading.{ReadsFrom}
 use Rattle.disk_archive.specs.inner.Idle.{IsAsBefore}
-use Rattle.disk_archive.specs.Trees.{TreeLies}
+use Rattle.disk_archive.specs.Trees.{TreeLocated}
 use Rattle.disk_archive.specs.inner.Asking.{ask_of_node, LookRefusal, BlamesNone, HasTree, known_in}
 
 -- ---- what is applied has times that never fall
@@ -70,11 +70,11 @@ at_root shown s all root level place page_is level_is keys_are are t = record {
 }
 
 -- what is settled is what a reader of the same disk knows
-pub lies_known : {O Pen Seen : Type 0} (device : OnceGhosts O Pen Seen) (reader : ShelfReader O Pen Seen device) (seen : Seen) (disk : O) (o : OnceState) (pages : List (List ℕ)) (low root fresh block stamp : ℕ) (versions : List Version) → reader_disk reader ≡ disk → device.known seen ≡ o.settled
-    → TreeLies (device.block_count disk) pages (settled_in o) low root fresh block stamp versions → TreeLies (device.block_count (reader_disk reader)) pages (known_in (device.known seen)) low root fresh block stamp versions
-lies_known {O} device reader seen disk o pages low root fresh block stamp versions same known t =
-    subst (λ (d : O). TreeLies (device.block_count d) pages (known_in (device.known seen)) low root fresh block stamp versions) (sym same)
-    (subst (λ (f : ℕ → Option (List ℕ)). TreeLies (device.block_count disk) pages (known_in f) low root fresh block stamp versions) (sym known) t)
+pub located_known : {O Pen Seen : Type 0} (device : OnceGhosts O Pen Seen) (reader : ShelfReader O Pen Seen device) (seen : Seen) (disk : O) (o : OnceState) (pages : List (List ℕ)) (low root fresh block stamp : ℕ) (versions : List Version) → reader_disk reader ≡ disk → device.known seen ≡ o.settled
+    → TreeLocated (device.block_count disk) pages (settled_in o) low root fresh block stamp versions → TreeLocated (device.block_count (reader_disk reader)) pages (known_in (device.known seen)) low root fresh block stamp versions
+located_known {O} device reader seen disk o pages low root fresh block stamp versions same known t =
+    subst (λ (d : O). TreeLocated (device.block_count d) pages (known_in (device.known seen)) low root fresh block stamp versions) (sym same)
+    (subst (λ (f : ℕ → Option (List ℕ)). TreeLocated (device.block_count disk) pages (known_in f) low root fresh block stamp versions) (sym known) t)
 
 -- a reader that keeps nothing reads well
 pub reads_well : {O Pen Seen : Type 0} (device : OnceGhosts O Pen Seen) (reader : ShelfReader O Pen Seen device) (seen : Seen) (disk : O) → reader_disk reader ≡ disk → device.honest_seen disk seen → ((n : ℕ) (block : List ℕ) → IsKept reader n block → ⊥) → ReadsWell device reader seen
@@ -106,17 +106,17 @@ reads_idle {O = O} {Pen = Pen} {Seen = Seen} {once = once} a z r s idle same fro
 -- it can be read by a question
 pub tree_read : {P : Type 0} (pages : Ghosts P) (held held' : P) {O Pen Seen : Type 0} (device : OnceGhosts O Pen Seen) (reader : ShelfReader O Pen Seen device) (seen : Seen) (root fresh block burnt : ℕ) → block ≤ burnt → (ps : List (Placed Admitted)) (t : HasTree pages held device reader seen root fresh block ps)
     → (place : PagePlace)
-    → ((start : Start) (shown : List (List ℕ)) → pages.shows held start shown → pages.shows held' start shown) → StandsShown t.shown t.lies.store t.versions place → ReadsTree pages held' device reader seen place burnt t.versions
+    → ((start : Start) (shown : List (List ℕ)) → pages.shows held start shown → pages.shows held' start shown) → StandsShown t.shown t.located.store t.versions place → ReadsTree pages held' device reader seen place burnt t.versions
 tree_read pages held held' device reader seen root fresh block burnt most ps t place reads stands = record {
   start = t.start;
   shown = t.shown;
   shows = reads t.start t.shown t.shows;
-  store = t.lies.store;
+  store = t.located.store;
   stands = stands;
-  named = (let next = t.lies.next in omega (arith, next, most));
-  rising = t.lies.has.stands.rising;
+  named = (let next = t.located.next in omega (arith, next, most));
+  rising = t.located.has.stands.rising;
   well = t.well;
-  known = record { says = λ n node here. (let b = t.lies.blocks n node here in (b.octets, record { inside = b.inside; at = b.here }, b.says)) };
+  known = record { says = λ n node here. (let b = t.located.blocks n node here in (b.octets, record { inside = b.inside; at = b.here }, b.says)) };
 }
 
 -- ---- refusals
@@ -137,7 +137,7 @@ ask_refused down nodes.OnceFault r = tt
 ask_refused down nodes.NeedsRecovery r = r
 ask_refused down nodes.OutOfMemory r = tt
 
-pub root_blames : (refusal : TreeError) (told : AskError) → TreeBlamesNone refusal → ((page : ℕ) → told ≡ asks.BadNode page → refusal ≡ trees.BadNode page) → ((block : ℕ) → told ≡ asks.Damaged block → refusal ≡ trees.Damaged block) → BlamesNone told
+pub root_blames : (refusal : TreeError) (reported : AskError) → TreeBlamesNone refusal → ((page : ℕ) → reported ≡ asks.BadNode page → refusal ≡ trees.BadNode page) → ((block : ℕ) → reported ≡ asks.Damaged block → refusal ≡ trees.Damaged block) → BlamesNone reported
 root_blames refusal asks.NeedsRecovery b bad damaged = tt
 root_blames refusal (asks.AboveWatermark mark) b bad damaged = tt
 root_blames refusal (asks.BadNode page) b bad damaged = subst TreeBlamesNone (bad page refl) b
@@ -150,34 +150,34 @@ if_err f P Q (Ok x) step p = tt
 if_err f P Q (Err e) step p = step e p
 
 -- the watermark that is returned is the one that was looked at
-pub above_told : {X : Type 0} (r : Result X AskError) (bound last mark : ℕ) → IfErr r (λ e. (e ≡ asks.AboveWatermark bound) × (bound ≤ last)) → r ≡ Err (asks.AboveWatermark mark) → (mark ≡ bound) × (bound ≤ last)
-above_told (Ok x) bound last mark f told = absurd cc
-above_told (Err e) bound last mark f told = let first = f.0 in let same : mark ≡ bound = cc in (same, f.1)
+pub above_reported : {X : Type 0} (r : Result X AskError) (bound last mark : ℕ) → IfErr r (λ e. (e ≡ asks.AboveWatermark bound) × (bound ≤ last)) → r ≡ Err (asks.AboveWatermark mark) → (mark ≡ bound) × (bound ≤ last)
+above_reported (Ok x) bound last mark f reported = absurd cc
+above_reported (Err e) bound last mark f reported = let first = f.0 in let same : mark ≡ bound = cc in (same, f.1)
 
 -- ---- what an archive answers by what it holds
 
--- one that needn't be opened again carries what it holds
-carries_of : {E O Pen Seen : Type 0} {erase : EraseGhosts E} {once : OnceGhosts O Pen Seen} (a : Archive E O Pen Seen erase once) (h : History) → is_down a ≡ false → IsHonest a → Holds a h → Carries a h
-carries_of a h usable honest held = ⊎_elim (λ k. k) (λ w. absurd (true≢false (sym w.unusable ∙ usable))) (held honest)
+-- one that needn't be opened again represents what it holds
+represents_of : {E O Pen Seen : Type 0} {erase : EraseGhosts E} {once : OnceGhosts O Pen Seen} (a : Archive E O Pen Seen erase once) (h : History) → is_down a ≡ false → IsHonest a → Holds a h → Represents a h
+represents_of a h usable honest held = ⊎_elim (λ k. k) (λ w. absurd (true≢false (sym w.unusable ∙ usable))) (held honest)
 
-pub answered_of : {E O Pen Seen : Type 0} {erase : EraseGhosts E} {once : OnceGhosts O Pen Seen} (a : Archive E O Pen Seen erase once) {X : Type 0} (r : Result X AskError) (P : X → History → Type 0) → OnOk r (is_down a ≡ false) → IfOk r (λ x. (h : History) → Carries a h → P x h)
+pub answered_of : {E O Pen Seen : Type 0} {erase : EraseGhosts E} {once : OnceGhosts O Pen Seen} (a : Archive E O Pen Seen erase once) {X : Type 0} (r : Result X AskError) (P : X → History → Type 0) → OnOk r (is_down a ≡ false) → IfOk r (λ x. (h : History) → Represents a h → P x h)
     → IfOk r (λ x. IsHonest a → (h : History) → Holds a h → P x h)
-answered_of a (Ok x) P usable answered = λ honest h held. answered h (carries_of a h usable honest held)
+answered_of a (Ok x) P usable answered = λ honest h held. answered h (represents_of a h usable honest held)
 answered_of a (Err e) P usable answered = tt
 
-pub below_of : {E O Pen Seen : Type 0} {erase : EraseGhosts E} {once : OnceGhosts O Pen Seen} (a : Archive E O Pen Seen erase once) {X : Type 0} (r : Result X AskError) (P : History → Type 0) → OnOk r (is_down a ≡ false) → OnOk r ((h : History) → Carries a h → P h)
+pub below_of : {E O Pen Seen : Type 0} {erase : EraseGhosts E} {once : OnceGhosts O Pen Seen} (a : Archive E O Pen Seen erase once) {X : Type 0} (r : Result X AskError) (P : History → Type 0) → OnOk r (is_down a ≡ false) → OnOk r ((h : History) → Represents a h → P h)
     → OnOk r (IsHonest a → (h : History) → Holds a h → P h)
-below_of a (Ok x) P usable below = λ honest h held. below h (carries_of a h usable honest held)
+below_of a (Ok x) P usable below = λ honest h held. below h (represents_of a h usable honest held)
 below_of a (Err e) P usable below = tt
 
 not_both : {X : Type 0} (r : Result X AskError) (mark : ℕ) → r ≡ Err asks.NeedsRecovery → r ≡ Err (asks.AboveWatermark mark) → ⊥
 not_both r mark one other = cc
 
 pub watermark_of : {E O Pen Seen : Type 0} {erase : EraseGhosts E} {once : OnceGhosts O Pen Seen} (a : Archive E O Pen Seen erase once) {X : Type 0} (r : Result X AskError) (last : ℕ) → (is_down a ≡ true → r ≡ Err asks.NeedsRecovery)
-    → ((h : History) → Carries a h → (mark : ℕ) → r ≡ Err (asks.AboveWatermark mark) → (mark ≡ settled h) × (settled h ≤ last))
-    → ((h : History) → Carries a h → settled h ≤ last → r ≡ Err (asks.AboveWatermark (settled h)))
+    → ((h : History) → Represents a h → (mark : ℕ) → r ≡ Err (asks.AboveWatermark mark) → (mark ≡ settled h) × (settled h ≤ last))
+    → ((h : History) → Represents a h → settled h ≤ last → r ≡ Err (asks.AboveWatermark (settled h)))
     → IsHonest a → (h : History) → Holds a h → (mark : ℕ) → (r ≡ Err (asks.AboveWatermark mark)) ↔ ((is_down a ≡ false) × (mark ≡ settled h) × (settled h ≤ last))
-watermark_of a r last told above watermark honest h held mark = (
-  λ is. ⊎_elim (λ k. let f = above h k mark is in (k.maps.keeps.usable, f.0, f.1)) (λ w. absurd (not_both r mark (told w.unusable) is)) (held honest),
-  λ f. subst (λ (n : ℕ). r ≡ Err (asks.AboveWatermark n)) (sym f.1) (watermark h (carries_of a h f.0 honest held) f.2),
+watermark_of a r last reported above watermark honest h held mark = (
+  λ is. ⊎_elim (λ k. let f = above h k mark is in (k.maps.keeps.usable, f.0, f.1)) (λ w. absurd (not_both r mark (reported w.unusable) is)) (held honest),
+  λ f. subst (λ (n : ℕ). r ≡ Err (asks.AboveWatermark n)) (sym f.1) (watermark h (represents_of a h f.0 honest held) f.2),
 )

@@ -14,41 +14,41 @@ use Rattle.route_meaning.specs.History.{History, Begins}
 use Rattle.route_meaning.proofs.api.Beginning.{Begins-refl}
 use Rattle.archive_head.specs.Head.{Contents, IsHead, head_octets}
 use Rattle.archive_pages.specs.declared.settings.Settings.{Settings}
-use Rattle.archive_pages.specs.Carried.{Bears}
-use Rattle.archive_pages.proofs.api.Bearing.{bears_grown}
-use Rattle.disk_archive.specs.Trees.{TreeLies}
+use Rattle.archive_pages.specs.Represented.{HeadRepresents}
+use Rattle.archive_pages.proofs.api.Representing.{head_represents_grown}
+use Rattle.disk_archive.specs.Trees.{TreeLocated}
 use Rattle.disk_archive.specs.declared.archive.Archive.{Archive}
 use Rattle.disk_archive.specs.Mirrors.{Mirrors}
 use Rattle.disk_archive.specs.Sites.{Site, IsNoted, LeftEither, LeftFrom}
-use Rattle.disk_archive.specs.Archives.{BearsOn, Carries, GoesOn, IsHonest, is_down, erase_state, once_of, once_state, site_of}
+use Rattle.disk_archive.specs.Archives.{HeadRepresentsOn, Represents, GoesOn, IsHonest, is_down, erase_state, once_of, once_state, site_of}
 use Rattle.disk_archive.specs.inner.Planning.{Headed}
 use Rattle.disk_archive.proofs.api.Trees.{tree_grows}
-use Rattle.disk_archive.proofs.Crossing.{now_carries, leaves_either}
-use Rattle.disk_archive.proofs.Telling.{site_same}
+use Rattle.disk_archive.proofs.Crossing.{now_represents, leaves_either}
+use Rattle.disk_archive.proofs.Reporting.{site_same}
 use Rattle.disk_archive.proofs.Calling.{AllSound, Ready, ready_means, headed_of, grows_none}
 
-bears_more : {E O Pen Seen : Type 0} {erase : EraseGhosts E} {once : OnceGhosts O Pen Seen} (a z : Archive E O Pen Seen erase once) (pages : List (List ℕ)) (h : History) → once_of z ≡ once_of a → Grows (once_state a) (once_state z) → z.settings ≡ a.settings → z.head ≡ a.head → BearsOn a pages h → BearsOn z pages h
-bears_more {once = once} a z pages h disk grows settings head b =
-    subst (λ d. Bears (TreeLies (once.block_count d)) z.settings (settled_in (once_state z)) z.head pages h) (sym disk)
-    (subst (λ (s : Settings). Bears (TreeLies (once.block_count (once_of a))) s (settled_in (once_state z)) z.head pages h) (sym settings)
-    (subst (λ (x : Contents). Bears (TreeLies (once.block_count (once_of a))) a.settings (settled_in (once_state z)) x pages h) (sym head)
-    (bears_grown (TreeLies (once.block_count (once_of a))) (tree_grows (once.block_count (once_of a))) a.settings (settled_in (once_state a)) (settled_in (once_state z)) grows.settled a.head pages h b)))
+head_represents_more : {E O Pen Seen : Type 0} {erase : EraseGhosts E} {once : OnceGhosts O Pen Seen} (a z : Archive E O Pen Seen erase once) (pages : List (List ℕ)) (h : History) → once_of z ≡ once_of a → Grows (once_state a) (once_state z) → z.settings ≡ a.settings → z.head ≡ a.head → HeadRepresentsOn a pages h → HeadRepresentsOn z pages h
+head_represents_more {once = once} a z pages h disk grows settings head b =
+    subst (λ d. HeadRepresents (TreeLocated (once.block_count d)) z.settings (settled_in (once_state z)) z.head pages h) (sym disk)
+    (subst (λ (s : Settings). HeadRepresents (TreeLocated (once.block_count (once_of a))) s (settled_in (once_state z)) z.head pages h) (sym settings)
+    (subst (λ (x : Contents). HeadRepresents (TreeLocated (once.block_count (once_of a))) a.settings (settled_in (once_state z)) x pages h) (sym head)
+    (head_represents_grown (TreeLocated (once.block_count (once_of a))) (tree_grows (once.block_count (once_of a))) a.settings (settled_in (once_state a)) (settled_in (once_state z)) grows.settled a.head pages h b)))
 
 -- the pages are kept as they were
-pub carries_more : {E O Pen Seen : Type 0} {erase : EraseGhosts E} {once : OnceGhosts O Pen Seen} (a z : Archive E O Pen Seen erase once) (h : History) (k : Carries a h) → once_of z ≡ once_of a → Grows (once_state a) (once_state z) → z.settings ≡ a.settings → z.head ≡ a.head → home_pages (journal_of (pool_of z.tx)) ≡ home_pages (journal_of (pool_of a.tx)) → note_of (journal_of (pool_of z.tx)) ≡ note_of (journal_of (pool_of a.tx)) → IsHonest z → Maps erase (pool_of z.tx) k.pages → Mirrors z.sequencer h → Carries z h
-carries_more a z h k disk grows settings head homes note honest maps mirrors = record {
+pub represents_more : {E O Pen Seen : Type 0} {erase : EraseGhosts E} {once : OnceGhosts O Pen Seen} (a z : Archive E O Pen Seen erase once) (h : History) (k : Represents a h) → once_of z ≡ once_of a → Grows (once_state a) (once_state z) → z.settings ≡ a.settings → z.head ≡ a.head → home_pages (journal_of (pool_of z.tx)) ≡ home_pages (journal_of (pool_of a.tx)) → note_of (journal_of (pool_of z.tx)) ≡ note_of (journal_of (pool_of a.tx)) → IsHonest z → Maps erase (pool_of z.tx) k.pages → Mirrors z.sequencer h → Represents z h
+represents_more a z h k disk grows settings head homes note honest maps mirrors = record {
   honest = honest;
   noted = subst IsNoted (sym (site_same a z disk settings homes note)) k.noted;
   pages = k.pages;
   maps = maps;
   valid = subst IsHead (sym head) k.valid;
   first = k.first ∙ ap head_octets (sym head);
-  bears = bears_more a z k.pages h disk grows settings head k.bears;
+  head_represents = head_represents_more a z k.pages h disk grows settings head k.head_represents;
   mirrors = mirrors;
 }
 
 -- a commit that was refused: the pages from before it are kept, or the archive must be opened again
-pub refused_more : {E O Pen Seen : Type 0} {erase : EraseGhosts E} {once : OnceGhosts O Pen Seen} (a z : Archive E O Pen Seen erase once) (h g : History) (k : Carries a h) (b : Tx E erase) (shown : List (List ℕ)) (next : Contents) → AllSound erase → Ready a h k b shown
+pub refused_more : {E O Pen Seen : Type 0} {erase : EraseGhosts E} {once : OnceGhosts O Pen Seen} (a z : Archive E O Pen Seen erase once) (h g : History) (k : Represents a h) (b : Tx E erase) (shown : List (List ℕ)) (next : Contents) → AllSound erase → Ready a h k b shown
     → home_pages (journal_of (pool_of z.tx)) ≡ home_pages (journal_of (pool_of b)) → note_of (journal_of (pool_of z.tx)) ≡ note_of (journal_of (pool_of b))
     → once_of z ≡ once_of a → Grows (once_state a) (once_state z) → z.settings ≡ a.settings → z.head ≡ a.head → IsHonest z → Mirrors z.sequencer h → Begins h g
     → Headed (site_of a).blocks a.settings (settled_in (once_state z)) next shown g
@@ -60,7 +60,7 @@ refused_more {erase = erase} a z h g k b shown next sound r homes note disk grow
       noted = subst IsNoted (sym (site_same a z disk settings (homes ∙ r.homes) (note ∙ r.shows.noted))) k.noted;
       unusable = down;
       pages = k.pages;
-      told = bears_more a z k.pages h disk grows settings head k.bears;
+      reported = head_represents_more a z k.pages h disk grows settings head k.head_represents;
       mirrors = mirrors;
       rests = λ left now.
           let e = erase.model (erase_disk (journal_of (pool_of b))) in
@@ -69,17 +69,17 @@ refused_more {erase = erase} a z h g k b shown next sound r homes note disk grow
           let P = LeftEither (site_of a) h g in
           let l' = subst (λ m. Leaves e (erase_state z) (RecoversEither m (site_of a).note k.pages shown)) r.homes l in
           let one : P left = after_call e (erase_state z) o om om P (sound _ r.shows.honest) (sound _ honest.0) grows (grows_none om)
-          (λ m at. inl (now_carries (site_of a) o a.head k.pages h m (headed_of a h k) (ready_means a h k b shown r m.erase at.erase) at.settled))
+          (λ m at. inl (now_represents (site_of a) o a.head k.pages h m (headed_of a h k) (ready_means a h k b shown r m.erase at.erase) at.settled))
           (leaves_either (site_of a) e (erase_state z) o om a.head next k.pages shown h g grows (headed_of a h k) n l') left now in
           let site = site_same a z disk settings (homes ∙ r.homes) (note ∙ r.shows.noted) in
           subst (λ (s : Site). LeftFrom s h left) (sym site) (⊎_elim (λ was. (h, Begins-refl h, was)) (λ is. (g, begins, is)) one);
     }))
-    (λ maps. inl (carries_more a z h k disk grows settings head (homes ∙ r.homes) (note ∙ r.shows.noted) honest maps mirrors))
+    (λ maps. inl (represents_more a z h k disk grows settings head (homes ∙ r.homes) (note ∙ r.shows.noted) honest maps mirrors))
     either
 
 -- a commit that was done
 pub done_more : {E O Pen Seen : Type 0} {erase : EraseGhosts E} {once : OnceGhosts O Pen Seen} (a z : Archive E O Pen Seen erase once) (g : History) (shown : List (List ℕ)) → once_of z ≡ once_of a → z.settings ≡ a.settings → IsNoted (site_of a) → home_pages (journal_of (pool_of z.tx)) ≡ home_pages (journal_of (pool_of a.tx)) → note_of (journal_of (pool_of z.tx)) ≡ note_of (journal_of (pool_of a.tx)) → IsHonest z → Maps erase (pool_of z.tx) shown → Mirrors z.sequencer g
-    → Headed (site_of a).blocks a.settings (settled_in (once_state z)) z.head shown g → Carries z g
+    → Headed (site_of a).blocks a.settings (settled_in (once_state z)) z.head shown g → Represents z g
 done_more {once = once} a z g shown disk settings noted homes note honest maps mirrors n = record {
   honest = honest;
   noted = subst IsNoted (sym (site_same a z disk settings homes note)) noted;
@@ -87,8 +87,8 @@ done_more {once = once} a z g shown disk settings noted homes note honest maps m
   maps = maps;
   valid = n.valid;
   first = n.first;
-  bears =
-      subst (λ d. Bears (TreeLies (once.block_count d)) z.settings (settled_in (once_state z)) z.head shown g) (sym disk)
-      (subst (λ (s : Settings). Bears (TreeLies (once.block_count (once_of a))) s (settled_in (once_state z)) z.head shown g) (sym settings) n.bears);
+  head_represents =
+      subst (λ d. HeadRepresents (TreeLocated (once.block_count d)) z.settings (settled_in (once_state z)) z.head shown g) (sym disk)
+      (subst (λ (s : Settings). HeadRepresents (TreeLocated (once.block_count (once_of a))) s (settled_in (once_state z)) z.head shown g) (sym settings) n.head_represents);
   mirrors = mirrors;
 }

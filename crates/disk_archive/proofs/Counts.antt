@@ -20,7 +20,7 @@ use Rattle.tsb_walk.specs.declared.error.NodeError.{NodeError}
 use Rattle.tsb_walk.specs.declared.error.NodeError.TheVariants as nodes
 use Rattle.tsb_walk.specs.Knowing.{AreKnown}
 use Rattle.version_model.specs.Versions.{Version}
-use Rattle.tsb_check.specs.Counted.{told}
+use Rattle.tsb_check.specs.Counted.{reported}
 use Rattle.tsb_check.specs.InUse.{IsWithin}
 use Rattle.disk_archive.specs.declared.archive.Archive.{Archive}
 use Rattle.disk_archive.specs.declared.check_error.CheckError.{CheckError}
@@ -48,21 +48,21 @@ changes_are (p ∷ ps) =
     ∙ (ap (λ (n : ℕ). length p.item.changes + n) (changes_are ps) ∙ sym (sum_by-cons count p ps)))
 
 -- a number of eight octets is returned as it is
-pub told_is : (n m k : ℕ) → n ≡ told m → m ≡ k → k < 2 ^ 64 → n ≡ k
-told_is n m k is same few = omega (arith, is, same, few)
+pub reported_is : (n m k : ℕ) → n ≡ reported m → m ≡ k → k < 2 ^ 64 → n ≡ k
+reported_is n m k is same few = omega (arith, is, same, few)
 
 -- ---- what is known of blocks
 
 pub known_of : {P : Type 0} (pages : Ghosts P) (held : P) {O Pen Seen : Type 0} (device : OnceGhosts O Pen Seen) (reader : ShelfReader O Pen Seen device) (seen : Seen) (root fresh block : ℕ) (ps : List (Placed Admitted)) (t : HasTree pages held device reader seen root fresh block ps)
-    → AreKnown (device.known seen) (device.block_count (reader_disk reader)) t.lies.store.blocks
-known_of pages held device reader seen root fresh block ps t = record { says = λ n node here. (let b = t.lies.blocks n node here in (b.octets, record { inside = b.inside; at = b.here }, b.says)) }
+    → AreKnown (device.known seen) (device.block_count (reader_disk reader)) t.located.store.blocks
+known_of pages held device reader seen root fresh block ps t = record { says = λ n node here. (let b = t.located.blocks n node here in (b.octets, record { inside = b.inside; at = b.here }, b.says)) }
 
 -- its store uses no page and no block but those in use
 pub within_of : {P : Type 0} (pages : Ghosts P) (held : P) {O Pen Seen : Type 0} (device : OnceGhosts O Pen Seen) (reader : ShelfReader O Pen Seen device) (seen : Seen) (root fresh block burnt : ℕ) → block ≤ burnt → (ps : List (Placed Admitted)) (t : HasTree pages held device reader seen root fresh block ps)
-    → IsWithin t.lies.store (record { recorded_on = 0; pages = fresh; blocks = block; burnt = burnt })
+    → IsWithin t.located.store (record { recorded_on = 0; pages = fresh; blocks = block; burnt = burnt })
 within_of pages held device reader seen root fresh block burnt most ps t =
-    let next = t.lies.next in
-    record { pages = omega (arith, t.lies.limit); tried = next; burnt = omega (arith, next, most) }
+    let next = t.located.next in
+    record { pages = omega (arith, t.located.limit); tried = next; burnt = omega (arith, next, most) }
 
 -- ---- refusals
 
@@ -109,12 +109,12 @@ damaged_is nodes.OutOfMemory other is = cc
 
 -- a refusal that is passed on is the one that came
 pub passed : {T U : Type 0} (r : Result T CheckError) (s : Result U CheckError) (e : CheckError) (page : ℕ) → IfErr r (λ x. x ≡ e) → s ≡ Err e → r ≡ Err (checks.BadNode page) → s ≡ Err (checks.BadNode page)
-passed {T} {U} r s e page told was is = was ∙ ap (λ (x : CheckError). Err x) (sym (subst (λ (r : Result T CheckError). IfErr r (λ x. x ≡ e)) is told))
+passed {T} {U} r s e page reported was is = was ∙ ap (λ (x : CheckError). Err x) (sym (subst (λ (r : Result T CheckError). IfErr r (λ x. x ≡ e)) is reported))
 
 -- a refusal of a look that is passed on
 pub passed_node : {T U : Type 0} (r : Result T CheckError) (s : Result U NodeError) (e : NodeError) (page : ℕ) → IfErr r (λ x. x ≡ check_of_node e) → s ≡ Err e → r ≡ Err (checks.BadNode page) → s ≡ Err (nodes.BadNode page)
-passed_node {T} {U} r s e page told was is =
-    let same : checks.BadNode page ≡ check_of_node e = subst (λ (r : Result T CheckError). IfErr r (λ x. x ≡ check_of_node e)) is told in
+passed_node {T} {U} r s e page reported was is =
+    let same : checks.BadNode page ≡ check_of_node e = subst (λ (r : Result T CheckError). IfErr r (λ x. x ≡ check_of_node e)) is reported in
     was ∙ ap (λ (x : NodeError). Err x) (bad_is e page (sym same))
 
 -- ---- what an archive reports, by what it holds
@@ -123,7 +123,7 @@ passed_node {T} {U} r s e page told was is =
 pub counted_of : {E O Pen Seen : Type 0} {erase : EraseGhosts E} {once : OnceGhosts O Pen Seen} (a : Archive E O Pen Seen erase once) (r : Result ℕ CheckError) → OnOk r (is_down a ≡ false) → IfOk r (λ n. n ≡ a.head.applied)
     → IfOk r (λ n. IsHonest a → (h : History) → Holds a h → n ≡ sum_by (λ (p : Placed Admitted). length p.item.changes) (applied h))
 counted_of a (Ok n) usable counted = λ honest h held. ⊎_elim
-    (λ k. counted ∙ (k.bears.numbered ∙ changes_are (applied h)))
+    (λ k. counted ∙ (k.head_represents.numbered ∙ changes_are (applied h)))
     (λ w. absurd (true≢false (sym w.unusable ∙ usable)))
     (held honest)
 counted_of a (Err e) usable counted = tt

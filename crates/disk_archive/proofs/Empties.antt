@@ -21,21 +21,21 @@ use Rattle.route_meaning.specs.History.{Intake, History, waiting}
 use Rattle.route_meaning.proofs.api.Beginning.{Begins-refl}
 use Rattle.sequencer.specs.Lanes.{Waiting, marks, waiting_times}
 use Rattle.interleaving_core.specs.Steps.{empty}
-use Rattle.tsb_tree.specs.Trees.{TellsFirst}
+use Rattle.tsb_tree.specs.Trees.{ReportsFirst}
 use Rattle.archive_head.specs.Head.{Contents, IsHead, IsLane, head_octets}
 use Rattle.archive_pages.specs.declared.settings.Settings.{Settings}
 use Rattle.archive_pages.specs.Places.{AreSettings, tree_low}
-use Rattle.archive_pages.specs.Carried.{Bears}
-use Rattle.archive_pages.proofs.api.Bearing.{bears_headed}
-use Rattle.archive_pages.proofs.api.Creating.{bears_created}
+use Rattle.archive_pages.specs.Represented.{HeadRepresents}
+use Rattle.archive_pages.proofs.api.Representing.{head_represents_headed}
+use Rattle.archive_pages.proofs.api.Creating.{head_represents_created}
 use Rattle.disk_archive.specs.Creations.{LeavesNoneOrEmpty, homes_on, site_on}
 use Rattle.disk_archive.specs.Mirrors.{Mirrors}
 use Rattle.disk_archive.specs.Notes.{note_octets}
 use Rattle.disk_archive.specs.Sites.{Site, Rests}
-use Rattle.disk_archive.specs.Trees.{TreeLies}
+use Rattle.disk_archive.specs.Trees.{TreeLocated}
 use Rattle.disk_archive.specs.inner.Creating.{Means, bare_head, bare_lane}
 use Rattle.disk_archive.specs.inner.Planning.{Headed}
-use Rattle.disk_archive.proofs.Crossing.{now_carries}
+use Rattle.disk_archive.proofs.Crossing.{now_represents}
 use Rattle.disk_archive.proofs.api.Trees.{tree_framed}
 
 -- ---- the head
@@ -70,11 +70,11 @@ pub below_push : (homes n : ℕ) (page : List ℕ) (images : List Image) → n <
 below_push homes n page [] lt below = (lt, tt)
 below_push homes n page (image ∷ images) lt below = (below.0, below_push homes n page images lt below.1)
 
-pub lies_first : (count : ℕ) (pages : List (List ℕ)) (settled : ℕ → List ℕ → Type 0) (low block : ℕ) → TellsFirst pages low → TreeLies count pages settled low low (low + 2) block 0 []
-lies_first count pages settled low block t = record {
+pub located_first : (count : ℕ) (pages : List (List ℕ)) (settled : ℕ → List ℕ → Type 0) (low block : ℕ) → ReportsFirst pages low → TreeLocated count pages settled low low (low + 2) block 0 []
+located_first count pages settled low block t = record {
   level = 1;
   store = record { nodes = t.nodes; limit = low + 2; blocks = λ _. None; next = 0 };
-  says = t.tells;
+  says = t.reports;
   own = t.own;
   limit = refl;
   blocks = λ n node here. absurd (none-some node here);
@@ -82,28 +82,28 @@ lies_first count pages settled low block t = record {
   has = t.has (λ _. None) 0;
 }
 
-bears_first : (count : ℕ) (s : Settings) (settled : ℕ → List ℕ → Type 0) (block : ℕ) (pages : List (List ℕ)) → AreSettings s → tree_low s + 2 ≤ length pages → TellsFirst pages (tree_low s) → Bears (TreeLies count) s settled (bare_head s block) pages (empty s.collectors)
-bears_first count s settled block pages some inside t = bears_created (TreeLies count) s settled (bare_head s block) pages refl refl refl refl some (omega (arith, inside)) (lies_first count pages settled (tree_low s) block t)
+head_represents_first : (count : ℕ) (s : Settings) (settled : ℕ → List ℕ → Type 0) (block : ℕ) (pages : List (List ℕ)) → AreSettings s → tree_low s + 2 ≤ length pages → ReportsFirst pages (tree_low s) → HeadRepresents (TreeLocated count) s settled (bare_head s block) pages (empty s.collectors)
+head_represents_first count s settled block pages some inside t = head_represents_created (TreeLocated count) s settled (bare_head s block) pages refl refl refl refl some (omega (arith, inside)) (located_first count pages settled (tree_low s) block t)
 
 -- the head is laid over the first page
-headed_bare : (count : ℕ) (s : Settings) (settled : ℕ → List ℕ → Type 0) (block : ℕ) (pages : List (List ℕ)) → AreSettings s → IsHead (bare_head s block) → tree_low s + 2 ≤ length pages → TellsFirst pages (tree_low s) → Headed count s settled (bare_head s block) (set pages 0 (head_octets (bare_head s block))) (empty s.collectors)
+headed_bare : (count : ℕ) (s : Settings) (settled : ℕ → List ℕ → Type 0) (block : ℕ) (pages : List (List ℕ)) → AreSettings s → IsHead (bare_head s block) → tree_low s + 2 ≤ length pages → ReportsFirst pages (tree_low s) → Headed count s settled (bare_head s block) (set pages 0 (head_octets (bare_head s block))) (empty s.collectors)
 headed_bare count s settled block pages some valid inside t =
     let head = bare_head s block in
     record {
       valid = valid;
       first = get_or-set_same pages 0 (head_octets head) [] (omega (arith, inside));
-      bears = bears_headed (TreeLies count) s settled (tree_framed count settled) head pages (set pages 0 (head_octets head)) (empty s.collectors) (length-set pages 0 (head_octets head))
-          (λ n ge. get_or-set_other pages 0 n (head_octets head) [] (let other : n ≢ 0 = omega (arith, ge) in other)) (bears_first count s settled block pages some inside t);
+      head_represents = head_represents_headed (TreeLocated count) s settled (tree_framed count settled) head pages (set pages 0 (head_octets head)) (empty s.collectors) (length-set pages 0 (head_octets head))
+          (λ n ge. get_or-set_other pages 0 n (head_octets head) [] (let other : n ≢ 0 = omega (arith, ge) in other)) (head_represents_first count s settled block pages some inside t);
     }
 
 pub headed_first : (count : ℕ) (s : Settings) (settled : ℕ → List ℕ → Type 0) (head : Contents) (block : ℕ) (images : List Image) (shown : List (List ℕ)) → AreSettings s → IsHead head → head ≡ bare_head s block → tree_low s + 2 ≤ length shown
-    → ((pages : List (List ℕ)) → tree_low s + 2 ≤ length pages → TellsFirst (laid images pages) (tree_low s))
+    → ((pages : List (List ℕ)) → tree_low s + 2 ≤ length pages → ReportsFirst (laid images pages) (tree_low s))
     → Headed count s settled head (laid (images ++ (0, head_octets head) ∷ []) shown) (empty s.collectors)
-headed_first count s settled head block images shown some valid is inside tells =
+headed_first count s settled head block images shown some valid is inside reports =
     let n = length-laid images shown in
     let whole : Headed count s settled head (set (laid images shown) 0 (head_octets head)) (empty s.collectors) =
     subst (λ (x : Contents). Headed count s settled x (set (laid images shown) 0 (head_octets x)) (empty s.collectors)) (sym is)
-    (headed_bare count s settled block (laid images shown) some (subst IsHead is valid) (omega (arith, n, inside)) (tells shown inside)) in
+    (headed_bare count s settled block (laid images shown) some (subst IsHead is valid) (omega (arith, n, inside)) (reports shown inside)) in
     subst (λ (pages : List (List ℕ)). Headed count s settled head pages (empty s.collectors)) (sym (laid-append images ((0, head_octets head) ∷ []) shown)) whole
 
 -- over the home pages of a disk
@@ -147,7 +147,7 @@ numbers_empty lanes n m = sym (length-map lanes (λ (w : Waiting). w.mark)) ∙ 
 -- ---- what a crash leaves
 
 pub rests_first : (site : Site) (head : Contents) (pages : List (List ℕ)) (h : History) (e : DiskState) (o : OnceState) → Headed site.blocks site.settings (settled_in o) head pages h → Means site.homes site.note e pages → Rests site e o h
-rests_first site head pages h e o k means left now = (h, Begins-refl h, now_carries site o head pages h left k (means left.erase now.erase) now.settled)
+rests_first site head pages h e o k means left now = (h, Begins-refl h, now_represents site o head pages h left k (means left.erase now.erase) now.settled)
 
 pub same_site : (s : Settings) {homes homes' blocks blocks' : ℕ} {note note' : List ℕ} → homes ≡ homes' → note ≡ note' → blocks ≡ blocks'
     → (let one : Site = record { settings = s; homes = homes; note = note; blocks = blocks } in let other : Site = record { settings = s; homes = homes'; note = note'; blocks = blocks' } in one ≡ other)
@@ -155,13 +155,13 @@ same_site s {homes = homes} {homes' = homes'} {blocks = blocks} {blocks' = block
     let with' : ℕ → List ℕ → ℕ → Site = λ x y z. record { settings = s; homes = x; note = y; blocks = z } in
     ap (λ (x : ℕ). with' x note blocks) h ∙ (ap (λ (y : List ℕ). with' homes' y blocks) n ∙ ap (λ (z : ℕ). with' homes' note' z) b)
 
--- the first pages carry the history of an archive to which nothing was given
+-- the first pages represent the history of an archive to which nothing was given
 pub leaves_first : (site : Site) (head : Contents) (pages : List (List ℕ)) (e f : DiskState) (o : OnceState) → Headed site.blocks site.settings (settled_in o) head pages (empty site.settings.collectors)
     → Leaves e f (NoneOrJournal site.homes site.note pages) → Leaves e f (WithSettled o (LeavesNoneOrEmpty site))
 leaves_first site head pages e f o k l = leaves_weaker e f (NoneOrJournal site.homes site.note pages) (WithSettled o (LeavesNoneOrEmpty site))
     (λ c is left same has. ⊎_elim
     (λ none. inl (subst HoldsNone (sym same) none))
-    (λ means. inr (now_carries site o head pages (empty site.settings.collectors) left k (subst (λ (x : ℕ → ℕ). Recovers site.homes site.note x pages) (sym same) means) has))
+    (λ means. inr (now_represents site o head pages (empty site.settings.collectors) left k (subst (λ (x : ℕ → ℕ). Recovers site.homes site.note x pages) (sym same) means) has))
     is) l
 
 -- the same on the site that the disks give

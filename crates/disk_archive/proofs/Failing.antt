@@ -12,29 +12,29 @@ use Rattle.disk_archive.specs.declared.apply_error.ApplyError.TheVariants as app
 use Rattle.disk_archive.specs.declared.stop.Stop.TheVariants as stops
 use Rattle.disk_archive.specs.inner.Applications.{apply_of_use, stop_of}
 use Rattle.disk_archive.specs.Failures.{ReportsOne}
-use Rattle.disk_archive.proofs.Faults.{one_told}
+use Rattle.disk_archive.proofs.Faults.{one_reported}
 
 -- nothing is asked of either disk
-pub reports_none : (p l : ℕ) (told : Type 0) → (told → ⊥) → ReportsOne p p l l told
-reports_none p l told never = record { quiet = λ _. (refl, refl); counted = λ t. absurd (never t) }
+pub reports_none : (p l : ℕ) (reported : Type 0) → (reported → ⊥) → ReportsOne p p l l reported
+reports_none p l reported never = record { quiet = λ _. (refl, refl); counted = λ t. absurd (never t) }
 
 -- only the first disk is asked
-pub reports_first : (x y : Type 0) (p p' l : ℕ) (told : Type 0) → KeepsDevice x y p p' told → ReportsOne p p' l l told
-reports_first x y p p' l told k = record { quiet = λ never. (k.quiet never, refl); counted = λ t. inl (k.counted t, refl) }
+pub reports_first : (x y : Type 0) (p p' l : ℕ) (reported : Type 0) → KeepsDevice x y p p' reported → ReportsOne p p' l l reported
+reports_first x y p p' l reported k = record { quiet = λ never. (k.quiet never, refl); counted = λ t. inl (k.counted t, refl) }
 
 -- neither disk failed, and then there is another call
-pub reports_then : (p p' p'' l l' l'' : ℕ) (told : Type 0) → (p' ≡ p) × (l' ≡ l) → ReportsOne p' p'' l' l'' told → ReportsOne p p'' l l'' told
-reports_then p p' p'' l l' l'' told same t = subst (λ (n : ℕ). ReportsOne n p'' l l'' told) same.0 (subst (λ (n : ℕ). ReportsOne p' p'' n l'' told) same.1 t)
+pub reports_then : (p p' p'' l l' l'' : ℕ) (reported : Type 0) → (p' ≡ p) × (l' ≡ l) → ReportsOne p' p'' l' l'' reported → ReportsOne p p'' l l'' reported
+reports_then p p' p'' l l' l'' reported same t = subst (λ (n : ℕ). ReportsOne n p'' l l'' reported) same.0 (subst (λ (n : ℕ). ReportsOne p' p'' n l'' reported) same.1 t)
 
 -- a failure that is reported as another refusal
-pub reports_as : (p p' l l' : ℕ) (failed told : Type 0) → (told → failed) → (failed → told) → ReportsOne p p' l l' failed → ReportsOne p p' l l' told
-reports_as p p' l l' failed told fore back t = record { quiet = λ never. t.quiet (λ f. never (back f)); counted = λ is. t.counted (fore is) }
+pub reports_as : (p p' l l' : ℕ) (failed reported : Type 0) → (reported → failed) → (failed → reported) → ReportsOne p p' l l' failed → ReportsOne p p' l l' reported
+reports_as p p' l l' failed reported fore back t = record { quiet = λ never. t.quiet (λ f. never (back f)); counted = λ is. t.counted (fore is) }
 
 -- both disks are asked, and each one's failure is a refusal of its own
-pub reports_both : {X E : Type 0} (r : Result X E) (first second : E) (told x y : Type 0) (p p' l l' : ℕ) → (first ≡ second → ⊥) → (told → (r ≡ Err first) ⊎ (r ≡ Err second)) → (r ≡ Err first → told) → (r ≡ Err second → told)
-    → KeepsDevice x y p p' (r ≡ Err first) → ((r ≡ Err second → ⊥) → l' ≡ l) → (r ≡ Err second → l' ≡ min (l + 1) 18446744073709551615) → ReportsOne p p' l l' told
-reports_both r first second told x y p p' l l' apart which of_first of_second k quiet counted =
-    let not_both : r ≡ Err first → r ≡ Err second → ⊥ = λ f s. apart (one_told r first second f s) in
+pub reports_both : {X E : Type 0} (r : Result X E) (first second : E) (reported x y : Type 0) (p p' l l' : ℕ) → (first ≡ second → ⊥) → (reported → (r ≡ Err first) ⊎ (r ≡ Err second)) → (r ≡ Err first → reported) → (r ≡ Err second → reported)
+    → KeepsDevice x y p p' (r ≡ Err first) → ((r ≡ Err second → ⊥) → l' ≡ l) → (r ≡ Err second → l' ≡ min (l + 1) 18446744073709551615) → ReportsOne p p' l l' reported
+reports_both r first second reported x y p p' l l' apart which of_first of_second k quiet counted =
+    let not_both : r ≡ Err first → r ≡ Err second → ⊥ = λ f s. apart (one_reported r first second f s) in
     record {
       quiet = λ never. (k.quiet (λ f. never (of_first f)), quiet (λ s. never (of_second s)));
       counted = λ t. elim (which t) [

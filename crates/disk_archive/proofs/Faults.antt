@@ -37,8 +37,8 @@ pub keeps_served : {D : Type 0} (device : Ghosts D) (old new : D) (failed : Type
 keeps_served device old new failed s = record { honest = s.honest; quiet = s.quiet; counted = s.counted }
 
 -- nothing was asked of the device
-pub keeps_none : (p : Type 0) (a : ℕ) (told : Type 0) → (told → ⊥) → KeepsDevice p p a a told
-keeps_none p a told never = record { honest = (λ h. h, λ h. h); quiet = λ _. refl; counted = λ t. absurd (never t) }
+pub keeps_none : (p : Type 0) (a : ℕ) (reported : Type 0) → (reported → ⊥) → KeepsDevice p p a a reported
+keeps_none p a reported never = record { honest = (λ h. h, λ h. h); quiet = λ _. refl; counted = λ t. absurd (never t) }
 
 -- a call that reported no failure, and then another one
 pub keeps_then : (p q r : Type 0) (a b c : ℕ) (failed : Type 0) → KeepsDevice p q a b ⊥ → KeepsDevice q r b c failed → KeepsDevice p r a c failed
@@ -51,18 +51,18 @@ keeps_then p q r a b c failed one two =
     }
 
 -- a failure that is reported by another refusal
-pub keeps_told : (p q : Type 0) (a b : ℕ) (failed told : Type 0) → (told → failed) → (failed → told) → KeepsDevice p q a b failed → KeepsDevice p q a b told
-keeps_told p q a b failed told fore back k = record { honest = k.honest; quiet = λ never. k.quiet (λ f. never (back f)); counted = λ t. k.counted (fore t) }
+pub keeps_reported : (p q : Type 0) (a b : ℕ) (failed reported : Type 0) → (reported → failed) → (failed → reported) → KeepsDevice p q a b failed → KeepsDevice p q a b reported
+keeps_reported p q a b failed reported fore back k = record { honest = k.honest; quiet = λ never. k.quiet (λ f. never (back f)); counted = λ t. k.counted (fore t) }
 
 -- ---- what is returned
 
-pub told_of : {X E : Type 0} (r : Result X E) (e : E) → IsErrAnd r (λ y. y ≡ e) → r ≡ Err e
-told_of (Ok x) e is = absurd is
-told_of (Err y) e is = ap (λ z. Err z) is
+pub reported_of : {X E : Type 0} (r : Result X E) (e : E) → IsErrAnd r (λ y. y ≡ e) → r ≡ Err e
+reported_of (Ok x) e is = absurd is
+reported_of (Err y) e is = ap (λ z. Err z) is
 
-pub told_as : {X E : Type 0} (r : Result X E) (e f : E) → IsErrAnd r (λ y. y ≡ e) → r ≡ Err f → e ≡ f
-told_as (Ok x) e f is told = absurd is
-told_as (Err y) e f is told = let same : y ≡ f = cc in sym is ∙ same
+pub reported_as : {X E : Type 0} (r : Result X E) (e f : E) → IsErrAnd r (λ y. y ≡ e) → r ≡ Err f → e ≡ f
+reported_as (Ok x) e f is reported = absurd is
+reported_as (Err y) e f is reported = let same : y ≡ f = cc in sym is ∙ same
 
 -- a batch that can't be taken isn't reported as a failure
 pub not_taken : (e : AdmitError) → (e ≡ admits.NoCollector) ⊎ (e ≡ admits.BatchTooLarge) ⊎ (e ≡ admits.CounterFull) ⊎ (e ≡ admits.IntakeFull) → e ≡ admits.Fault → ⊥
@@ -98,14 +98,14 @@ asked_fault down nodes.NeedsRecovery refused is = absurd cc
 asked_fault down nodes.OutOfMemory refused is = absurd cc
 
 -- what is done isn't reported as a failure
-pub done_not_told : {X E : Type 0} (r : Result X E) (x : X) (e : E) → r ≡ Ok x → r ≡ Err e → ⊥
-done_not_told (Ok y) x e is told = absurd (cc)
-done_not_told (Err y) x e is told = absurd (cc)
+pub done_not_reported : {X E : Type 0} (r : Result X E) (x : X) (e : E) → r ≡ Ok x → r ≡ Err e → ⊥
+done_not_reported (Ok y) x e is reported = absurd (cc)
+done_not_reported (Err y) x e is reported = absurd (cc)
 
 -- only one refusal is returned
-pub one_told : {X E : Type 0} (r : Result X E) (d e : E) → r ≡ Err d → r ≡ Err e → d ≡ e
-one_told (Ok y) d e is told = absurd (cc)
-one_told (Err y) d e is told = (let a : y ≡ d = cc in let b : y ≡ e = cc in sym a ∙ b)
+pub one_reported : {X E : Type 0} (r : Result X E) (d e : E) → r ≡ Err d → r ≡ Err e → d ≡ e
+one_reported (Ok y) d e is reported = absurd (cc)
+one_reported (Err y) d e is reported = (let a : y ≡ d = cc in let b : y ≡ e = cc in sym a ∙ b)
 
 -- these refusals are no failure of a device
 pub need_no_fault : asks.NeedsRecovery ≡ asks.Fault → ⊥

@@ -27,8 +27,8 @@ keeps_none device most shelf full never = record {
 }
 
 -- the tree took a version, or refused
-pub keeps_tree : {O Pen Seen : Type 0} (device : OnceGhosts O Pen Seen) (old new : Shelf O Pen Seen) (fault full told : Type 0) → (told → full) → LeavesShelf device 2 old new fault full → KeepsBlocks device 2 old new told
-keeps_tree device old new fault full told so l = record {
+pub keeps_tree : {O Pen Seen : Type 0} (device : OnceGhosts O Pen Seen) (old new : Shelf O Pen Seen) (fault full reported : Type 0) → (reported → full) → LeavesShelf device 2 old new fault full → KeepsBlocks device 2 old new reported
+keeps_tree device old new fault full reported so l = record {
   disk = l.disk;
   honest = (
     λ h. subst (λ d. device.honest d (pen_of new)) (sym l.disk) (l.honest.0 h),
@@ -41,8 +41,8 @@ keeps_tree device old new fault full told so l = record {
 }
 
 -- a full disk is reported by another refusal
-pub keeps_told : {O Pen Seen : Type 0} (device : OnceGhosts O Pen Seen) (most : ℕ) (old new : Shelf O Pen Seen) (full told : Type 0) → (told → full) → KeepsBlocks device most old new full → KeepsBlocks device most old new told
-keeps_told device most old new full told so k = record { disk = k.disk; honest = k.honest; forward = k.forward; grows = k.grows; spends = k.spends; none_left = λ h f. k.none_left h (so f) }
+pub keeps_reported : {O Pen Seen : Type 0} (device : OnceGhosts O Pen Seen) (most : ℕ) (old new : Shelf O Pen Seen) (full reported : Type 0) → (reported → full) → KeepsBlocks device most old new full → KeepsBlocks device most old new reported
+keeps_reported device most old new full reported so k = record { disk = k.disk; honest = k.honest; forward = k.forward; grows = k.grows; spends = k.spends; none_left = λ h f. k.none_left h (so f) }
 
 -- fewer blocks are no more than many
 pub keeps_fewer : {O Pen Seen : Type 0} (device : OnceGhosts O Pen Seen) (few many : ℕ) (old new : Shelf O Pen Seen) (full : Type 0) → few ≤ many → KeepsBlocks device few old new full → KeepsBlocks device many old new full

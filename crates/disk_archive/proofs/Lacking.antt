@@ -23,11 +23,11 @@ use Rattle.archive_head.specs.Head.{Contents}
 use Rattle.archive_pages.specs.declared.settings.Settings.{Settings}
 use Rattle.archive_pages.specs.Refusals.{HeadRefusal}
 use Rattle.archive_pages.specs.Changes.{next_change}
-use Rattle.archive_pages.specs.Carried.{Bears}
+use Rattle.archive_pages.specs.Represented.{HeadRepresents}
 use Rattle.disk_archive.specs.declared.apply_error.ApplyError.{ApplyError}
 use Rattle.disk_archive.specs.declared.apply_error.ApplyError.TheVariants as applies
 use Rattle.disk_archive.specs.Lacks.{HasRoom, IsNextVersion, LacksLevel, LacksNone, LacksPages, NeedsBlock, OneLacksNone}
-use Rattle.disk_archive.specs.Trees.{TreeLies}
+use Rattle.disk_archive.specs.Trees.{TreeLocated}
 use Rattle.disk_archive.specs.inner.Applications.{ApplyRefusal, FrontRefusal, LackRefusal, LimitRefusal, apply_of_use}
 use Rattle.disk_archive.proofs.OneNeed.{tree_need}
 
@@ -109,7 +109,7 @@ lacks_commit is shown left root uses.NeedsRecovery = tt
 
 -- its version, by the head
 pub next_version : (count : ℕ) (s : Settings) (settled : ℕ → List ℕ → Type 0) (head : Contents) (shown : List (List ℕ)) (h : History) (first : Placed Admitted) (later : List (Placed Admitted)) (v : Version)
-    → Bears (TreeLies count) s settled head shown h → waiting h ≡ first ∷ later → AreVersions head.applied (next_change head.begun first) (v ∷ []) → IsNextVersion h v
+    → HeadRepresents (TreeLocated count) s settled head shown h → waiting h ≡ first ∷ later → AreVersions head.applied (next_change head.begun first) (v ∷ []) → IsNextVersion h v
 next_version count s settled head shown h first later v b here is = record {
   first = first;
   later = later;
@@ -119,7 +119,7 @@ next_version count s settled head shown h first later v b here is = record {
 
 -- and only its version is one by the head
 pub version_next : (count : ℕ) (s : Settings) (settled : ℕ → List ℕ → Type 0) (head : Contents) (shown : List (List ℕ)) (h : History) (first : Placed Admitted) (later : List (Placed Admitted)) (v : Version)
-    → Bears (TreeLies count) s settled head shown h → waiting h ≡ first ∷ later → IsNextVersion h v → AreVersions head.applied (next_change head.begun first) (v ∷ [])
+    → HeadRepresents (TreeLocated count) s settled head shown h → waiting h ≡ first ∷ later → IsNextVersion h v → AreVersions head.applied (next_change head.begun first) (v ∷ [])
 version_next count s settled head shown h first later v b here is =
     let same : is.first ≡ first = (let e : is.first ∷ is.later ≡ first ∷ later = sym is.here ∙ here in cc) in
     subst (λ (p : Placed Admitted). AreVersions head.applied (next_change head.begun p) (v ∷ [])) same
@@ -188,13 +188,13 @@ room_at is shown left root count left' root' count' none_blank n r c room =
 -- ---- what is returned
 
 pub lacks_pages : {X : Type 0} (is : Version → Type 0) (shown : List (List ℕ)) (left root : ℕ) (r : Result X ApplyError) → IfErr r (LackRefusal is shown left root) → r ≡ Err applies.PagesFull → LacksPages is shown left root
-lacks_pages is shown left root (Ok x) l told = absurd cc
-lacks_pages is shown left root (Err e) l told = let same : e ≡ applies.PagesFull = cc in subst (LackRefusal is shown left root) same l
+lacks_pages is shown left root (Ok x) l reported = absurd cc
+lacks_pages is shown left root (Err e) l reported = let same : e ≡ applies.PagesFull = cc in subst (LackRefusal is shown left root) same l
 
 pub lacks_level : {X : Type 0} (is : Version → Type 0) (shown : List (List ℕ)) (left root : ℕ) (r : Result X ApplyError) → IfErr r (LackRefusal is shown left root) → r ≡ Err applies.TooHigh → LacksLevel is shown root
-lacks_level is shown left root (Ok x) l told = absurd cc
-lacks_level is shown left root (Err e) l told = let same : e ≡ applies.TooHigh = cc in subst (LackRefusal is shown left root) same l
+lacks_level is shown left root (Ok x) l reported = absurd cc
+lacks_level is shown left root (Err e) l reported = let same : e ≡ applies.TooHigh = cc in subst (LackRefusal is shown left root) same l
 
 pub lacks_block : {X : Type 0} (is : Version → Type 0) (shown : List (List ℕ)) (left root : ℕ) (r : Result X ApplyError) → IfErr r (LackRefusal is shown left root) → r ≡ Err applies.OnceFull → NeedsBlock is shown root
-lacks_block is shown left root (Ok x) l told = absurd cc
-lacks_block is shown left root (Err e) l told = let same : e ≡ applies.OnceFull = cc in subst (LackRefusal is shown left root) same l
+lacks_block is shown left root (Ok x) l reported = absurd cc
+lacks_block is shown left root (Err e) l reported = let same : e ≡ applies.OnceFull = cc in subst (LackRefusal is shown left root) same l

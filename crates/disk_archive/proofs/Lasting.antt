@@ -10,28 +10,28 @@ use Rattle.route_meaning.specs.History.{History, Begins}
 use Rattle.route_meaning.proofs.api.Beginning.{Begins-refl, Begins-trans}
 use Rattle.disk_archive.specs.declared.archive.Archive.{Archive}
 use Rattle.disk_archive.specs.Sites.{LeftEither}
-use Rattle.disk_archive.specs.Archives.{Carries, GoesOn, Holds, Stands, IsHonest, erase_of, erase_state, once_state, site_of, is_down}
+use Rattle.disk_archive.specs.Archives.{Represents, GoesOn, Holds, Stands, IsHonest, erase_of, erase_state, once_state, site_of, is_down}
 use Rattle.disk_archive.specs.Crashes.{Crashes, Lasts}
 use Rattle.disk_archive.specs.inner.Idle.{IsAsBefore}
 use Rattle.disk_archive.proofs.Calling.{AllSound}
-use Rattle.disk_archive.proofs.Telling.{waits_same}
+use Rattle.disk_archive.proofs.Reporting.{waits_same}
 
-usable_of : {E O Pen Seen : Type 0} {erase : EraseGhosts E} {once : OnceGhosts O Pen Seen} (a : Archive E O Pen Seen erase once) (h : History) → Carries a h → is_down a ≡ false
+usable_of : {E O Pen Seen : Type 0} {erase : EraseGhosts E} {once : OnceGhosts O Pen Seen} (a : Archive E O Pen Seen erase once) (h : History) → Represents a h → is_down a ≡ false
 usable_of a h k = k.maps.keeps.usable
 
 -- after an Ok, which only a usable archive returns
-pub held_ok : {E O Pen Seen : Type 0} {erase : EraseGhosts E} {once : OnceGhosts O Pen Seen} (a z : Archive E O Pen Seen erase once) (h g : History) → (IsHonest z → IsHonest a) → is_down a ≡ false → (Carries a h → Carries z g) → Holds a h → Holds z g
+pub held_ok : {E O Pen Seen : Type 0} {erase : EraseGhosts E} {once : OnceGhosts O Pen Seen} (a z : Archive E O Pen Seen erase once) (h g : History) → (IsHonest z → IsHonest a) → is_down a ≡ false → (Represents a h → Represents z g) → Holds a h → Holds z g
 held_ok a z h g back usable step held honest = ⊎_elim (λ k. inl (step k)) (λ w. absurd (true≢false (sym w.unusable ∙ usable))) (held (back honest))
 
 -- after a refusal
-pub held_err : {E O Pen Seen : Type 0} {erase : EraseGhosts E} {once : OnceGhosts O Pen Seen} (a z : Archive E O Pen Seen erase once) (h : History) → (IsHonest z → IsHonest a) → (is_down a ≡ true → IsAsBefore a z) → (Carries a h → GoesOn z h) → Holds a h → Holds z h
+pub held_err : {E O Pen Seen : Type 0} {erase : EraseGhosts E} {once : OnceGhosts O Pen Seen} (a z : Archive E O Pen Seen erase once) (h : History) → (IsHonest z → IsHonest a) → (is_down a ≡ true → IsAsBefore a z) → (Represents a h → GoesOn z h) → Holds a h → Holds z h
 held_err a z h back idle step held honest = ⊎_elim (λ k. step k)
     (λ w. let s = idle w.unusable in inr (waits_same a z h w s.journal s.disk s.state s.settings s.head s.lanes honest))
     (held (back honest))
 
 -- A call that goes on with the history, or with one that it begins, and does nothing while the archive must be opened again.
 pub lasts_by : {E O Pen Seen : Type 0} {erase : EraseGhosts E} {once : OnceGhosts O Pen Seen} (a z : Archive E O Pen Seen erase once) → AllSound erase → (IsHonest a → IsHonest z) → (is_down a ≡ true → IsAsBefore a z)
-    → ((g : History) → Carries a g → (k : History) × Begins g k × GoesOn z k) → ((g : History) → Carries a g → (k : History) × Begins g k × Crashes a z (LeftEither (site_of a) g k)) → (h : History) → Stands a h → Lasts a z h
+    → ((g : History) → Represents a g → (k : History) × Begins g k × GoesOn z k) → ((g : History) → Represents a g → (k : History) × Begins g k × Crashes a z (LeftEither (site_of a) g k)) → (h : History) → Stands a h → Lasts a z h
 lasts_by {erase = erase} a z sound honest idle after crash h stands =
     let g = stands.0 in
     ⊎_elim
@@ -67,7 +67,7 @@ lasts_by {erase = erase} a z sound honest idle after crash h stands =
 
 -- A call that carries the history on or leaves it, and does nothing while the archive must be opened again.
 pub lasts_of : {E O Pen Seen : Type 0} {erase : EraseGhosts E} {once : OnceGhosts O Pen Seen} (a z : Archive E O Pen Seen erase once) (to : History → History) → ((g : History) → Begins g (to g)) → AllSound erase → (IsHonest a → IsHonest z) → (is_down a ≡ true → IsAsBefore a z)
-    → ((g : History) → Carries a g → Carries z (to g) ⊎ GoesOn z g) → ((g : History) → Carries a g → Crashes a z (LeftEither (site_of a) g (to g))) → (h : History) → Stands a h → Lasts a z h
+    → ((g : History) → Represents a g → Represents z (to g) ⊎ GoesOn z g) → ((g : History) → Represents a g → Crashes a z (LeftEither (site_of a) g (to g))) → (h : History) → Stands a h → Lasts a z h
 lasts_of a z to beg sound honest idle after crash h stands = lasts_by a z sound honest idle
     (λ g k. ⊎_elim (λ moved. (to g, beg g, inl moved)) (λ same. (g, Begins-refl g, same)) (after g k))
     (λ g k. (to g, beg g, crash g k)) h stands
@@ -76,7 +76,7 @@ lasts_of a z to beg sound honest idle after crash h stands = lasts_by a z sound 
 pub down_still : {E O Pen Seen : Type 0} {erase : EraseGhosts E} {once : OnceGhosts O Pen Seen} (a z : Archive E O Pen Seen erase once) → is_down a ≡ true → IsAsBefore a z → (erase_of z ≡ erase_of a) × (once_state z ≡ once_state a) × (is_down z ≡ true)
 down_still a z down s = (ap (λ j. erase_disk j) s.journal, s.state, ap needs_recovery s.journal ∙ down)
 
--- the erasable disk wasn't written, where the archive carried the history or needed to be opened again
+-- the erasable disk wasn't written, where the archive represented the history or needed to be opened again
 pub held_clock : {E O Pen Seen : Type 0} {erase : EraseGhosts E} {once : OnceGhosts O Pen Seen} (a z : Archive E O Pen Seen erase once) (h : History) → (is_down a ≡ true → IsAsBefore a z)
-    → (Carries a h → (erase_state z).clock ≡ (erase_state a).clock) → GoesOn a h → (erase_state z).clock ≡ (erase_state a).clock
-held_clock {erase = erase} a z h same carried held = ⊎_elim (λ k. carried k) (λ w. ap (λ j. (erase.model (erase_disk j)).clock) (same w.unusable).journal) held
+    → (Represents a h → (erase_state z).clock ≡ (erase_state a).clock) → GoesOn a h → (erase_state z).clock ≡ (erase_state a).clock
+held_clock {erase = erase} a z h same represented held = ⊎_elim (λ k. represented k) (λ w. ap (λ j. (erase.model (erase_disk j)).clock) (same w.unusable).journal) held

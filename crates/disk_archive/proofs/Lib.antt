@@ -1,7 +1,7 @@
 mod Mirroring
 mod Crossing
 mod Outcomes
-mod Telling
+mod Reporting
 mod Calling
 mod Lasting
 mod BatchSizes

@@ -9,9 +9,9 @@ use Rattle.page_journal.specs.declared.error.UseError.TheVariants as uses
 use Rattle.disk_archive.specs.inner.Applications.{LimitRefusal, apply_of_use}
 
 -- what holds of a refusal holds of the result that returns it
-pub on_told : {X E : Type 0} (r : Result X E) (e : E) (P : E → Type 0) → IsErrAnd r (λ y. y ≡ e) → P e → IfErr r P
-on_told (Ok x) e P is p = absurd is
-on_told (Err y) e P is p = subst P (sym is) p
+pub on_reported : {X E : Type 0} (r : Result X E) (e : E) (P : E → Type 0) → IsErrAnd r (λ y. y ≡ e) → P e → IfErr r P
+on_reported (Ok x) e P is p = absurd is
+on_reported (Err y) e P is p = subst P (sym is) p
 
 -- the same over the same pages and the same count
 pub limits_as : (homes homes' next next' count count' : ℕ) (e : ApplyError) → homes' ≡ homes → next' ≡ next → count' ≡ count → LimitRefusal homes' next' count' e → LimitRefusal homes next count e

@@ -18,9 +18,9 @@ use Rattle.archive_head.specs.declared.lane.Lane.{Lane}
 use Rattle.archive_head.specs.Head.{Contents}
 use Rattle.archive_pages.specs.declared.settings.Settings.{Settings}
 use Rattle.archive_pages.specs.Places.{ring_of}
-use Rattle.archive_pages.specs.Carried.{Bears}
+use Rattle.archive_pages.specs.Represented.{HeadRepresents}
 use Rattle.archive_pages.specs.Batches.{Kept, IsKeptOf, CanTake, HasLane}
-use Rattle.disk_archive.specs.Trees.{TreeLies}
+use Rattle.disk_archive.specs.Trees.{TreeLocated}
 use Rattle.disk_archive.specs.Limits.{IsCounterFull, IsRingFull}
 use Rattle.page_journal.specs.declared.error.UseError.{UseError}
 use Rattle.page_journal.specs.declared.error.UseError.TheVariants as uses
@@ -32,9 +32,9 @@ use Rattle.disk_archive.specs.Mirrors.{Mirrors}
 use Rattle.disk_archive.proofs.Mirroring.{intake_at, mark_there}
 use Rattle.disk_archive.proofs.Plans.{lane_at}
 
--- A collector of a history that is carried can take a batch whose records can be counted.
+-- A collector of a history that is represented can take a batch whose records can be counted.
 pub can_take : (count : ℕ) (s : Settings) (o : OnceState) (head : Contents) (shown : List (List ℕ)) (h : History) (c homes : ℕ) (lane : Lane) (i : Intake) (batch : List Admitted) (kept : Kept)
-    → Bears (TreeLies count) s (settled_in o) head shown h → HasLane head c lane → slice_get h.intakes c ≡ Some i → IsKeptOf i.mark batch kept → length shown ≡ homes
+    → HeadRepresents (TreeLocated count) s (settled_in o) head shown h → HasLane head c lane → slice_get h.intakes c ≡ Some i → IsKeptOf i.mark batch kept → length shown ≡ homes
     → lane.offered + length batch ≤ 18446744073709551615 → CanTake homes s c lane kept
 can_take count s o head shown h c homes lane i batch kept b at here is len fits =
     let own = b.lanes c lane i at here in
@@ -52,7 +52,7 @@ can_take count s o head shown h c homes lane i batch kept b at here is len fits 
 
 -- the collector's count is full, according to the head
 pub counter_full : (count : ℕ) (s : Settings) (o : OnceState) (head : Contents) (shown : List (List ℕ)) (h : History) (c more : ℕ) (lane : Lane)
-    → Bears (TreeLies count) s (settled_in o) head shown h → HasLane head c lane → c < length h.intakes → IsCounterFull h c more ↔ (18446744073709551615 < lane.offered + more)
+    → HeadRepresents (TreeLocated count) s (settled_in o) head shown h → HasLane head c lane → c < length h.intakes → IsCounterFull h c more ↔ (18446744073709551615 < lane.offered + more)
 counter_full count s o head shown h c more lane b at low =
     let i = intake_at c h.intakes low in
     let offered = (b.lanes c lane i.0 at i.1).offered in (
@@ -62,7 +62,7 @@ counter_full count s o head shown h c more lane b at low =
 
 -- the ring is full, according to the head
 pub ring_full : (count : ℕ) (s : Settings) (o : OnceState) (head : Contents) (shown : List (List ℕ)) (h : History) (c : ℕ) (batch : List Admitted) (lane : Lane) (i : Intake)
-    → Bears (TreeLies count) s (settled_in o) head shown h → HasLane head c lane → slice_get h.intakes c ≡ Some i
+    → HeadRepresents (TreeLocated count) s (settled_in o) head shown h → HasLane head c lane → slice_get h.intakes c ≡ Some i
     → IsRingFull s h c batch ↔ (16384 * s.ring - lane.used < octets_for (timely admitted_time i.mark [] batch))
 ring_full count s o head shown h c batch lane i b at here =
     let own = b.lanes c lane i at here in
@@ -78,7 +78,7 @@ ring_full count s o head shown h c batch lane i b at here =
 
 -- a ring isn't full that, according to the head and the marks in memory, has room for what isn't late of a batch
 pub not_crowded : (count : ℕ) (s : Settings) (o : OnceState) (head : Contents) (lanes : List Waiting) (shown : List (List ℕ)) (h : History) (c : ℕ) (batch : List Admitted)
-    → Bears (TreeLies count) s (settled_in o) head shown h → Mirrors lanes h → c < s.collectors
+    → HeadRepresents (TreeLocated count) s (settled_in o) head shown h → Mirrors lanes h → c < s.collectors
     → ((lane : Lane) (mark : ℕ) → HasLane head c lane → slice_get (marks lanes) c ≡ Some mark → octets_for (timely admitted_time mark [] batch) ≤ 16384 * s.ring - lane.used) → IsRingFull s h c batch → ⊥
 not_crowded count s o head lanes shown h c batch b m low room full =
     let n = b.lanes_number in
@@ -118,14 +118,14 @@ commit_later down uses.NeedsRecovery r usable = absurd (true≢false (sym r ∙ 
 
 -- ---- what is returned
 
-pub told_err : {X : Type 0} (r : Result X AdmitError) (e : AdmitError) → IsErrAnd r (λ y. y ≡ e) → r ≡ Err e
-told_err (Ok x) e h = absurd h
-told_err (Err y) e h = ap (λ z. Err z) h
+pub reported_err : {X : Type 0} (r : Result X AdmitError) (e : AdmitError) → IsErrAnd r (λ y. y ≡ e) → r ≡ Err e
+reported_err (Ok x) e h = absurd h
+reported_err (Err y) e h = ap (λ z. Err z) h
 
-pub as_told : {X : Type 0} (r : Result X AdmitError) (e f : AdmitError) → r ≡ Err e → r ≡ Err f → e ≡ f
-as_told r e f is told = let both : Err e ≡ Err f = sym is ∙ told in cc
+pub as_reported : {X : Type 0} (r : Result X AdmitError) (e f : AdmitError) → r ≡ Err e → r ≡ Err f → e ≡ f
+as_reported r e f is reported = let both : Err e ≡ Err f = sym is ∙ reported in cc
 
-pub not_full : (count : ℕ) (s : Settings) (o : OnceState) (head : Contents) (shown : List (List ℕ)) (h : History) (c more : ℕ) → Bears (TreeLies count) s (settled_in o) head shown h
+pub not_full : (count : ℕ) (s : Settings) (o : OnceState) (head : Contents) (shown : List (List ℕ)) (h : History) (c more : ℕ) → HeadRepresents (TreeLocated count) s (settled_in o) head shown h
     → c < s.collectors → ((lane : Lane) → HasLane head c lane → lane.offered + more ≤ 18446744073709551615) → IsCounterFull h c more → ⊥
 not_full count s o head shown h c more b low fits full =
     let n = b.lanes_number in
@@ -135,22 +135,22 @@ not_full count s o head shown h c more b low fits full =
     let few = fits lane.0 lane.1 in
     absurd (omega (arith, above, few))
 
-pub no_counter : (count : ℕ) (s : Settings) (o : OnceState) (head : Contents) (shown : List (List ℕ)) (h : History) (c octets more : ℕ) {X : Type 0} (r : Result X AdmitError) (e : AdmitError) → Bears (TreeLies count) s (settled_in o) head shown h
+pub no_counter : (count : ℕ) (s : Settings) (o : OnceState) (head : Contents) (shown : List (List ℕ)) (h : History) (c octets more : ℕ) {X : Type 0} (r : Result X AdmitError) (e : AdmitError) → HeadRepresents (TreeLocated count) s (settled_in o) head shown h
     → r ≡ Err e → IsLater e → c < s.collectors → ((lane : Lane) → HasLane head c lane → lane.offered + more ≤ 18446744073709551615) → (r ≡ Err admits.CounterFull) ↔ ((octets ≤ 262144) × IsCounterFull h c more)
 no_counter count s o head shown h c octets more r e b is later low fits = (
-  λ told. absurd (later.counter (as_told r e admits.CounterFull is told)),
+  λ reported. absurd (later.counter (as_reported r e admits.CounterFull is reported)),
   λ full. absurd (not_full count s o head shown h c more b low fits full.1),
 )
 
 -- Exactly a count that is full is reported as that.
-pub counter_told : (count : ℕ) (s : Settings) (o : OnceState) (head : Contents) (shown : List (List ℕ)) (h : History) (c octets more : ℕ) {X : Type 0} (r : Result X AdmitError) (e : AdmitError) → Bears (TreeLies count) s (settled_in o) head shown h
+pub counter_reported : (count : ℕ) (s : Settings) (o : OnceState) (head : Contents) (shown : List (List ℕ)) (h : History) (c octets more : ℕ) {X : Type 0} (r : Result X AdmitError) (e : AdmitError) → HeadRepresents (TreeLocated count) s (settled_in o) head shown h
     → r ≡ Err e → (s.collectors ≤ c → e ≡ admits.NoCollector) → ((lane : Lane) → HasLane head c lane → (e ≡ admits.CounterFull) ↔ ((octets ≤ 262144) × (18446744073709551615 < lane.offered + more)))
     → (r ≡ Err admits.CounterFull) ↔ ((octets ≤ 262144) × IsCounterFull h c more)
-counter_told count s o head shown h c octets more r e b is only iff =
+counter_reported count s o head shown h c octets more r e b is only iff =
     let n = b.number in
     let m = b.lanes_number in (
-      λ told.
-          let same = as_told r e admits.CounterFull is told in
+      λ reported.
+          let same = as_reported r e admits.CounterFull is reported in
           elim (cases_lt c s.collectors) [
             | inl low ↦ (
                 let lane = lane_at c head.lanes (omega (arith, m, low)) in
@@ -168,18 +168,18 @@ counter_told count s o head shown h c octets more r e b is only iff =
 -- no other refusal is reported as a full ring
 pub no_crowd : {X : Type 0} (octets : ℕ) (s : Settings) (h : History) (c more : ℕ) (batch : List Admitted) (r : Result X AdmitError) (e : AdmitError) → r ≡ Err e → IsLater e → (IsRingFull s h c batch → ⊥)
     → (r ≡ Err admits.IntakeFull) ↔ ((octets ≤ 262144) × (IsCounterFull h c more → ⊥) × IsRingFull s h c batch)
-no_crowd octets s h c more batch r e is later room = (λ told. absurd (later.ring (as_told r e admits.IntakeFull is told)), λ full. absurd (room full.2))
+no_crowd octets s h c more batch r e is later room = (λ reported. absurd (later.ring (as_reported r e admits.IntakeFull is reported)), λ full. absurd (room full.2))
 
 -- Exactly a ring that is full is reported as that.
-pub crowd_told : (count : ℕ) (s : Settings) (o : OnceState) (head : Contents) (lanes : List Waiting) (shown : List (List ℕ)) (h : History) (c octets : ℕ) (batch : List Admitted) {X : Type 0} (r : Result X AdmitError) (e : AdmitError)
-    → Bears (TreeLies count) s (settled_in o) head shown h → Mirrors lanes h → r ≡ Err e → (s.collectors ≤ c → e ≡ admits.NoCollector)
+pub crowd_reported : (count : ℕ) (s : Settings) (o : OnceState) (head : Contents) (lanes : List Waiting) (shown : List (List ℕ)) (h : History) (c octets : ℕ) (batch : List Admitted) {X : Type 0} (r : Result X AdmitError) (e : AdmitError)
+    → HeadRepresents (TreeLocated count) s (settled_in o) head shown h → Mirrors lanes h → r ≡ Err e → (s.collectors ≤ c → e ≡ admits.NoCollector)
     → ((lane : Lane) (mark : ℕ) → HasLane head c lane → slice_get (marks lanes) c ≡ Some mark → (e ≡ admits.IntakeFull) ↔ ((octets ≤ 262144) × (lane.offered + length batch ≤ 18446744073709551615) × (16384 * s.ring - lane.used < octets_for (timely admitted_time mark [] batch))))
     → (r ≡ Err admits.IntakeFull) ↔ ((octets ≤ 262144) × (IsCounterFull h c (length batch) → ⊥) × IsRingFull s h c batch)
-crowd_told count s o head lanes shown h c octets batch r e b m is only iff =
+crowd_reported count s o head lanes shown h c octets batch r e b m is only iff =
     let n = b.number in
     let k = b.lanes_number in (
-      λ told.
-          let same = as_told r e admits.IntakeFull is told in
+      λ reported.
+          let same = as_reported r e admits.IntakeFull is reported in
           elim (cases_lt c s.collectors) [
             | inl low ↦ (
                 let lane = lane_at c head.lanes (omega (arith, k, low)) in
@@ -205,4 +205,4 @@ pub memory_later : IsLater admits.OutOfMemory
 memory_later = record { recovery = λ e. cc; collector = λ e. cc; large = λ e. cc; counter = λ e. cc; ring = λ e. cc }
 
 pub not_both : {X : Type 0} (r : Result X AdmitError) (f : AdmitError) → r ≡ Err admits.NeedsRecovery → (admits.NeedsRecovery ≡ f → ⊥) → r ≡ Err f → ⊥
-not_both r f down apart told = apart (as_told r admits.NeedsRecovery f down told)
+not_both r f down apart reported = apart (as_reported r admits.NeedsRecovery f down reported)

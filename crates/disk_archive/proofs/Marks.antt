@@ -15,16 +15,16 @@ use Rattle.page_tx.specs.declared.error.PageError.TheVariants as pages_refusals
 use Rattle.archive_head.specs.declared.lane.Lane.{Lane}
 use Rattle.archive_head.specs.Head.{Contents, IsHead, head_octets}
 use Rattle.archive_pages.specs.declared.settings.Settings.{Settings}
-use Rattle.archive_pages.specs.Carried.{Bears}
+use Rattle.archive_pages.specs.Represented.{HeadRepresents}
 use Rattle.archive_pages.specs.Changes.{with_lane}
 use Rattle.archive_pages.specs.Batches.{HasLane}
 use Rattle.archive_pages.specs.Refusals.{HeadRefusal}
-use Rattle.archive_pages.proofs.api.Bearing.{bears_headed, bears_marked}
+use Rattle.archive_pages.proofs.api.Representing.{head_represents_headed, head_represents_marked}
 use Rattle.disk_models.specs.declared.erase.EraseDisk.{Ghosts as EraseGhosts}
 use Rattle.disk_models.specs.declared.once.OnceDisk.{Ghosts as OnceGhosts}
 use Rattle.disk_archive.specs.declared.archive.Archive.{Archive}
-use Rattle.disk_archive.specs.Archives.{Carries}
-use Rattle.disk_archive.specs.Trees.{TreeLies}
+use Rattle.disk_archive.specs.Archives.{Represents}
+use Rattle.disk_archive.specs.Trees.{TreeLocated}
 use Rattle.disk_archive.specs.Mirrors.{Mirrors}
 use Rattle.page_journal.specs.declared.error.UseError.{UseError}
 use Rattle.page_journal.specs.declared.error.UseError.TheVariants as uses
@@ -55,15 +55,15 @@ changed_present (suc c) mark (j ∷ is) i e m = ap (λ l. j ∷ l) (changed_pres
 pub marked_present : (h : History) (c mark : ℕ) (i : Intake) → slice_get h.intakes c ≡ Some i → mark ≡ i.mark → marked h c mark ≡ h
 marked_present h c mark i here m = let e = changed_present c mark h.intakes i here m in λ x. record { intakes = e x; whole = h.whole; some = h.some }
 
--- an archive that carries the history carries it with the present mark
-pub carries_present : {E O Pen Seen : Type 0} {erase : EraseGhosts E} {once : OnceGhosts O Pen Seen} (a : Archive E O Pen Seen erase once) (h : History) (c mark : ℕ) (i : Intake) → slice_get h.intakes c ≡ Some i → mark ≡ i.mark → Carries a h → Carries a (marked h c mark)
-carries_present a h c mark i here m k = subst (λ (g : History). Carries a g) (sym (marked_present h c mark i here m)) k
+-- an archive that represents the history represents it with the present mark
+pub represents_present : {E O Pen Seen : Type 0} {erase : EraseGhosts E} {once : OnceGhosts O Pen Seen} (a : Archive E O Pen Seen erase once) (h : History) (c mark : ℕ) (i : Intake) → slice_get h.intakes c ≡ Some i → mark ≡ i.mark → Represents a h → Represents a (marked h c mark)
+represents_present a h c mark i here m k = subst (λ (g : History). Represents a g) (sym (marked_present h c mark i here m)) k
 
 -- ---- pages
 
--- The head with the mark is laid over page 0, and the pages carry the history with the mark.
+-- The head with the mark is laid over page 0, and the pages represent the history with the mark.
 pub mark_planned : (count : ℕ) (s : Settings) (o : OnceState) (old new : List (List ℕ) → Type 0) (head next : Contents) (shown : List (List ℕ)) (h : History) (c mark : ℕ) (lane : Lane)
-    → Bears (TreeLies count) s (settled_in o) head shown h → HasLane head c lane → (IsMarkAbove h c mark → ⊥) → mark ≤ 4294967296
+    → HeadRepresents (TreeLocated count) s (settled_in o) head shown h → HasLane head c lane → (IsMarkAbove h c mark → ⊥) → mark ≤ 4294967296
     → next ≡ with_lane head c (record lane { mark = mark }) → IsHead next → 0 < length shown → new (slice_set shown 0 (head_octets next))
     → Planned count s (settled_in o) new next (marked h c mark)
 mark_planned count s o old new head next shown h c mark lane b at below low same is_head some written =
@@ -72,16 +72,16 @@ mark_planned count s o old new head next shown h c mark lane b at below low same
     let m = b.lanes_number in
     let i = intake_at c h.intakes (omega (arith, within, n, m)) in
     let right = right_marked h c mark (not_back h c mark below) low b.right in
-    let bears = subst (λ (x : Contents). Bears (TreeLies count) s (settled_in o) x shown (marked h c mark)) (sym same)
-    (bears_marked (TreeLies count) s (settled_in o) head shown h c mark lane i.0 b right at i.1) in
+    let head_represents = subst (λ (x : Contents). HeadRepresents (TreeLocated count) s (settled_in o) x shown (marked h c mark)) (sym same)
+    (head_represents_marked (TreeLocated count) s (settled_in o) head shown h c mark lane i.0 b right at i.1) in
     record {
       pages = slice_set shown 0 (head_octets next);
       shown = written;
       headed = record {
         valid = is_head;
         first = get_or-set_same shown 0 (head_octets next) [] some;
-        bears = bears_headed (TreeLies count) s (settled_in o) (tree_framed count (settled_in o)) next shown (set shown 0 (head_octets next)) (marked h c mark) (length-set shown 0 (head_octets next))
-            (λ n ge. get_or-set_other shown 0 n (head_octets next) [] (let other : n ≢ 0 = omega arith in other)) bears;
+        head_represents = head_represents_headed (TreeLocated count) s (settled_in o) (tree_framed count (settled_in o)) next shown (set shown 0 (head_octets next)) (marked h c mark) (length-set shown 0 (head_octets next))
+            (λ n ge. get_or-set_other shown 0 n (head_octets next) [] (let other : n ≢ 0 = omega arith in other)) head_represents;
       };
     }
 
@@ -140,20 +140,20 @@ pub not_both : {X : Type 0} (r : Result X MarkError) → r ≡ Err refusals.Need
 not_both r down back = let e : Err refusals.NeedsRecovery ≡ Err refusals.MarkBack = sym down ∙ back in cc
 
 -- what is returned, where it is known what was converted
-pub told_err : {X : Type 0} (r : Result X MarkError) (e : MarkError) → IsErrAnd r (λ y. y ≡ e) → r ≡ Err e
-told_err (Ok x) e h = absurd h
-told_err (Err y) e h = ap (λ z. Err z) h
+pub reported_err : {X : Type 0} (r : Result X MarkError) (e : MarkError) → IsErrAnd r (λ y. y ≡ e) → r ≡ Err e
+reported_err (Ok x) e h = absurd h
+reported_err (Err y) e h = ap (λ z. Err z) h
 
-pub not_told : {X : Type 0} (r : Result X MarkError) (e f : MarkError) → r ≡ Err e → (e ≡ f → ⊥) → r ≡ Err f → ⊥
-not_told r e f is apart told = apart (let both : Err e ≡ Err f = sym is ∙ told in cc)
+pub not_reported : {X : Type 0} (r : Result X MarkError) (e f : MarkError) → r ≡ Err e → (e ≡ f → ⊥) → r ≡ Err f → ⊥
+not_reported r e f is apart reported = apart (let both : Err e ≡ Err f = sym is ∙ reported in cc)
 
 -- Exactly a mark below the collector's is reported as that, for a collector that exists.
-pub back_told : {X : Type 0} (r : Result X MarkError) (e : MarkError) (lanes : List Waiting) (h : History) (n c mark : ℕ) → r ≡ Err e → (e ≡ refusals.NoCollector) ⊎ (e ≡ refusals.MarkBack)
+pub back_reported : {X : Type 0} (r : Result X MarkError) (e : MarkError) (lanes : List Waiting) (h : History) (n c mark : ℕ) → r ≡ Err e → (e ≡ refusals.NoCollector) ⊎ (e ≡ refusals.MarkBack)
     → (e ≡ refusals.NoCollector → n ≤ c) → (n ≤ c → e ≡ refusals.NoCollector) → (e ≡ refusals.MarkBack → (present : ℕ) → slice_get (marks lanes) c ≡ Some present → mark < present)
     → Mirrors lanes h → length h.intakes ≡ n → (r ≡ Err refusals.MarkBack) ↔ IsMarkAbove h c mark
-back_told r e lanes h n c mark is either none only back m number = (
-  λ told.
-      let same : e ≡ refusals.MarkBack = (let both : Err e ≡ Err refusals.MarkBack = sym is ∙ told in cc) in
+back_reported r e lanes h n c mark is either none only back m number = (
+  λ reported.
+      let same : e ≡ refusals.MarkBack = (let both : Err e ≡ Err refusals.MarkBack = sym is ∙ reported in cc) in
       elim (cases_lt c n) [
         | inl low ↦ above_there lanes h c mark m (omega (arith, low, number)) (back same)
         | inr ge ↦ absurd (let other = only ge in let both : refusals.NoCollector ≡ refusals.MarkBack = sym other ∙ same in cc)

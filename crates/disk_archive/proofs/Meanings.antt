@@ -11,4 +11,4 @@ pub means_kept : {D : Type 0} (device : Ghosts D) (journal : Journal D device) (
 means_kept device journal homes note pages same_homes same_note keeps =
     subst (λ (m : ℕ). Means m note (device.model (disk_of journal)) pages) same_homes
     (subst (λ (x : List ℕ). Means (home_pages journal) x (device.model (disk_of journal)) pages) same_note
-    (λ c may. (open_slots (opened_slots journal), keeps.carries c may)))
+    (λ c may. (open_slots (opened_slots journal), keeps.represents c may)))

@@ -30,10 +30,10 @@ one_settings blocks s t are those same =
 
 -- the numbers of a note are those of the settings that it gives
 pub settings_read : (note : List ℕ) (blocks c r : ℕ) (s : Settings) → AreSettings s → note ≡ note_octets blocks s → slice_index note 8 ≡ c → number_at 2 9 note ≡ r → record { collectors = c; ring = r } ≡ s
-settings_read note blocks c r s are told collectors ring =
+settings_read note blocks c r s are reported collectors ring =
     let few = are.large in
-    let a : c ≡ s.collectors = sym collectors ∙ ap (λ (l : List ℕ). slice_index l 8) told ∙ note_collectors blocks s in
-    let b : r ≡ s.ring = sym ring ∙ ap (number_at 2 9) told ∙ note_ring blocks s (omega (arith, few)) in
+    let a : c ≡ s.collectors = sym collectors ∙ ap (λ (l : List ℕ). slice_index l 8) reported ∙ note_collectors blocks s in
+    let b : r ≡ s.ring = sym ring ∙ ap (number_at 2 9) reported ∙ note_ring blocks s (omega (arith, few)) in
     λ i. record { collectors = a i; ring = b i }
 
 pub same_octets : (xs ys : List ℕ) → xs ≡ ys → bytes_eq xs ys ≡ true

@@ -11,7 +11,7 @@ use Rattle.interleaving_core.specs.Steps.{given}
 use Rattle.interleaving_core.proofs.api.Joining.{given_none}
 use Rattle.interleaving_core.specs.declared.reply.BatchReply.{BatchReply}
 use Rattle.disk_archive.specs.declared.archive.Archive.{Archive}
-use Rattle.disk_archive.specs.Archives.{Carries}
+use Rattle.disk_archive.specs.Archives.{Represents}
 
 pub is_nil : (batch : List Admitted) (r : Bool) → r ≡ eqb (length batch) 0 → r ≡ true → batch ≡ []
 is_nil batch r e t = nil_from_length batch ((Decides-eqb (length batch) 0).0 (sym e ∙ t))
@@ -19,10 +19,10 @@ is_nil batch r e t = nil_from_length batch ((Decides-eqb (length batch) 0).0 (sy
 pub not_nil : (batch : List Admitted) (r : Bool) → r ≡ eqb (length batch) 0 → r ≡ false → batch ≡ [] → ⊥
 not_nil batch r e f none = let t : true ≡ eqb (length batch) 0 = sym (ap (λ (l : List Admitted). eqb (length l) 0) none) in absurd (true≢false (t ∙ (sym e ∙ f)))
 
--- an archive that carries the history carries it with such a batch
-pub carries_none : {E O Pen Seen : Type 0} {erase : EraseGhosts E} {once : OnceGhosts O Pen Seen} (a : Archive E O Pen Seen erase once) (h : History) (c : ℕ) (batch : List Admitted) → batch ≡ [] → Carries a h → Carries a (given h c batch)
-carries_none a h c batch none k = subst (λ (b : List Admitted). Carries a (given h c b)) (sym none) (subst (λ (g : History). Carries a g) (sym (given_none h c)) k)
+-- an archive that represents the history represents it with such a batch
+pub represents_none : {E O Pen Seen : Type 0} {erase : EraseGhosts E} {once : OnceGhosts O Pen Seen} (a : Archive E O Pen Seen erase once) (h : History) (c : ℕ) (batch : List Admitted) → batch ≡ [] → Represents a h → Represents a (given h c batch)
+represents_none a h c batch none k = subst (λ (b : List Admitted). Represents a (given h c b)) (sym none) (subst (λ (g : History). Represents a g) (sym (given_none h c)) k)
 
 -- what is returned for such a batch is so for the batch
-pub reply_none : (i : Intake) (c : ℕ) (batch : List Admitted) (told : BatchReply) → batch ≡ [] → IsReply i c [] told → IsReply i c batch told
-reply_none i c batch told none r = subst (λ (b : List Admitted). IsReply i c b told) (sym none) r
+pub reply_none : (i : Intake) (c : ℕ) (batch : List Admitted) (reported : BatchReply) → batch ≡ [] → IsReply i c [] reported → IsReply i c batch reported
+reply_none i c batch reported none r = subst (λ (b : List Admitted). IsReply i c b reported) (sym none) r

@@ -6,21 +6,21 @@ use Rattle.route_meaning.specs.History.{History, IsBelowMarks}
 use Rattle.interleaving_core.specs.Steps.{moved}
 use Rattle.sequencer.specs.Lanes.{Waiting, Releases}
 use Rattle.sequencer.specs.First.{IsNext}
-use Rattle.sequencer.specs.Ahead.{behind}
+use Rattle.sequencer.specs.Ahead.{beyond}
 use Rattle.archive_head.specs.declared.lane.Lane.{Lane}
 use Rattle.archive_head.specs.Head.{Contents, IsHead, head_octets}
 use Rattle.intake.specs.Ring.{IsRing, Holds}
 use Rattle.archive_pages.specs.declared.settings.Settings.{Settings}
 use Rattle.archive_pages.specs.Places.{ring_of}
-use Rattle.archive_pages.specs.Carried.{Bears}
+use Rattle.archive_pages.specs.Represented.{HeadRepresents}
 use Rattle.archive_pages.specs.Batches.{HasLane}
-use Rattle.archive_pages.proofs.api.Bearing.{bears_grown, bears_headed}
+use Rattle.archive_pages.proofs.api.Representing.{head_represents_grown, head_represents_headed}
 use Rattle.disk_archive.specs.declared.planning_changes.Front.{Front}
 use Rattle.disk_archive.specs.declared.planning_changes.Plan.{Plan}
 use Rattle.disk_archive.specs.declared.planning_changes.Application.{Application}
 use Rattle.disk_archive.specs.Mirrors.{Mirrors}
 use Rattle.disk_archive.specs.Moves.{Moves}
-use Rattle.disk_archive.specs.Trees.{TreeLies}
+use Rattle.disk_archive.specs.Trees.{TreeLocated}
 use Rattle.disk_archive.specs.inner.Planning.{Planned}
 use Rattle.disk_archive.specs.inner.Applications.{Advances, IsFirst, MovesOn, PlansMove, Reached, Reaches}
 use Rattle.disk_archive.proofs.Fronts.{next_is, mirror_moved}
@@ -30,12 +30,12 @@ use Rattle.disk_archive.proofs.api.Trees.{tree_framed, tree_grows}
 -- ---- the admission at hand
 
 -- what is next in memory, and its ring's first admission: the first that waits
-pub first_found : (count : ℕ) (s : Settings) (settled : ℕ → List ℕ → Type 0) (head : Contents) (pages : List (List ℕ)) (lanes : List Waiting) (h : History) (c : ℕ) (a : Admitted) → c < length head.lanes → Bears (TreeLies count) s settled head pages h → Mirrors lanes h → IsNext lanes c
+pub first_found : (count : ℕ) (s : Settings) (settled : ℕ → List ℕ → Type 0) (head : Contents) (pages : List (List ℕ)) (lanes : List Waiting) (h : History) (c : ℕ) (a : Admitted) → c < length head.lanes → HeadRepresents (TreeLocated count) s settled head pages h → Mirrors lanes h → IsNext lanes c
     → ((lane : Lane) (waits : List Admitted) → HasLane head c lane → Holds pages (ring_of s c lane) waits → slice_get waits 0 ≡ Some a) → IsFirst h (record { collector = c; admission = a })
-first_found count s settled head pages lanes h c a low b m next told =
+first_found count s settled head pages lanes h c a low b m next reported =
     let f = next_is lanes h c (let n = b.number in let l = b.lanes_number in omega (arith, low, n, l)) m next in
     let k = front_holds count s settled head pages h c f.first f.later low b f.next in
-    let is = told k.lane (f.first ∷ k.rest) k.at k.holds in
+    let is = reported k.lane (f.first ∷ k.rest) k.at k.holds in
     let same : f.first ≡ a = cc in
     record {
       later = f.later;
@@ -48,7 +48,7 @@ pub at_hand : (h : History) (front : Front) (a : Admitted) → IsFirst h front �
 at_hand h front a f same = subst (λ (x : Admitted). IsFirst h (record { collector = front.collector; admission = x })) same f
 
 -- its page isn't reported as damaged
-pub first_sound : (count homes : ℕ) (s : Settings) (settled : ℕ → List ℕ → Type 0) (head : Contents) (pages : List (List ℕ)) (lanes : List Waiting) (h : History) (c : ℕ) (blamed : Type 0) → c < length head.lanes → Bears (TreeLies count) s settled head pages h → Mirrors lanes h → IsNext lanes c → length pages ≡ homes
+pub first_sound : (count homes : ℕ) (s : Settings) (settled : ℕ → List ℕ → Type 0) (head : Contents) (pages : List (List ℕ)) (lanes : List Waiting) (h : History) (c : ℕ) (blamed : Type 0) → c < length head.lanes → HeadRepresents (TreeLocated count) s settled head pages h → Mirrors lanes h → IsNext lanes c → length pages ≡ homes
     → ((lane : Lane) (first : Admitted) (rest : List Admitted) → HasLane head c lane → IsRing homes (ring_of s c lane) → Holds pages (ring_of s c lane) (first ∷ rest) → blamed → ⊥) → blamed → ⊥
 first_sound count homes s settled head pages lanes h c blamed low b m next len never =
     let f = next_is lanes h c (let n = b.number in let l = b.lanes_number in omega (arith, low, n, l)) m next in
@@ -62,7 +62,7 @@ first_stays : (h g : History) (front : Front) → (some : ℕ) × (g ≡ moved h
 first_stays h g front part f = subst (λ (x : History). IsFirst x front) (sym part.1) (record { later = f.later; here = f.here; below = f.below })
 
 pub advances : (count : ℕ) (s : Settings) (few many : ℕ → List ℕ → Type 0) (old new : List (List ℕ) → Type 0) (lanes : List Waiting) (plan after : Plan) (h : History) → (r : Reached count s few old lanes plan h) → IsFirst h plan.front → plan.front.collector < length h.intakes → after.front ≡ plan.front
-    → (after.whole ≡ true → Releases (behind plan.ahead lanes) plan.front.collector (behind after.ahead lanes)) → (after.whole ≡ false → behind after.ahead lanes ≡ behind plan.ahead lanes)
+    → (after.whole ≡ true → Releases (beyond plan.ahead lanes) plan.front.collector (beyond after.ahead lanes)) → (after.whole ≡ false → beyond after.ahead lanes ≡ beyond plan.ahead lanes)
     → MovesOn count s many new after.head after.whole h → Advances count s many new lanes after h
 advances count s few many old new lanes plan after h r f low front leaves stays m = record {
   after = m.after;
@@ -70,8 +70,8 @@ advances count s few many old new lanes plan after h r f low front leaves stays 
   reached = record {
     pages = m.pages;
     shown = m.shown;
-    bears = m.bears;
-    mirrors = mirror_moved (behind plan.ahead lanes) (behind after.ahead lanes) h m.after plan.front.collector after.whole
+    head_represents = m.head_represents;
+    mirrors = mirror_moved (beyond plan.ahead lanes) (beyond after.ahead lanes) h m.after plan.front.collector after.whole
         (record { first = plan.front.admission; later = f.later; next = f.here; below = f.below }) low r.mirrors m.stays m.leaves leaves stays;
     first = λ part. first_stays h m.after after.front (m.stays part) (subst (λ (x : Front). IsFirst h x) (sym front) f);
   };
@@ -84,7 +84,7 @@ pub reached_grown : (count : ℕ) (s : Settings) (few many : ℕ → List ℕ �
 reached_grown count s few many old new lanes plan h more shows r = record {
   pages = r.pages;
   shown = shows r.pages r.shown;
-  bears = bears_grown (TreeLies count) (tree_grows count) s few many more plan.head r.pages h r.bears;
+  head_represents = head_represents_grown (TreeLocated count) (tree_grows count) s few many more plan.head r.pages h r.head_represents;
   mirrors = r.mirrors;
   first = r.first;
 }
@@ -115,9 +115,9 @@ advances_then count s few many old new lanes plan after h a step =
 
 -- ---- and the head is laid over page 0
 
-pub plans_move : (count : ℕ) (s : Settings) (settled : ℕ → List ℕ → Type 0) (mid new : List (List ℕ) → Type 0) (lanes : List Waiting) (plan : Plan) (told : Application) (h : History) → told.head ≡ plan.head → told.ahead ≡ plan.ahead
-    → IsHead plan.head → ((pages : List (List ℕ)) → mid pages → 0 < length pages) → ((pages : List (List ℕ)) → mid pages → new (slice_set pages 0 (head_octets plan.head))) → Advances count s settled mid lanes plan h → PlansMove count s settled new lanes told h
-plans_move count s settled mid new lanes plan told h head ahead valid some written a =
+pub plans_move : (count : ℕ) (s : Settings) (settled : ℕ → List ℕ → Type 0) (mid new : List (List ℕ) → Type 0) (lanes : List Waiting) (plan : Plan) (reported : Application) (h : History) → reported.head ≡ plan.head → reported.ahead ≡ plan.ahead
+    → IsHead plan.head → ((pages : List (List ℕ)) → mid pages → 0 < length pages) → ((pages : List (List ℕ)) → mid pages → new (slice_set pages 0 (head_octets plan.head))) → Advances count s settled mid lanes plan h → PlansMove count s settled new lanes reported h
+plans_move count s settled mid new lanes plan reported h head ahead valid some written a =
     let r = a.reached in
     record {
       after = a.after;
@@ -128,9 +128,9 @@ plans_move count s settled mid new lanes plan told h head ahead valid some writt
         headed = record {
           valid = valid;
           first = get_or-set_same r.pages 0 (head_octets plan.head) [] (some r.pages r.shown);
-          bears = bears_headed (TreeLies count) s settled (tree_framed count settled) plan.head r.pages (set r.pages 0 (head_octets plan.head)) a.after (length-set r.pages 0 (head_octets plan.head))
-              (λ n ge. get_or-set_other r.pages 0 n (head_octets plan.head) [] (let other : n ≢ 0 = omega arith in other)) r.bears;
+          head_represents = head_represents_headed (TreeLocated count) s settled (tree_framed count settled) plan.head r.pages (set r.pages 0 (head_octets plan.head)) a.after (length-set r.pages 0 (head_octets plan.head))
+              (λ n ge. get_or-set_other r.pages 0 n (head_octets plan.head) [] (let other : n ≢ 0 = omega arith in other)) r.head_represents;
         };
       });
-      mirrors = subst (λ (ns : List ℕ). Mirrors (behind ns lanes) a.after) (sym ahead) r.mirrors;
+      mirrors = subst (λ (ns : List ℕ). Mirrors (beyond ns lanes) a.after) (sym ahead) r.mirrors;
     }

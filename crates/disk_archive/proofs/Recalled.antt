@@ -23,12 +23,12 @@ use Rattle.archive_head.specs.Head.{Contents}
 use Rattle.intake.specs.Ring.{Holds, time_of}
 use Rattle.archive_pages.specs.declared.settings.Settings.{Settings}
 use Rattle.archive_pages.specs.Places.{ring_of}
-use Rattle.archive_pages.specs.Carried.{Bears, LaneStands}
+use Rattle.archive_pages.specs.Represented.{HeadRepresents, LaneStands}
 use Rattle.archive_pages.proofs.api.Histories.{part_of_all}
 use Rattle.disk_archive.specs.declared.open_error.OpenError.{OpenError}
 use Rattle.disk_archive.specs.declared.open_error.OpenError.TheVariants as openings
 use Rattle.disk_archive.specs.Mirrors.{Mirrors}
-use Rattle.disk_archive.specs.Trees.{TreeLies}
+use Rattle.disk_archive.specs.Trees.{TreeLocated}
 use Rattle.disk_archive.specs.inner.Recalling.{IsUnknown, KnowsMarks, KnowsTimes}
 use Rattle.disk_archive.proofs.Mirroring.{intake_at, map_get, part_there}
 use Rattle.disk_archive.proofs.Plans.{lane_at}
@@ -153,8 +153,8 @@ marks_long lanes = length-map lanes (λ (w : Waiting). w.mark)
 times_long : (lanes : List Waiting) → length (waiting_times lanes) ≡ length lanes
 times_long lanes = length-map lanes (λ (w : Waiting). w.times)
 
-pub knows_none : (told : List Lane) (lanes : List Waiting) (n : ℕ) → length told ≡ n → marks lanes ≡ replicate n 0 → waiting_times lanes ≡ replicate n [] → KnowsMarks told lanes 0
-knows_none told lanes n long m t = record {
+pub knows_none : (reported : List Lane) (lanes : List Waiting) (n : ℕ) → length reported ≡ n → marks lanes ≡ replicate n 0 → waiting_times lanes ≡ replicate n [] → KnowsMarks reported lanes 0
+knows_none reported lanes n long m t = record {
   count = (let a = marks_long lanes in let b = ap length m in let d = length-replicate {A = ℕ} n 0 in omega (arith, a, b, d, long));
   marks = λ c lane lt at. absurd (omega (arith, lt));
   others = λ c ge lt. record {
@@ -163,16 +163,16 @@ knows_none told lanes n long m t = record {
   };
 }
 
-pub knows_more : (told : List Lane) (lanes new : List Waiting) (k : ℕ) (lane : Lane) (ts : List ℕ) → KnowsMarks told lanes k → slice_get told k ≡ Some lane → marks new ≡ slice_set (marks lanes) k lane.mark → waiting_times new ≡ slice_set (waiting_times lanes) k ts → KnowsMarks told new (k + 1)
-knows_more told lanes new k lane ts knows here m t =
-    let low = slice_get_within told k lane here in
+pub knows_more : (reported : List Lane) (lanes new : List Waiting) (k : ℕ) (lane : Lane) (ts : List ℕ) → KnowsMarks reported lanes k → slice_get reported k ≡ Some lane → marks new ≡ slice_set (marks lanes) k lane.mark → waiting_times new ≡ slice_set (waiting_times lanes) k ts → KnowsMarks reported new (k + 1)
+knows_more reported lanes new k lane ts knows here m t =
+    let low = slice_get_within reported k lane here in
     let count = knows.count in
     let long = marks_long lanes in
     record {
       count = (let a = marks_long new in let b = ap length m in let d = long_set (marks lanes) k lane.mark in omega (arith, a, b, d, long, count));
       marks = λ c l lt at. ⊎_elim
           (λ (e : c ≡ k).
-          let same : l ≡ lane = one_there (slice_get told k) l lane (subst (λ j. slice_get told j ≡ Some l) e at) here in
+          let same : l ≡ lane = one_there (slice_get reported k) l lane (subst (λ j. slice_get reported j ≡ Some l) e at) here in
           let set : slice_get (slice_set (marks lanes) k lane.mark) k ≡ Some lane.mark = set_here (marks lanes) k lane.mark (omega (arith, low, count, long)) in
           subst (λ j. slice_get (marks new) j ≡ Some l.mark) (sym e) (ap (λ (x : List ℕ). slice_get x k) m ∙ set ∙ ap (λ (x : Lane). Some x.mark) (sym same)))
           (λ (ne : c ≢ k). ap (λ (x : List ℕ). slice_get x c) m ∙ set_beside (marks lanes) k c lane.mark ne ∙ knows.marks c l (omega (arith, lt, ne)) at)
@@ -186,14 +186,14 @@ knows_more told lanes new k lane ts knows here m t =
           };
     }
 
-pub times_more : (s : Settings) (told : List Lane) (shown : List (List ℕ)) (lanes new : List Waiting) (k : ℕ) (ts : List ℕ) → KnowsMarks told lanes k → k < length told → KnowsTimes s told shown lanes k → waiting_times new ≡ slice_set (waiting_times lanes) k ts
-    → ((lane : Lane) (waits : List Admitted) → slice_get told k ≡ Some lane → Holds shown (ring_of s k lane) waits → ts ≡ map time_of waits) → KnowsTimes s told shown new (k + 1)
-times_more s told shown lanes new k ts marks low knows t is c lane waits lt at holds = ⊎_elim
+pub times_more : (s : Settings) (reported : List Lane) (shown : List (List ℕ)) (lanes new : List Waiting) (k : ℕ) (ts : List ℕ) → KnowsMarks reported lanes k → k < length reported → KnowsTimes s reported shown lanes k → waiting_times new ≡ slice_set (waiting_times lanes) k ts
+    → ((lane : Lane) (waits : List Admitted) → slice_get reported k ≡ Some lane → Holds shown (ring_of s k lane) waits → ts ≡ map time_of waits) → KnowsTimes s reported shown new (k + 1)
+times_more s reported shown lanes new k ts marks low knows t is c lane waits lt at holds = ⊎_elim
     (λ (e : c ≡ k).
     let count = marks.count in
     let long = times_long lanes in
     let held : Holds shown (ring_of s k lane) waits = subst (λ j. Holds shown (ring_of s j lane) waits) e holds in
-    let same : ts ≡ map time_of waits = is lane waits (subst (λ j. slice_get told j ≡ Some lane) e at) held in
+    let same : ts ≡ map time_of waits = is lane waits (subst (λ j. slice_get reported j ≡ Some lane) e at) held in
     subst (λ j. slice_get (waiting_times new) j ≡ Some (map time_of waits)) (sym e)
     (ap (λ (x : List (List ℕ)). slice_get x k) t ∙ set_here (waiting_times lanes) k ts (omega (arith, low, count, long)) ∙ ap (λ (x : List ℕ). Some x) same))
     (λ (ne : c ≢ k). ap (λ (x : List (List ℕ)). slice_get x c) t ∙ set_beside (waiting_times lanes) k c ts ne ∙ knows c lane waits (omega (arith, lt, ne)) at holds)
@@ -243,7 +243,7 @@ pub record Own (s : Settings) (shown : List (List ℕ)) (c : ℕ) (lane : Lane) 
   pub here : slice_get h.intakes c ≡ Some intake
   pub stands : LaneStands s shown c lane intake (part c (waiting h))
 
-pub own_of : (count : ℕ) (s : Settings) (o : OnceState) (head : Contents) (shown : List (List ℕ)) (h : History) (c : ℕ) (lane : Lane) → Bears (TreeLies count) s (settled_in o) head shown h → slice_get head.lanes c ≡ Some lane → Own s shown c lane h
+pub own_of : (count : ℕ) (s : Settings) (o : OnceState) (head : Contents) (shown : List (List ℕ)) (h : History) (c : ℕ) (lane : Lane) → HeadRepresents (TreeLocated count) s (settled_in o) head shown h → slice_get head.lanes c ≡ Some lane → Own s shown c lane h
 own_of count s o head shown h c lane b at =
     let within = slice_get_within head.lanes c lane at in
     let n = b.number in
@@ -252,7 +252,7 @@ own_of count s o head shown h c lane b at =
     record { intake = i.0; here = i.1; stands = b.lanes c lane i.0 at i.1 }
 
 -- all collectors are known
-pub mirrors_known : (count : ℕ) (s : Settings) (o : OnceState) (head : Contents) (shown : List (List ℕ)) (h : History) (lanes : List Waiting) (known : ℕ) → Bears (TreeLies count) s (settled_in o) head shown h → length head.lanes ≤ known → KnowsMarks head.lanes lanes known → KnowsTimes s head.lanes shown lanes known → Mirrors lanes h
+pub mirrors_known : (count : ℕ) (s : Settings) (o : OnceState) (head : Contents) (shown : List (List ℕ)) (h : History) (lanes : List Waiting) (known : ℕ) → HeadRepresents (TreeLocated count) s (settled_in o) head shown h → length head.lanes ≤ known → KnowsMarks head.lanes lanes known → KnowsTimes s head.lanes shown lanes known → Mirrors lanes h
 mirrors_known count s o head shown h lanes known b all knows times =
     let n = b.number in
     let m = b.lanes_number in

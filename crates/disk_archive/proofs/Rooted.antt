@@ -8,9 +8,9 @@ use Rattle.version_model.specs.Versions.{Version}
 use Rattle.version_model.specs.Pages.{PageNode, Keys, Store, StandsIn, all_keys, ColumnNode, KeyNode, column, key_node}
 use Rattle.archive_head.specs.Head.{Contents}
 use Rattle.archive_pages.specs.declared.settings.Settings.{Settings}
-use Rattle.archive_pages.specs.Carried.{Bears}
+use Rattle.archive_pages.specs.Represented.{HeadRepresents}
 use Rattle.archive_pages.specs.Places.{tree_low}
-use Rattle.disk_archive.specs.Trees.{TreeLies}
+use Rattle.disk_archive.specs.Trees.{TreeLocated}
 use Rattle.disk_archive.specs.inner.Recalling.{HasRoot}
 use Rattle.disk_archive.proofs.api.Trees.{not_own}
 
@@ -24,7 +24,7 @@ used_by : (s : Store) (all : List Version) (level : ℕ) (keys : Keys) (page : �
 used_by s all _ _ _ (column keys page c) = record { node = ColumnNode keys c.parts c.start c.current; here = c.at; used = c.in_limit }
 used_by s all _ _ _ (key_node level keys page children in_limit at are stand) = record { node = KeyNode (suc level) keys children; here = at; used = in_limit }
 
-pub rooted : (count : ℕ) (s : Settings) (o : OnceState) (head : Contents) (shown : List (List ℕ)) (h : History) → Bears (TreeLies count) s (settled_in o) head shown h → HasRoot (length shown) s head
+pub rooted : (count : ℕ) (s : Settings) (o : OnceState) (head : Contents) (shown : List (List ℕ)) (h : History) → HeadRepresents (TreeLocated count) s (settled_in o) head shown h → HasRoot (length shown) s head
 rooted count s o head shown h b =
     let t = b.tree in
     let u = used_by t.store b.versions t.level all_keys head.root t.has.stands.stands in

@@ -18,6 +18,6 @@ fell_by before now e uses.Fault up down same recovery = refl
 fell_by before now e uses.NeedsRecovery up down same recovery = absurd (true≢false (sym down ∙ (same (λ f. let is = recovery refl in cc) ∙ up)))
 
 -- what a call returns whose commit failed
-pub told_fault : {X E : Type 0} (r : Result X E) (of : UseError → E) (e : UseError) → IsErrAnd r (λ y. y ≡ of e) → e ≡ uses.Fault → r ≡ Err (of uses.Fault)
-told_fault (Ok x) of e is fault = absurd is
-told_fault (Err y) of e is fault = ap (λ z. Err z) (is ∙ ap of fault)
+pub reported_fault : {X E : Type 0} (r : Result X E) (of : UseError → E) (e : UseError) → IsErrAnd r (λ y. y ≡ of e) → e ≡ uses.Fault → r ≡ Err (of uses.Fault)
+reported_fault (Ok x) of e is fault = absurd is
+reported_fault (Err y) of e is fault = ap (λ z. Err z) (is ∙ ap of fault)

@@ -1,4 +1,4 @@
--- Pages that are shown after a change is applied carry the history as it is then.
+-- Pages that are shown after a change is applied represent the history as it is then.
 use Rattle.std.proofs.Common.{◌≡◌, ◌<◌, ◌≤◌, ◌↔◌, ℕ, zero, suc, ◌+◌, List, [], ◌∷◌, ◌++◌, length, take, drop, map, Bool, true, refl, sym, ◌∙◌, ap, subst, inl, inr, true≢false, arith, Some, append-nil, length-set}
 use Rattle.std.specs.List.{AllByRecursion, slice_get}
 use Rattle.std.proofs.lemmas.Bool.{cases_lt, eq-eqb}
@@ -20,11 +20,11 @@ use Rattle.disk_archive.proofs.Mirroring.{intake_at}
 use Rattle.disk_archive.proofs.Plans.{lane_at}
 use Rattle.archive_head.specs.Head.{Contents}
 use Rattle.archive_pages.specs.declared.settings.Settings.{Settings}
-use Rattle.archive_pages.specs.Carried.{Bears, last_time}
+use Rattle.archive_pages.specs.Represented.{HeadRepresents, last_time}
 use Rattle.archive_pages.specs.Changes.{Takes, next_change}
 use Rattle.archive_pages.specs.Batches.{HasLane}
 use Rattle.archive_pages.proofs.api.Passing.{Passes, steps_passed}
-use Rattle.disk_archive.specs.Trees.{TreeLies}
+use Rattle.disk_archive.specs.Trees.{TreeLocated}
 use Rattle.disk_archive.specs.Moves.{Moves}
 use Rattle.disk_archive.specs.inner.Applications.{TreeTakes, TakesNext, MovesOn}
 
@@ -54,11 +54,11 @@ moves_then h m g k moves = let r = more_then k.more k.first m g k.others moves i
 
 -- the tree took the next change, and the head passed over it
 pub moves_on : (count : ℕ) (s : Settings) (settled few : ℕ → List ℕ → Type 0) (shows : List (List ℕ) → Type 0) (head after : Contents) (whole : Bool) (root fresh block : ℕ) (shown : List (List ℕ)) (h : History) (c : ℕ) (first : Admitted) (later : List (Placed Admitted)) (lane : Lane)
-    → (b : Bears (TreeLies count) s few head shown h) → waiting h ≡ placed c first ∷ later → IsBelowMarks h first.time → HasLane head c lane → Passes s head after (placed c first) fresh block root
+    → (b : HeadRepresents (TreeLocated count) s few head shown h) → waiting h ≡ placed c first ∷ later → IsBelowMarks h first.time → HasLane head c lane → Passes s head after (placed c first) fresh block root
     → ((whole ≡ true) ↔ (length first.changes ≤ suc head.begun)) → TakesNext count s settled shows head (placed c first) root fresh block b.versions shown → MovesOn count s settled shows after whole h
 moves_on count s settled few shows head after whole root fresh block shown h c first later lane b here below at passes is k =
     let t = k.takes in
-    let Tree = TreeLies count in
+    let Tree = TreeLocated count in
     let takes : Takes Tree s settled head after head.begun (placed c first) b.versions shown t.pages = elim (cases_lt (suc head.begun) (length first.changes)) [
       | inl lt ↦ subst (λ (x : Contents). Takes Tree s settled head x head.begun (placed c first) b.versions shown t.pages) (sym (passes.stays lt)) (record { more = k.more; versions = k.versions; changes = t.changes; tree = t.tree })
       | inr ge ↦ subst (λ (x : Contents). Takes Tree s settled head x head.begun (placed c first) b.versions shown t.pages) (sym (passes.leaves ge lane at)) (record { more = k.more; versions = k.versions; changes = t.changes; tree = t.tree })
@@ -81,7 +81,7 @@ moves_on count s settled few shows head after whole root fresh block shown h c f
       leaves = λ all. a.whole (let le = is.0 all in omega (arith, le, changes, some));
       pages = t.pages;
       shown = t.shown;
-      bears = done.bears;
+      head_represents = done.head_represents;
     }
 
 -- ---- the first that waits
@@ -94,7 +94,7 @@ pub record Front (s : Settings) (head : Contents) (pages : List (List ℕ)) (c :
   pub rest : List Admitted
   pub holds : Holds pages (ring_of s c lane) (first ∷ rest)
 
-pub front_holds : (count : ℕ) (s : Settings) (settled : ℕ → List ℕ → Type 0) (head : Contents) (pages : List (List ℕ)) (h : History) (c : ℕ) (first : Admitted) (later : List (Placed Admitted)) → c < length head.lanes → Bears (TreeLies count) s settled head pages h → waiting h ≡ placed c first ∷ later → Front s head pages c first
+pub front_holds : (count : ℕ) (s : Settings) (settled : ℕ → List ℕ → Type 0) (head : Contents) (pages : List (List ℕ)) (h : History) (c : ℕ) (first : Admitted) (later : List (Placed Admitted)) → c < length head.lanes → HeadRepresents (TreeLocated count) s settled head pages h → waiting h ≡ placed c first ∷ later → Front s head pages c first
 front_holds count s settled head pages h c first later low b here =
     let lane = lane_at c head.lanes low in
     let i = intake_at c h.intakes (let n = b.number in let m = b.lanes_number in omega (arith, n, m, low)) in
@@ -103,13 +103,13 @@ front_holds count s settled head pages h c first later low b here =
     record { lane = lane.0; at = lane.1; ring = own.place; rest = part c later; holds = subst (Holds pages (ring_of s c lane.0)) waits own.holds }
 
 pub first_is : (h : History) (c : ℕ) (first a : Admitted) (later : List (Placed Admitted)) (rest : List Admitted) → waiting h ≡ placed c first ∷ later → slice_get (first ∷ rest) 0 ≡ Some a → waiting h ≡ placed c a ∷ later
-first_is h c first a later rest here told = let same : first ≡ a = cc in here ∙ ap (λ (x : Admitted). placed c x ∷ later) same
+first_is h c first a later rest here reported = let same : first ≡ a = cc in here ∙ ap (λ (x : Admitted). placed c x ∷ later) same
 
 -- ---- what the tree took
 
 -- no change is left: the tree is as it was
 pub takes_none : (count : ℕ) (s : Settings) (settled : ℕ → List ℕ → Type 0) (shows : List (List ℕ) → Type 0) (head : Contents) (next : Placed Admitted) (versions : List Version) (shown : List (List ℕ)) → next_change head.begun next ≡ [] → shows shown
-    → TreeLies count shown settled (tree_low s) head.root head.fresh head.block (stamp_of head.last head.applied) versions → TakesNext count s settled shows head next head.root head.fresh head.block versions shown
+    → TreeLocated count shown settled (tree_low s) head.root head.fresh head.block (stamp_of head.last head.applied) versions → TakesNext count s settled shows head next head.root head.fresh head.block versions shown
 takes_none count s settled shows head next versions shown none there t = record {
   more = [];
   versions = subst (λ (ts : List Timed). AreVersions head.applied ts []) (sym none) tt;
@@ -119,9 +119,9 @@ takes_none count s settled shows head next versions shown none there t = record 
     changes = record { count = refl; below = λ n lt. refl };
     tree =
         let same : head.applied ≡ head.applied + 0 = omega arith in
-        subst (λ (ts : List Timed). TreeLies count shown settled (tree_low s) head.root head.fresh head.block (stamp_of (last_time head.last ts) (head.applied + length ts)) (versions ++ [])) (sym none)
-        (subst (λ (vs : List Version). TreeLies count shown settled (tree_low s) head.root head.fresh head.block (stamp_of head.last (head.applied + 0)) vs) (sym (append-nil versions))
-        (subst (λ (n : ℕ). TreeLies count shown settled (tree_low s) head.root head.fresh head.block (stamp_of head.last n) versions) same t));
+        subst (λ (ts : List Timed). TreeLocated count shown settled (tree_low s) head.root head.fresh head.block (stamp_of (last_time head.last ts) (head.applied + length ts)) (versions ++ [])) (sym none)
+        (subst (λ (vs : List Version). TreeLocated count shown settled (tree_low s) head.root head.fresh head.block (stamp_of head.last (head.applied + 0)) vs) (sym (append-nil versions))
+        (subst (λ (n : ℕ). TreeLocated count shown settled (tree_low s) head.root head.fresh head.block (stamp_of head.last n) versions) same t));
   };
 }
 
@@ -175,7 +175,7 @@ begun_low zero t ps p qs e = tt
 begun_low (suc n) t [] p qs e = tt
 begun_low (suc n) t (x ∷ ps) p qs e = (let same : x ≡ p = cc in let times = ap time_of same in omega (arith, times), tt)
 
-pub last_no_later : (count : ℕ) (s : Settings) (settled : ℕ → List ℕ → Type 0) (head : Contents) (pages : List (List ℕ)) (h : History) (next : Placed Admitted) (later : List (Placed Admitted)) → Bears (TreeLies count) s settled head pages h → waiting h ≡ next ∷ later → head.last ≤ time_of next
+pub last_no_later : (count : ℕ) (s : Settings) (settled : ℕ → List ℕ → Type 0) (head : Contents) (pages : List (List ℕ)) (h : History) (next : Placed Admitted) (later : List (Placed Admitted)) → HeadRepresents (TreeLocated count) s settled head pages h → waiting h ≡ next ∷ later → head.last ≤ time_of next
 last_no_later count s settled head pages h next later b here =
     let rises : IsRising time_of (all_of h) = rises_by_time time_of (all_placed 0 (map (λ (i : Intake). i.admitted) h.intakes)) in
     let all : AllByRecursion (λ q. time_of q ≤ time_of next) (applied h) =

@@ -10,11 +10,11 @@ use Rattle.route_meaning.specs.History.{History}
 use Rattle.route_meaning.proofs.api.Beginning.{Begins-trans}
 use Rattle.disk_archive.specs.declared.archive.Archive.{Archive}
 use Rattle.disk_archive.specs.Sites.{LeftFrom}
-use Rattle.disk_archive.specs.Archives.{Carries, Stands, IsHonest, erase_state, once_state, site_of, is_down}
+use Rattle.disk_archive.specs.Archives.{Represents, Stands, IsHonest, erase_state, once_state, site_of, is_down}
 use Rattle.disk_archive.specs.Crashes.{Crashes, Lasts}
 use Rattle.disk_archive.specs.inner.Idle.{IsAsBefore}
 use Rattle.disk_archive.proofs.Calling.{AllSound}
-use Rattle.disk_archive.proofs.Telling.{waits_same}
+use Rattle.disk_archive.proofs.Reporting.{waits_same}
 
 -- what follows from whatever a crash left
 pub crashes_weaker : {E O Pen Seen : Type 0} {erase : EraseGhosts E} {once : OnceGhosts O Pen Seen} (a z : Archive E O Pen Seen erase once) (P Q : Left → Type 0) → ((left : Left) → P left → Q left) → Crashes a z P → Crashes a z Q
@@ -23,7 +23,7 @@ crashes_weaker a z P Q weaker c = record { later = c.later; each = λ left pair.
 -- A call that goes on with a history that the one from before begins, in each crash too, and does nothing while the archive must be opened
 -- again.
 pub lasts_steps : {E O Pen Seen : Type 0} {erase : EraseGhosts E} {once : OnceGhosts O Pen Seen} (a z : Archive E O Pen Seen erase once) → AllSound erase → (IsHonest a → IsHonest z) → (is_down a ≡ true → IsAsBefore a z)
-    → ((g : History) → Carries a g → Stands z g) → ((g : History) → Carries a g → Crashes a z (LeftFrom (site_of a) g)) → (h : History) → Stands a h → Lasts a z h
+    → ((g : History) → Represents a g → Stands z g) → ((g : History) → Represents a g → Crashes a z (LeftFrom (site_of a) g)) → (h : History) → Stands a h → Lasts a z h
 lasts_steps {erase = erase} a z sound honest idle after crash h stands =
     let g = stands.0 in
     ⊎_elim

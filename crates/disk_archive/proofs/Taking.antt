@@ -18,7 +18,7 @@ use Rattle.tsb_tree.specs.Trees.{TreeHas, TreeShown}
 use Rattle.tsb_tree.specs.Inserted.{TakenIn}
 use Rattle.tsb_tree.specs.declared.tree.TreePlace.{TreePlace}
 use Rattle.intake.specs.Ring.{page_at}
-use Rattle.disk_archive.specs.Trees.{TreeLies}
+use Rattle.disk_archive.specs.Trees.{TreeLocated}
 use Rattle.disk_archive.specs.inner.Applications.{TreeTakes}
 
 -- ---- up to where pages and blocks are in use
@@ -92,7 +92,7 @@ page_of (x ∷ old) (y ∷ new) (suc n) e = page_of old new n e
 -- the pages of a transaction and the blocks of a shelf show the archive's tree, where it was opened
 module _ {P : Type 0} (pages : Ghosts P) (held : P) {O Pen Seen : Type 0} (device : OnceGhosts O Pen Seen) (shelf : Shelf O Pen Seen) (start : Start) (shown : List (List ℕ)) (low root fresh block stamp : ℕ) (versions : List Version)
     (shows : pages.shows held start shown) (honest : device.honest (disk_of shelf) (pen_of shelf)) (count : length shown ≡ pages.homes held) (next : pages.next held ≡ min fresh (pages.homes held)) (onward : block ≤ next_of shelf)
-    (t : TreeLies (device.block_count (disk_of shelf)) shown (settled_in (device.model (pen_of shelf))) low root fresh block stamp versions) where
+    (t : TreeLocated (device.block_count (disk_of shelf)) shown (settled_in (device.model (pen_of shelf))) low root fresh block stamp versions) where
   pub has_here : TreeHas (store_at t.store (pages.next held) (next_of shelf)) versions root t.level stamp
   has_here =
       let wide = has_wider t.store versions root t.level stamp (length shown) (next_of shelf) (shown_below shown t.store.nodes t.says) (let n = t.next in omega (arith, n, onward)) t.has in
@@ -104,7 +104,7 @@ module _ {P : Type 0} (pages : Ghosts P) (held : P) {O Pen Seen : Type 0} (devic
     store = store_at t.store (pages.next held) (next_of shelf);
     is = record {
       shows = shows;
-      tells = t.says;
+      reports = t.says;
       limit = refl;
       honest = honest;
       says = record { each = λ n node here. (let b = t.blocks n node here in record { inside = b.inside; octets = b.octets; settled = b.here; says = b.says }) };
@@ -138,7 +138,7 @@ module _ {P : Type 0} (pages : Ghosts P) (held : P) {O Pen Seen : Type 0} (devic
     tree = record {
       level = now.level;
       store = k.tree.store;
-      says = k.tree.is.tells;
+      says = k.tree.is.reports;
       own = λ page lt. k.silent page (let u = low_used in omega (arith, lt, u)) (t.own page lt);
       limit = k.tree.is.limit;
       blocks = λ n node here. (let b = k.tree.is.says.each n node here in record { inside = subst (λ d. n < device.block_count d) disk b.inside; octets = b.octets; here = b.settled; says = b.says });

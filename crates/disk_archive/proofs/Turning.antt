@@ -7,7 +7,7 @@ use Rattle.page_tx.specs.declared.pages.Pages.{Ghosts}
 use Rattle.page_tx.specs.Start.{Start}
 use Rattle.route_model.specs.Admission.{Admitted}
 use Rattle.route_model.specs.Prefix.{IsPrefix}
-use Rattle.route_model.specs.Spelling.{IsPeer}
+use Rattle.route_model.specs.Encoding.{IsPeer}
 use Rattle.route_meaning.specs.declared.question.Event.{Event}
 use Rattle.route_meaning.specs.declared.question.EventsQuestion.{EventsQuestion}
 use Rattle.route_meaning.specs.declared.question.Row.{Row}
@@ -29,8 +29,8 @@ use Rattle.route_meaning.specs.Holds.{time_of}
 use Rattle.version_model.specs.Pages.{Store}
 use Rattle.disk_archive.proofs.Asking.{rises_applied}
 use Rattle.route_history.specs.Fronts.{front_number}
-use Rattle.route_history.specs.Spans.{HasTold, HasToldSo, IsSameTelling, TellsEvents}
-use Rattle.route_history.specs.Walks.{Gathered, IsGathered as IsGatheredRows, IsSame, Tells, Rose}
+use Rattle.route_history.specs.Spans.{HasReported, HasReportedSo, IsSameReporting, ReportsEvents}
+use Rattle.route_history.specs.Walks.{Gathered, IsGathered as IsGatheredRows, IsSame, Reports, Rose}
 use Rattle.route_model.specs.Keys.{key_number, session_number}
 use Rattle.tsb_walk.specs.declared.error.NodeError.{NodeError}
 use Rattle.tsb_walk.specs.declared.error.NodeError.TheVariants as nodes
@@ -50,14 +50,14 @@ use Rattle.tree_questions.specs.Turning.{ShowsTree, TurnsRows, TurnsEvents, Goes
 use Rattle.archive_pages.specs.Places.{tree_low}
 use Rattle.route_history.specs.Stamps.{stamp_of}
 use Rattle.disk_archive.specs.declared.archive.Archive.{Archive}
-use Rattle.disk_archive.specs.Archives.{Carries, Holds, IsHonest, is_down, once_of, once_state}
+use Rattle.disk_archive.specs.Archives.{Represents, Holds, IsHonest, is_down, once_of, once_state}
 use Rattle.disk_archive.proofs.Calling.{start_of}
 use Rattle.disk_archive.specs.declared.cursor.Cursor.{Cursor}
 use Rattle.disk_archive.specs.declared.cursor.Cursor.TheVariants.{Rows, Events}
 use Rattle.disk_archive.specs.declared.errand.Errand.{Errand}
 use Rattle.disk_archive.specs.declared.errand.Errand.TheVariants as errands
 use Rattle.disk_archive.specs.Cursors.{IsGathered, SaysSame}
-use Rattle.disk_archive.specs.Descents.{Descends, GoesFurther, ReadsBelow, Lies, LiesKnown}
+use Rattle.disk_archive.specs.Descents.{Descends, GoesFurther, ReadsBelow, Located, LocatedKnown}
 use Rattle.disk_archive.specs.inner.Descending.{HasPages, of_rows, of_events}
 
 -- ---- what was gathered over one list of versions, and over each later history
@@ -68,27 +68,27 @@ RowsStay = (h g : History) (all new : List Version) (c : RowsCursor) → IsHisto
 
 -- and those of a history
 abbrev pub EventsStay : Type 0
-EventsStay = (h g : History) (all new : List Version) (c : EventsCursor) → IsHistory h → IsHistory g → Begins h g → c.question.to < settled h → IsPeer c.question.peer → IsPrefix c.question.prefix → Kept (applied h) all → Kept (applied g) new → HasToldSo all (applied h) c → HasToldSo new (applied g) c
+EventsStay = (h g : History) (all new : List Version) (c : EventsCursor) → IsHistory h → IsHistory g → Begins h g → c.question.to < settled h → IsPeer c.question.peer → IsPrefix c.question.prefix → Kept (applied h) all → Kept (applied g) new → HasReportedSo all (applied h) c → HasReportedSo new (applied g) c
 
 -- what versions of applied changes give
-abbrev pub RowsTell : Type 0
-RowsTell = (ps : List (Placed Admitted)) (all : List Version) (moment : ℕ) → IsRising time_of ps → Kept ps all → Tells all ps moment
+abbrev pub RowsReport : Type 0
+RowsReport = (ps : List (Placed Admitted)) (all : List Version) (moment : ℕ) → IsRising time_of ps → Kept ps all → Reports all ps moment
 
-abbrev pub EventsTell : Type 0
-EventsTell = (ps : List (Placed Admitted)) (all : List Version) (q : EventsQuestion) → IsRising time_of ps → Kept ps all → IsPeer q.peer → IsPrefix q.prefix → TellsEvents all ps q
+abbrev pub EventsReport : Type 0
+EventsReport = (ps : List (Placed Admitted)) (all : List Version) (q : EventsQuestion) → IsRising time_of ps → Kept ps all → IsPeer q.peer → IsPrefix q.prefix → ReportsEvents all ps q
 
 module _ (h : History) (right : IsHistory h) (all : List Version) (kept : Kept (applied h) all) where
   -- over the versions of the history itself
   pub rows_now : (c : RowsCursor) → IsGathered (Rows c) h → Gathered all (applied h) c
   rows_now c g = g h right (Begins-refl h) all kept
 
-  pub events_now : (c : EventsCursor) → IsGathered (Events c) h → HasToldSo all (applied h) c
+  pub events_now : (c : EventsCursor) → IsGathered (Events c) h → HasReportedSo all (applied h) c
   events_now c g = g h right (Begins-refl h) all kept
 
   pub rows_later : RowsStay → (c : RowsCursor) → c.question.moment < settled h → Gathered all (applied h) c → IsGathered (Rows c) h
   rows_later stay c below g = λ k on begins new later. stay h k all new c right on begins below kept later g
 
-  pub events_later : EventsStay → (c : EventsCursor) → c.question.to < settled h → IsPeer c.question.peer → IsPrefix c.question.prefix → HasToldSo all (applied h) c → IsGathered (Events c) h
+  pub events_later : EventsStay → (c : EventsCursor) → c.question.to < settled h → IsPeer c.question.peer → IsPrefix c.question.prefix → HasReportedSo all (applied h) c → IsGathered (Events c) h
   events_later stay c below peer prefix g = λ k on begins new later. stay h k all new c right on begins below peer prefix kept later g
 
 -- ---- turns
@@ -99,73 +99,73 @@ Reads pages held held' = (start : Start) (shown : List (List ℕ)) → pages.sho
 
 -- what turns give
 abbrev pub GathersRows : {P : Type 0} (pages : Ghosts P) → P → PagePlace → ℕ → RowsCursor → RowsCursor → Type 0
-GathersRows pages held place burnt c d = (store : Store) (all : List Version) (ps : List (Placed Admitted)) → ShowsTree pages held place burnt store all → Tells all ps c.question.moment → Gathered all ps c → Gathered all ps d
+GathersRows pages held place burnt c d = (store : Store) (all : List Version) (ps : List (Placed Admitted)) → ShowsTree pages held place burnt store all → Reports all ps c.question.moment → Gathered all ps c → Gathered all ps d
 
 abbrev pub GivesRows : {P : Type 0} (pages : Ghosts P) → P → PagePlace → ℕ → RowsCursor → RowsCursor → RowsTurn → Type 0
-GivesRows pages held place burnt c d turn = (store : Store) (all : List Version) (ps : List (Placed Admitted)) → ShowsTree pages held place burnt store all → Tells all ps c.question.moment → Gathered all ps c → TurnsRows store.blocks all ps c d turn
+GivesRows pages held place burnt c d turn = (store : Store) (all : List Version) (ps : List (Placed Admitted)) → ShowsTree pages held place burnt store all → Reports all ps c.question.moment → Gathered all ps c → TurnsRows store.blocks all ps c d turn
 
 abbrev pub GathersEvents : {P : Type 0} (pages : Ghosts P) → P → PagePlace → ℕ → EventsCursor → EventsCursor → Type 0
-GathersEvents pages held place burnt c d = (store : Store) (all : List Version) (ps : List (Placed Admitted)) → ShowsTree pages held place burnt store all → TellsEvents all ps c.question → HasToldSo all ps c → HasToldSo all ps d
+GathersEvents pages held place burnt c d = (store : Store) (all : List Version) (ps : List (Placed Admitted)) → ShowsTree pages held place burnt store all → ReportsEvents all ps c.question → HasReportedSo all ps c → HasReportedSo all ps d
 
 abbrev pub GivesEvents : {P : Type 0} (pages : Ghosts P) → P → PagePlace → ℕ → EventsCursor → EventsCursor → EventsTurn → Type 0
-GivesEvents pages held place burnt c d turn = (store : Store) (all : List Version) (ps : List (Placed Admitted)) → ShowsTree pages held place burnt store all → TellsEvents all ps c.question → HasToldSo all ps c → TurnsEvents store.blocks all ps c d turn
+GivesEvents pages held place burnt c d turn = (store : Store) (all : List Version) (ps : List (Placed Admitted)) → ShowsTree pages held place burnt store all → ReportsEvents all ps c.question → HasReportedSo all ps c → TurnsEvents store.blocks all ps c d turn
 
 module _ {P : Type 0} (pages : Ghosts P) (held : P) (count : ℕ) (known : ℕ → Option (List ℕ)) (root block burnt : ℕ) (most : block ≤ burnt) (h : History) (t : HasPages pages held count known root block h) where
-  pub shows_tree : (held' : P) (place : PagePlace) → Reads pages held held' → StandsShown t.shown t.lies.store t.versions place
-      → ShowsTree pages held' place burnt t.lies.store t.versions
-  shows_tree held' place reads stands = record { start = t.start; shown = t.shown; shows = reads t.start t.shown t.shows; stands = stands; named = (let next = t.lies.next in omega (arith, next, most)); rising = t.lies.has.stands.rising }
+  pub shows_tree : (held' : P) (place : PagePlace) → Reads pages held held' → StandsShown t.shown t.located.store t.versions place
+      → ShowsTree pages held' place burnt t.located.store t.versions
+  shows_tree held' place reads stands = record { start = t.start; shown = t.shown; shows = reads t.start t.shown t.shows; stands = stands; named = (let next = t.located.next in omega (arith, next, most)); rising = t.located.has.stands.rising }
 
-  pub rows_descend : (c d : RowsCursor) → d.question ≡ c.question → c.question.moment < settled h → IsGathered (Rows d) h → (turn : RowsTurn) → TurnsRows t.lies.store.blocks t.versions (applied h) c d turn → Descends count known h (Rows c) (Rows d) (of_rows turn)
-  rows_descend c d same below g (rows.Done answer) told = told
-  rows_descend c d same below g rows.Again told = tt
-  rows_descend c d same below g (rows.Historical errand) told = record {
+  pub rows_descend : (c d : RowsCursor) → d.question ≡ c.question → c.question.moment < settled h → IsGathered (Rows d) h → (turn : RowsTurn) → TurnsRows t.located.store.blocks t.versions (applied h) c d turn → Descends count known h (Rows c) (Rows d) (of_rows turn)
+  rows_descend c d same below g (rows.Done answer) reported = reported
+  rows_descend c d same below g rows.Again reported = tt
+  rows_descend c d same below g (rows.Historical errand) reported = record {
     right = t.right;
     below = subst (λ (q : RowsQuestion). q.moment < settled h) (sym same) below;
     gathered = g;
     versions = t.versions;
     kept = t.kept;
-    says = t.lies.store.blocks;
-    are = t.lies.blocks;
-    stands = told.1;
+    says = t.located.store.blocks;
+    are = t.located.blocks;
+    stands = reported.1;
   }
 
-  pub events_descend : (c d : EventsCursor) → d.question ≡ c.question → c.question.to < settled h → IsGathered (Events d) h → (turn : EventsTurn) → TurnsEvents t.lies.store.blocks t.versions (applied h) c d turn → Descends count known h (Events c) (Events d) (of_events turn)
-  events_descend c d same below g (events.Done answer) told = told
-  events_descend c d same below g events.Again told = tt
-  events_descend c d same below g (events.Historical errand) told = record {
+  pub events_descend : (c d : EventsCursor) → d.question ≡ c.question → c.question.to < settled h → IsGathered (Events d) h → (turn : EventsTurn) → TurnsEvents t.located.store.blocks t.versions (applied h) c d turn → Descends count known h (Events c) (Events d) (of_events turn)
+  events_descend c d same below g (events.Done answer) reported = reported
+  events_descend c d same below g events.Again reported = tt
+  events_descend c d same below g (events.Historical errand) reported = record {
     right = t.right;
     below = subst (λ (q : EventsQuestion). q.to < settled h) (sym same) below;
     gathered = g;
     versions = t.versions;
     kept = t.kept;
-    says = t.lies.store.blocks;
-    are = t.lies.blocks;
-    stands = told.1;
+    says = t.located.store.blocks;
+    are = t.located.blocks;
+    stands = reported.1;
   }
 
   -- by what a turn does over its tree, and the laws of versions
-  pub rows_gathered : RowsTell → RowsStay → (held' : P) (place : PagePlace) → Reads pages held held' → StandsShown t.shown t.lies.store t.versions place → (c d : RowsCursor) → d.question ≡ c.question → c.question.moment < settled h → IsGathered (Rows c) h → GathersRows pages held' place burnt c d → IsGathered (Rows d) h
-  rows_gathered tell stay held' place reads stands c d same below g gathers =
+  pub rows_gathered : RowsReport → RowsStay → (held' : P) (place : PagePlace) → Reads pages held held' → StandsShown t.shown t.located.store t.versions place → (c d : RowsCursor) → d.question ≡ c.question → c.question.moment < settled h → IsGathered (Rows c) h → GathersRows pages held' place burnt c d → IsGathered (Rows d) h
+  rows_gathered report stay held' place reads stands c d same below g gathers =
       rows_later h t.right t.versions t.kept stay d (subst (λ (q : RowsQuestion). q.moment < settled h) (sym same) below)
-      (gathers t.lies.store t.versions (applied h) (shows_tree held' place reads stands) (tell (applied h) t.versions c.question.moment (rises_applied h) t.kept) (rows_now h t.right t.versions t.kept c g))
+      (gathers t.located.store t.versions (applied h) (shows_tree held' place reads stands) (report (applied h) t.versions c.question.moment (rises_applied h) t.kept) (rows_now h t.right t.versions t.kept c g))
 
-  pub rows_descends : RowsTell → RowsStay → (held' : P) (place : PagePlace) → Reads pages held held' → StandsShown t.shown t.lies.store t.versions place → (c d : RowsCursor) (turn : RowsTurn) → d.question ≡ c.question → c.question.moment < settled h → IsGathered (Rows c) h → GathersRows pages held' place burnt c d
+  pub rows_descends : RowsReport → RowsStay → (held' : P) (place : PagePlace) → Reads pages held held' → StandsShown t.shown t.located.store t.versions place → (c d : RowsCursor) (turn : RowsTurn) → d.question ≡ c.question → c.question.moment < settled h → IsGathered (Rows c) h → GathersRows pages held' place burnt c d
       → GivesRows pages held' place burnt c d turn → Descends count known h (Rows c) (Rows d) (of_rows turn)
-  rows_descends tell stay held' place reads stands c d turn same below g gathers gives =
-      rows_descend c d same below (rows_gathered tell stay held' place reads stands c d same below g gathers) turn
-      (gives t.lies.store t.versions (applied h) (shows_tree held' place reads stands) (tell (applied h) t.versions c.question.moment (rises_applied h) t.kept) (rows_now h t.right t.versions t.kept c g))
+  rows_descends report stay held' place reads stands c d turn same below g gathers gives =
+      rows_descend c d same below (rows_gathered report stay held' place reads stands c d same below g gathers) turn
+      (gives t.located.store t.versions (applied h) (shows_tree held' place reads stands) (report (applied h) t.versions c.question.moment (rises_applied h) t.kept) (rows_now h t.right t.versions t.kept c g))
 
-  pub events_gathered : EventsTell → EventsStay → (held' : P) (place : PagePlace) → Reads pages held held' → StandsShown t.shown t.lies.store t.versions place → (c d : EventsCursor) → d.question ≡ c.question → c.question.to < settled h → IsPeer c.question.peer → IsPrefix c.question.prefix → IsGathered (Events c) h
+  pub events_gathered : EventsReport → EventsStay → (held' : P) (place : PagePlace) → Reads pages held held' → StandsShown t.shown t.located.store t.versions place → (c d : EventsCursor) → d.question ≡ c.question → c.question.to < settled h → IsPeer c.question.peer → IsPrefix c.question.prefix → IsGathered (Events c) h
       → GathersEvents pages held' place burnt c d → IsGathered (Events d) h
-  events_gathered tell stay held' place reads stands c d same below peer prefix g gathers =
+  events_gathered report stay held' place reads stands c d same below peer prefix g gathers =
       events_later h t.right t.versions t.kept stay d (subst (λ (q : EventsQuestion). q.to < settled h) (sym same) below) (subst (λ (q : EventsQuestion). IsPeer q.peer) (sym same) peer) (subst (λ (q : EventsQuestion). IsPrefix q.prefix) (sym same) prefix)
-      (gathers t.lies.store t.versions (applied h) (shows_tree held' place reads stands) (tell (applied h) t.versions c.question (rises_applied h) t.kept peer prefix) (events_now h t.right t.versions t.kept c g))
+      (gathers t.located.store t.versions (applied h) (shows_tree held' place reads stands) (report (applied h) t.versions c.question (rises_applied h) t.kept peer prefix) (events_now h t.right t.versions t.kept c g))
 
-  pub events_descends : EventsTell → EventsStay → (held' : P) (place : PagePlace) → Reads pages held held' → StandsShown t.shown t.lies.store t.versions place → (c d : EventsCursor) (turn : EventsTurn) → d.question ≡ c.question → c.question.to < settled h → IsPeer c.question.peer → IsPrefix c.question.prefix → IsGathered (Events c) h
+  pub events_descends : EventsReport → EventsStay → (held' : P) (place : PagePlace) → Reads pages held held' → StandsShown t.shown t.located.store t.versions place → (c d : EventsCursor) (turn : EventsTurn) → d.question ≡ c.question → c.question.to < settled h → IsPeer c.question.peer → IsPrefix c.question.prefix → IsGathered (Events c) h
       → GathersEvents pages held' place burnt c d → GivesEvents pages held' place burnt c d turn → Descends count known h (Events c) (Events d) (of_events turn)
-  events_descends tell stay held' place reads stands c d turn same below peer prefix g gathers gives =
-      events_descend c d same below (events_gathered tell stay held' place reads stands c d same below peer prefix g gathers) turn
-      (gives t.lies.store t.versions (applied h) (shows_tree held' place reads stands) (tell (applied h) t.versions c.question (rises_applied h) t.kept peer prefix) (events_now h t.right t.versions t.kept c g))
+  events_descends report stay held' place reads stands c d turn same below peer prefix g gathers gives =
+      events_descend c d same below (events_gathered report stay held' place reads stands c d same below peer prefix g gathers) turn
+      (gives t.located.store t.versions (applied h) (shows_tree held' place reads stands) (report (applied h) t.versions c.question (rises_applied h) t.kept peer prefix) (events_now h t.right t.versions t.kept c g))
 
 pub rows_further : (c d : RowsCursor) (turn : RowsTurn) → GoesOnRows c d turn → GoesFurther (Rows c) (Rows d) (of_rows turn)
 rows_further c d (rows.Done answer) on = tt
@@ -195,8 +195,8 @@ on_ok (Ok x) f a = f a
 on_ok (Err e) f a = tt
 
 -- one lies where more blocks are settled
-pub lies_on : (count : ℕ) (few many : ℕ → Option (List ℕ)) (errand : Errand) (c : Cursor) (h : History) → ((n : ℕ) (octets : List ℕ) → few n ≡ Some octets → many n ≡ Some octets) → Lies count few errand c h → Lies count many errand c h
-lies_on count few many errand c h more l = record {
+pub located_on : (count : ℕ) (few many : ℕ → Option (List ℕ)) (errand : Errand) (c : Cursor) (h : History) → ((n : ℕ) (octets : List ℕ) → few n ≡ Some octets → many n ≡ Some octets) → Located count few errand c h → Located count many errand c h
+located_on count few many errand c h more l = record {
   right = l.right;
   below = l.below;
   gathered = l.gathered;
@@ -209,36 +209,36 @@ lies_on count few many errand c h more l = record {
 
 module _ {O Pen Seen : Type 0} (device : OnceGhosts O Pen Seen) (reader : ShelfReader O Pen Seen device) (seen : Seen) (h : History) where
   -- what the errand's blocks say is known
-  says_known : (errand : Errand) (c : Cursor) (l : LiesKnown device reader seen errand c h) → AreKnown (device.known seen) (device.block_count (reader_disk reader)) l.lies.says
-  says_known errand c l = record { says = λ n node here. (let b = l.lies.are n node here in (b.octets, record { inside = b.inside; at = b.here }, b.says)) }
+  says_known : (errand : Errand) (c : Cursor) (l : LocatedKnown device reader seen errand c h) → AreKnown (device.known seen) (device.block_count (reader_disk reader)) l.located.says
+  says_known errand c l = record { says = λ n node here. (let b = l.located.are n node here in (b.octets, record { inside = b.inside; at = b.here }, b.says)) }
 
-  pub place_known : (errand : RowsErrand) (c : RowsCursor) (l : LiesKnown device reader seen (errands.Rows errand) (Rows c) h) → StandsKnown device reader seen l.lies.versions errand.place
-  place_known errand c l = record { well = l.well; blocks = l.lies.says; known = says_known (errands.Rows errand) (Rows c) l; stands = l.lies.stands }
+  pub place_known : (errand : RowsErrand) (c : RowsCursor) (l : LocatedKnown device reader seen (errands.Rows errand) (Rows c) h) → StandsKnown device reader seen l.located.versions errand.place
+  place_known errand c l = record { well = l.well; blocks = l.located.says; known = says_known (errands.Rows errand) (Rows c) l; stands = l.located.stands }
 
   part_known : (says : ℕ → Option BlockNode) (all : List Version) (key from : ℕ) (p : Parted) → ReadsWell device reader seen → AreKnown (device.known seen) (device.block_count (reader_disk reader)) says → IsParted says all key from p → IsKnownPart device reader seen all key from p
   part_known says all key from (parted.Here part) well known is = (is, well)
   part_known says all key from (parted.InBlock place) well known is = record { well = well; blocks = says; known = known; stands = is.stands }
 
-  pub parts_known : (errand : EventsErrand) (c : EventsCursor) (l : LiesKnown device reader seen (errands.Events errand) (Events c) h) → AreKnownParts device reader seen l.lies.versions c errand
+  pub parts_known : (errand : EventsErrand) (c : EventsCursor) (l : LocatedKnown device reader seen (errands.Events errand) (Events c) h) → AreKnownParts device reader seen l.located.versions c errand
   parts_known errand c l =
       let known = says_known (errands.Events errand) (Events c) l in
-      (part_known l.lies.says l.lies.versions (key_number c.question.peer c.question.prefix) errand.from errand.route l.well known l.lies.stands.0, part_known l.lies.says l.lies.versions (session_number c.question.peer) errand.from errand.session l.well known l.lies.stands.1)
+      (part_known l.located.says l.located.versions (key_number c.question.peer c.question.prefix) errand.from errand.route l.well known l.located.stands.0, part_known l.located.says l.located.versions (session_number c.question.peer) errand.from errand.session l.well known l.located.stands.1)
 
-  pub rows_finished : RowsTell → RowsStay → {X E : Type 0} (r : Result X E) (errand : RowsErrand) (c d : RowsCursor) → LiesKnown device reader seen (errands.Rows errand) (Rows c) h → d.question ≡ c.question
-      → ((all : List Version) (ps : List (Placed Admitted)) → StandsKnown device reader seen all errand.place → Tells all ps c.question.moment → Gathered all ps c → OnOk r (Gathered all ps d × Rose (front_number c.front) (front_number d.front)))
+  pub rows_finished : RowsReport → RowsStay → {X E : Type 0} (r : Result X E) (errand : RowsErrand) (c d : RowsCursor) → LocatedKnown device reader seen (errands.Rows errand) (Rows c) h → d.question ≡ c.question
+      → ((all : List Version) (ps : List (Placed Admitted)) → StandsKnown device reader seen all errand.place → Reports all ps c.question.moment → Gathered all ps c → OnOk r (Gathered all ps d × Rose (front_number c.front) (front_number d.front)))
       → OnOk r (IsGathered (Rows d) h × Rose (front_number c.front) (front_number d.front))
-  rows_finished tell stay r errand c d l same finished =
-      let k = l.lies in
+  rows_finished report stay r errand c d l same finished =
+      let k = l.located in
       on_ok r (λ f. (rows_later h k.right k.versions k.kept stay d (subst (λ (q : RowsQuestion). q.moment < settled h) (sym same) k.below) f.0, f.1))
-      (finished k.versions (applied h) (place_known errand c l) (tell (applied h) k.versions c.question.moment (rises_applied h) k.kept) (rows_now h k.right k.versions k.kept c k.gathered))
+      (finished k.versions (applied h) (place_known errand c l) (report (applied h) k.versions c.question.moment (rises_applied h) k.kept) (rows_now h k.right k.versions k.kept c k.gathered))
 
-  pub events_finished : EventsTell → EventsStay → {X E : Type 0} (r : Result X E) (errand : EventsErrand) (c d : EventsCursor) → LiesKnown device reader seen (errands.Events errand) (Events c) h → d.question ≡ c.question → IsPeer c.question.peer → IsPrefix c.question.prefix
-      → ((all : List Version) (ps : List (Placed Admitted)) → AreKnownParts device reader seen all c errand → TellsEvents all ps c.question → HasToldSo all ps c → OnOk r (HasToldSo all ps d × Rose c.at d.at))
+  pub events_finished : EventsReport → EventsStay → {X E : Type 0} (r : Result X E) (errand : EventsErrand) (c d : EventsCursor) → LocatedKnown device reader seen (errands.Events errand) (Events c) h → d.question ≡ c.question → IsPeer c.question.peer → IsPrefix c.question.prefix
+      → ((all : List Version) (ps : List (Placed Admitted)) → AreKnownParts device reader seen all c errand → ReportsEvents all ps c.question → HasReportedSo all ps c → OnOk r (HasReportedSo all ps d × Rose c.at d.at))
       → OnOk r (IsGathered (Events d) h × Rose c.at d.at)
-  events_finished tell stay r errand c d l same peer prefix finished =
-      let k = l.lies in
+  events_finished report stay r errand c d l same peer prefix finished =
+      let k = l.located in
       on_ok r (λ f. (events_later h k.right k.versions k.kept stay d (subst (λ (q : EventsQuestion). q.to < settled h) (sym same) k.below) (subst (λ (q : EventsQuestion). IsPeer q.peer) (sym same) peer) (subst (λ (q : EventsQuestion). IsPrefix q.prefix) (sym same) prefix) f.0, f.1))
-      (finished k.versions (applied h) (parts_known errand c l) (tell (applied h) k.versions c.question (rises_applied h) k.kept peer prefix) (events_now h k.right k.versions k.kept c k.gathered))
+      (finished k.versions (applied h) (parts_known errand c l) (report (applied h) k.versions c.question (rises_applied h) k.kept peer prefix) (events_now h k.right k.versions k.kept c k.gathered))
 
 -- ---- what was gathered, where the cursor says the same
 
@@ -250,13 +250,13 @@ rows_same all ps c d s g =
     (subst (λ (r : List Row). IsGatheredRows all ps c.question (front_number c.front) c.ended r d.more) (sym s.rows)
     (subst (λ (m : Bool). IsGatheredRows all ps c.question (front_number c.front) c.ended c.rows.items m) (sym s.more) g))))
 
-events_same : (all : List Version) (ps : List (Placed Admitted)) (c d : EventsCursor) → IsSameTelling c d → HasToldSo all ps c → HasToldSo all ps d
+events_same : (all : List Version) (ps : List (Placed Admitted)) (c d : EventsCursor) → IsSameReporting c d → HasReportedSo all ps c → HasReportedSo all ps d
 events_same all ps c d s g =
-    subst (λ (q : EventsQuestion). HasTold all ps q d.at d.left d.told.items d.more) (sym s.question)
-    (subst (λ (a : Option ℕ). HasTold all ps c.question a d.left d.told.items d.more) (sym s.at)
-    (subst (λ (l : ℕ). HasTold all ps c.question c.at l d.told.items d.more) (sym s.left)
-    (subst (λ (t : List Event). HasTold all ps c.question c.at c.left t d.more) (sym s.told)
-    (subst (λ (m : Bool). HasTold all ps c.question c.at c.left c.told.items m) (sym s.more) g))))
+    subst (λ (q : EventsQuestion). HasReported all ps q d.at d.left d.reported.items d.more) (sym s.question)
+    (subst (λ (a : Option ℕ). HasReported all ps c.question a d.left d.reported.items d.more) (sym s.at)
+    (subst (λ (l : ℕ). HasReported all ps c.question c.at l d.reported.items d.more) (sym s.left)
+    (subst (λ (t : List Event). HasReported all ps c.question c.at c.left t d.more) (sym s.reported)
+    (subst (λ (m : Bool). HasReported all ps c.question c.at c.left c.reported.items m) (sym s.more) g))))
 
 pub same_gathered : (c d : Cursor) (h : History) → SaysSame c d → IsGathered c h → IsGathered d h
 same_gathered (Rows c) (Rows d) h s g = λ k right begins all kept. rows_same all (applied k) c d s (g k right begins all kept)
@@ -270,24 +270,24 @@ same_where (Err e) c d s = λ h g. same_gathered c d h s g
 
 -- ---- what an archive's turns go by
 
--- what it carries lies on the pages of a transaction that shows them
-pub pages_in : {E O Pen Seen : Type 0} {erase : EraseGhosts E} {once : OnceGhosts O Pen Seen} (a : Archive E O Pen Seen erase once) (h : History) (k : Carries a h) {P : Type 0} (pages : Ghosts P) (held : P) → pages.shows held (start_of a h k) k.pages
+-- what it represents lies on the pages of a transaction that shows them
+pub pages_in : {E O Pen Seen : Type 0} {erase : EraseGhosts E} {once : OnceGhosts O Pen Seen} (a : Archive E O Pen Seen erase once) (h : History) (k : Represents a h) {P : Type 0} (pages : Ghosts P) (held : P) → pages.shows held (start_of a h k) k.pages
     → HasPages pages held (once.block_count (once_of a)) (once_state a).settled a.head.root a.head.block h
 pages_in a h k pages held shows = record {
-  right = k.bears.right;
+  right = k.head_represents.right;
   start = start_of a h k;
   shown = k.pages;
   shows = shows;
   low = tree_low a.settings;
   fresh = a.head.fresh;
   stamp = stamp_of a.head.last a.head.applied;
-  versions = k.bears.versions;
-  lies = k.bears.tree;
-  kept = k.bears.kept;
+  versions = k.head_represents.versions;
+  located = k.head_represents.tree;
+  kept = k.head_represents.kept;
 }
 
 -- an archive that must be opened again moves no cursor
-pub gathered_of : {E O Pen Seen : Type 0} {erase : EraseGhosts E} {once : OnceGhosts O Pen Seen} (a : Archive E O Pen Seen erase once) (c d : Cursor) (h : History) → (is_down a ≡ true → d ≡ c) → ((g : History) → Carries a g → IsGathered c g → IsGathered d g)
+pub gathered_of : {E O Pen Seen : Type 0} {erase : EraseGhosts E} {once : OnceGhosts O Pen Seen} (a : Archive E O Pen Seen erase once) (c d : Cursor) (h : History) → (is_down a ≡ true → d ≡ c) → ((g : History) → Represents a g → IsGathered c g → IsGathered d g)
     → IsHonest a → Holds a h → IsGathered c h → IsGathered d h
 gathered_of a c d h unmoved step honest held g = ⊎_elim (λ k. step h k g) (λ w. subst (λ (x : Cursor). IsGathered x h) (sym (unmoved w.unusable)) g) (held honest)
 

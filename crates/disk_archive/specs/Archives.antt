@@ -12,8 +12,8 @@ use Rattle.route_meaning.specs.History.{History, Begins}
 use Rattle.archive_head.specs.Head.{IsHead, head_octets}
 use Rattle.intake.specs.Ring.{page_at}
 use Rattle.archive_pages.specs.declared.settings.Settings.{Settings}
-use Rattle.archive_pages.specs.Carried.{Bears}
-use Rattle.disk_archive.specs.Trees.{TreeLies}
+use Rattle.archive_pages.specs.Represented.{HeadRepresents}
+use Rattle.disk_archive.specs.Trees.{TreeLocated}
 use Rattle.disk_archive.specs.Sites.{Site, IsNoted, Rests}
 use Rattle.disk_archive.specs.Mirrors.{Mirrors}
 use Rattle.disk_archive.specs.declared.archive.Archive.{Archive}
@@ -54,35 +54,35 @@ site_of {once = once} a = record { settings = a.settings; homes = home_pages (jo
 abbrev pub IsHonest : {E O Pen Seen : Type 0} {erase : EraseGhosts E} {once : OnceGhosts O Pen Seen} → Archive E O Pen Seen erase once → Type 0
 IsHonest {erase = erase} {once = once} a = erase.honest (erase_of a) × once.honest (once_of a) (pen_in a)
 
--- with the head in memory and all that is settled these pages carry the history
-abbrev pub BearsOn : {E O Pen Seen : Type 0} {erase : EraseGhosts E} {once : OnceGhosts O Pen Seen} → Archive E O Pen Seen erase once → List (List ℕ) → History → Type 0
-BearsOn {once = once} a pages h = Bears (TreeLies (once.block_count (once_of a))) a.settings (settled_in (once_state a)) a.head pages h
+-- with the head in memory and all that is settled these pages represent the history
+abbrev pub HeadRepresentsOn : {E O Pen Seen : Type 0} {erase : EraseGhosts E} {once : OnceGhosts O Pen Seen} → Archive E O Pen Seen erase once → List (List ℕ) → History → Type 0
+HeadRepresentsOn {once = once} a pages h = HeadRepresents (TreeLocated (once.block_count (once_of a))) a.settings (settled_in (once_state a)) a.head pages h
 
--- A usable archive carries the history on its disks, whose note says what it was made with, and has in memory what it answers by.
-pub record Carries {E O Pen Seen : Type 0} {erase : EraseGhosts E} {once : OnceGhosts O Pen Seen} (a : Archive E O Pen Seen erase once) (h : History) : Type 0 where
+-- A usable archive represents the history on its disks, whose note says what it was made with, and has in memory what it answers by.
+pub record Represents {E O Pen Seen : Type 0} {erase : EraseGhosts E} {once : OnceGhosts O Pen Seen} (a : Archive E O Pen Seen erase once) (h : History) : Type 0 where
   pub honest : IsHonest a
   pub noted : IsNoted (site_of a)
   pub pages : List (List ℕ)
   pub maps : Maps erase (pool_of a.tx) pages
   pub valid : IsHead a.head
   pub first : page_at pages 0 ≡ head_octets a.head
-  pub bears : BearsOn a pages h
+  pub head_represents : HeadRepresentsOn a pages h
   pub mirrors : Mirrors a.sequencer h
 
 -- The archive must be opened again. It has in memory what it answers by, and whatever its disks read as, or a crash may leave of them
--- now, carries a history that this one begins.
+-- now, represents a history that this one begins.
 pub record Waits {E O Pen Seen : Type 0} {erase : EraseGhosts E} {once : OnceGhosts O Pen Seen} (a : Archive E O Pen Seen erase once) (h : History) : Type 0 where
   pub honest : IsHonest a
   pub noted : IsNoted (site_of a)
   pub unusable : is_down a ≡ true
   pub pages : List (List ℕ)
-  pub told : BearsOn a pages h
+  pub reported : HeadRepresentsOn a pages h
   pub mirrors : Mirrors a.sequencer h
   pub rests : Rests (site_of a) (erase_state a) (once_state a) h
 
 -- it carries the history on, or reports it until it is opened again
 abbrev pub GoesOn : {E O Pen Seen : Type 0} {erase : EraseGhosts E} {once : OnceGhosts O Pen Seen} → Archive E O Pen Seen erase once → History → Type 0
-GoesOn a h = Carries a h ⊎ Waits a h
+GoesOn a h = Represents a h ⊎ Waits a h
 
 -- The archive holds the history. Where a disk doesn't follow its model, nothing is claimed.
 abbrev pub Holds : {E O Pen Seen : Type 0} {erase : EraseGhosts E} {once : OnceGhosts O Pen Seen} → Archive E O Pen Seen erase once → History → Type 0

@@ -11,7 +11,7 @@ use Rattle.tsb_walk.specs.declared.page_place.PagePlace.{PagePlace}
 use Rattle.tsb_walk.specs.Shown.{keys_at}
 use Rattle.tsb_check.specs.declared.in_use.InUse.{InUse}
 use Rattle.tsb_check.specs.InUse.{AreInUse, IsUnusedUnder}
-use Rattle.tsb_check.specs.Pages.{TellsTree, IsBadUnder, IsUnknownUnder, IsDamagedUnder}
+use Rattle.tsb_check.specs.Pages.{ReportsTree, IsBadUnder, IsUnknownUnder, IsDamagedUnder}
 use Rattle.disk_archive.specs.declared.archive.Archive.{Archive}
 
 -- these are its pages: what its journal and its cache mean
@@ -42,7 +42,7 @@ pub record IsRootPlace (root : ℕ) (place : PagePlace) : Type 0 where
 pub record IsAllRead (pages : List (List ℕ)) (known : ℕ → Option (List ℕ)) (blocks root : ℕ) (in_use : InUse) (n : ℕ) : Type 0 where
   pub place : PagePlace
   pub top : IsRootPlace root place
-  pub read : TellsTree pages known blocks (place ∷ []) n ⊎ IsUnknownUnder pages known blocks (place ∷ [])
+  pub read : ReportsTree pages known blocks (place ∷ []) n ⊎ IsUnknownUnder pages known blocks (place ∷ [])
   pub used : AreInUse pages in_use (place ∷ [])
 
 -- The page is damaged: it is that of the root, and no root; or the tree leads to it, and it isn't what it has to be; or it is at fault for a

@@ -6,7 +6,7 @@ use Rattle.interleaving_core.specs.Steps.{empty}
 use Rattle.archive_pages.specs.declared.settings.Settings.{Settings}
 use Rattle.archive_pages.specs.Places.{tree_low}
 use Rattle.disk_archive.specs.Notes.{note_octets}
-use Rattle.disk_archive.specs.Sites.{LeftCarries, Site}
+use Rattle.disk_archive.specs.Sites.{LeftRepresents, Site}
 
 -- how many home pages a disk of `size` octets has room for
 abbrev pub homes_on : ℕ → ℕ
@@ -20,9 +20,9 @@ IsTooSmall s size = homes_on size < tree_low s + 2
 abbrev pub site_on : Settings → ℕ → ℕ → Site
 site_on s size blocks = record { settings = s; homes = homes_on size; note = note_octets blocks s; blocks = blocks }
 
--- What a crash left holds no journal, or carries the history of an archive to which nothing was given.
+-- What a crash left holds no journal, or represents the history of an archive to which nothing was given.
 abbrev pub LeavesNoneOrEmpty : Site → Left → Type 0
-LeavesNoneOrEmpty site left = HoldsNone left.erase ⊎ LeftCarries site (empty site.settings.collectors) left
+LeavesNoneOrEmpty site left = HoldsNone left.erase ⊎ LeftRepresents site (empty site.settings.collectors) left
 
 -- one of both disks failed once, and the other didn't: these are their counts of failures before and afterwards
 abbrev pub CountsOne : ℕ → ℕ → ℕ → ℕ → Type 0

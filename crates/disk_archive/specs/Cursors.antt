@@ -5,7 +5,7 @@ use Rattle.interleaving_core.specs.declared.query.Query.{Query}
 use Rattle.interleaving_core.specs.declared.query.Query.TheVariants as queries
 use Rattle.route_history.specs.Fronts.{front_number}
 use Rattle.route_history.specs.Kept.{Kept}
-use Rattle.route_history.specs.Spans.{HasToldSo, IsSameTelling}
+use Rattle.route_history.specs.Spans.{HasReportedSo, IsSameReporting}
 use Rattle.route_history.specs.Walks.{Gathered, IsSame}
 use Rattle.version_model.specs.Versions.{Version}
 use Rattle.disk_archive.specs.declared.cursor.Cursor.{Cursor}
@@ -24,7 +24,7 @@ walked_to (Events c) = c.at
 -- by these versions of what the history has applied, it has gathered exactly what the range has that its walk has passed, or its whole answer
 abbrev pub HasGathered : List Version → History → Cursor → Type 0
 HasGathered all h (Rows c) = Gathered all (applied h) c
-HasGathered all h (Events c) = HasToldSo all (applied h) c
+HasGathered all h (Events c) = HasReportedSo all (applied h) c
 
 -- What it has gathered is right over this history, and over each right one that this begins, whatever versions stand for what is applied.
 abbrev pub IsGathered : Cursor → History → Type 0
@@ -35,4 +35,4 @@ abbrev pub SaysSame : Cursor → Cursor → Type 0
 SaysSame (Rows c) (Rows d) = IsSame c d
 SaysSame (Rows c) (Events d) = ⊥
 SaysSame (Events c) (Rows d) = ⊥
-SaysSame (Events c) (Events d) = IsSameTelling c d
+SaysSame (Events c) (Events d) = IsSameReporting c d

@@ -44,7 +44,7 @@ is_known known n octets = known n ≡ Some octets
 -- On a disk of `count` blocks, of which these are known to be settled, the errand of the cursor lies: it is the cursor of a question of a
 -- moment that is settled in this history, over which it has gathered so far; and its places stand, by those blocks, for versions of what is
 -- applied.
-pub record Lies (count : ℕ) (known : ℕ → Option (List ℕ)) (errand : Errand) (c : Cursor) (h : History) : Type 0 where
+pub record Located (count : ℕ) (known : ℕ → Option (List ℕ)) (errand : Errand) (c : Cursor) (h : History) : Type 0 where
   pub right : IsHistory h
   pub below : last_moment (asks c) < settled h
   pub gathered : IsGathered c h
@@ -55,16 +55,16 @@ pub record Lies (count : ℕ) (known : ℕ → Option (List ℕ)) (errand : Erra
   pub stands : StandsFor says versions c errand
 
 -- a reader reads well, and the errand lies in the blocks that it knows
-pub record LiesKnown {O Pen Seen : Type 0} (device : Ghosts O Pen Seen) (reader : ShelfReader O Pen Seen device) (seen : Seen) (errand : Errand) (c : Cursor) (h : History) : Type 0 where
+pub record LocatedKnown {O Pen Seen : Type 0} (device : Ghosts O Pen Seen) (reader : ShelfReader O Pen Seen device) (seen : Seen) (errand : Errand) (c : Cursor) (h : History) : Type 0 where
   pub well : ReadsWell device reader seen
-  pub lies : Lies (device.block_count (reader_disk reader)) (device.known seen) errand c h
+  pub located : Located (device.block_count (reader_disk reader)) (device.known seen) errand c h
 
 -- What a turn over a history returns, from one cursor to the next: the whole answer; or that the walk goes on; or an errand of the next
 -- cursor, which lies in these settled blocks of a disk of `count` blocks.
 abbrev pub Descends : ℕ → (ℕ → Option (List ℕ)) → History → Cursor → Cursor → Descent → Type 0
 Descends count known h c d (Done answer) = IsAnswered (applied h) (asks c) answer
 Descends count known h c d Again = ⊤
-Descends count known h c d (Historical errand) = Lies count known errand d h
+Descends count known h c d (Historical errand) = Located count known errand d h
 
 -- Whatever the archive holds: where the walk goes on it has come further, and an errand is one of the next cursor, whose walk hasn't gone back.
 abbrev pub GoesFurther : Cursor → Cursor → Descent → Type 0

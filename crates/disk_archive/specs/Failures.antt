@@ -15,7 +15,7 @@ pub record ReportsOne (one one' other other' : ℕ) (reported : Type 0) : Type 0
 -- Where a call that only reads reported a failure, exactly one came: the erasable disk counted it, or the pen of the write-once disk, or a
 -- look by which the call read blocks of this disk, and which ended with the call; it is a look at this disk, where both disks follow their
 -- models and this is the archive's. Where the call reported none, both disks counted none; what such a look counted isn't stated then.
-pub record TellsFailure {E O Pen Seen : Type 0} {erase : EraseGhosts E} {once : OnceGhosts O Pen Seen} (old new : Archive E O Pen Seen erase once) (disk : O) (told : Type 0) : Type 0 where
-  pub quiet : ¬ told → (erase.fault_count (erase_of new) ≡ erase.fault_count (erase_of old)) × (once.pen_fault_count (pen_in new) ≡ once.pen_fault_count (pen_in old))
-  pub counted : told → CountsOne (erase.fault_count (erase_of old)) (erase.fault_count (erase_of new)) (once.pen_fault_count (pen_in old)) (once.pen_fault_count (pen_in new))
+pub record ReportsFailure {E O Pen Seen : Type 0} {erase : EraseGhosts E} {once : OnceGhosts O Pen Seen} (old new : Archive E O Pen Seen erase once) (disk : O) (reported : Type 0) : Type 0 where
+  pub quiet : ¬ reported → (erase.fault_count (erase_of new) ≡ erase.fault_count (erase_of old)) × (once.pen_fault_count (pen_in new) ≡ once.pen_fault_count (pen_in old))
+  pub counted : reported → CountsOne (erase.fault_count (erase_of old)) (erase.fault_count (erase_of new)) (once.pen_fault_count (pen_in old)) (once.pen_fault_count (pen_in new))
       ⊎ ((erase.fault_count (erase_of new) ≡ erase.fault_count (erase_of old)) × (once.pen_fault_count (pen_in new) ≡ once.pen_fault_count (pen_in old)) × ((seen : Seen) × (once.seen_fault_count seen ≡ 1) × (IsHonest old → disk ≡ once_of old → once.honest_seen disk seen)))

@@ -1,4 +1,4 @@
--- What an archive keeps in memory of the history that its disks carry.
+-- What an archive keeps in memory of the history that its disks represent.
 use Rattle.std.specs.Prelude.{◌≡◌, List, map, length}
 use Rattle.route_meaning.specs.Merged.{parts}
 use Rattle.route_meaning.specs.Holds.{admitted_time}

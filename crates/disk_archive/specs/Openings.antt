@@ -11,13 +11,13 @@ use Rattle.archive_pages.specs.Places.{AreSettings, tree_low}
 use Rattle.disk_archive.specs.declared.open_error.OpenError.{OpenError}
 use Rattle.disk_archive.specs.declared.open_error.OpenError.TheVariants as openings
 use Rattle.disk_archive.specs.Notes.{note_octets}
-use Rattle.disk_archive.specs.Sites.{Site, IsNoted, LeftCarries}
+use Rattle.disk_archive.specs.Sites.{Site, IsNoted, LeftRepresents}
 
--- what both disks read as carries the history, and the note gives the settings and as many blocks as the write-once disk has
+-- what both disks read as represents the history, and the note gives the settings and as many blocks as the write-once disk has
 pub record ReadsAs (site : Site) (blocks : ℕ) (e : DiskState) (o : OnceState) (h : History) : Type 0 where
   pub count : site.blocks ≡ blocks
   pub noted : IsNoted site
-  pub carries : LeftCarries site h (present e o)
+  pub represents : LeftRepresents site h (present e o)
 
 -- The erasable disk, of this size, says that it is an archive's: it names home pages for which it has room, and in its note settings within
 -- their limits, with which head and rings lie on those pages, and as many blocks as the write-once disk has.
@@ -32,17 +32,17 @@ pub record NamesArchive (size : ℕ) (f : ℕ → ℕ) (blocks : ℕ) : Type 0 w
   pub rings : tree_low settings ≤ homes
 
 -- there is no archive, or the device failed, or memory ran out
-abbrev pub IsNoneOrWant : OpenError → Type 0
-IsNoneOrWant openings.Fault = Unit {0}
-IsNoneOrWant openings.OutOfMemory = Unit {0}
-IsNoneOrWant openings.NotAJournal = Unit {0}
-IsNoneOrWant (openings.BadSlot page) = ⊥
-IsNoneOrWant (openings.BadNode page) = ⊥
+abbrev pub IsNoneFaultOrMemory : OpenError → Type 0
+IsNoneFaultOrMemory openings.Fault = Unit {0}
+IsNoneFaultOrMemory openings.OutOfMemory = Unit {0}
+IsNoneFaultOrMemory openings.NotAJournal = Unit {0}
+IsNoneFaultOrMemory (openings.BadSlot page) = ⊥
+IsNoneFaultOrMemory (openings.BadNode page) = ⊥
 
 -- the device failed, or memory ran out, and no other reason
-abbrev pub IsWant : OpenError → Type 0
-IsWant openings.Fault = Unit {0}
-IsWant openings.OutOfMemory = Unit {0}
-IsWant openings.NotAJournal = ⊥
-IsWant (openings.BadSlot page) = ⊥
-IsWant (openings.BadNode page) = ⊥
+abbrev pub IsFaultOrMemory : OpenError → Type 0
+IsFaultOrMemory openings.Fault = Unit {0}
+IsFaultOrMemory openings.OutOfMemory = Unit {0}
+IsFaultOrMemory openings.NotAJournal = ⊥
+IsFaultOrMemory (openings.BadSlot page) = ⊥
+IsFaultOrMemory (openings.BadNode page) = ⊥

@@ -8,9 +8,9 @@ use Rattle.route_meaning.specs.History.{History, Begins}
 use Rattle.interleaving_core.specs.Steps.{IsMarkAbove, marked}
 use Rattle.archive_pages.specs.declared.settings.Settings.{Settings}
 use Rattle.archive_pages.specs.Places.{AreSettings}
-use Rattle.archive_pages.specs.Carried.{Represents}
+use Rattle.archive_pages.specs.Represented.{PagesRepresent}
 use Rattle.disk_archive.specs.Notes.{note_octets}
-use Rattle.disk_archive.specs.Trees.{TreeLies}
+use Rattle.disk_archive.specs.Trees.{TreeLocated}
 
 -- what an archive was made with, for good: its settings, how many home pages and which note its journal has, and how many blocks its disk
 pub record Site : Type 0 where
@@ -24,24 +24,24 @@ pub record IsNoted (site : Site) : Type 0 where
   pub settings : AreSettings site.settings
   pub note : site.note ≡ note_octets site.blocks site.settings
 
--- What a crash left of both disks carries the history: the octets mean pages that, with the blocks that are settled, carry it.
-pub record LeftCarries (site : Site) (h : History) (left : Left) : Type 0 where
+-- What a crash left of both disks represents the history: the octets mean pages that, with the blocks that are settled, represent it.
+pub record LeftRepresents (site : Site) (h : History) (left : Left) : Type 0 where
   pub pages : List (List ℕ)
   pub means : Recovers site.homes site.note left.erase pages
-  pub carries : Represents (TreeLies site.blocks) site.settings (settled_in left.once) pages h
+  pub represents : PagesRepresent (TreeLocated site.blocks) site.settings (settled_in left.once) pages h
 
--- it carries one history or the other
+-- it represents one history or the other
 abbrev pub LeftEither : Site → History → History → Left → Type 0
-LeftEither site h g left = LeftCarries site h left ⊎ LeftCarries site g left
+LeftEither site h g left = LeftRepresents site h left ⊎ LeftRepresents site g left
 
--- it carries one history, or that with the mark, which then isn't below the collector's
+-- it represents one history, or that with the mark, which then isn't below the collector's
 abbrev pub LeftMarked : Site → History → ℕ → ℕ → Left → Type 0
-LeftMarked site h c mark left = LeftCarries site h left ⊎ ((IsMarkAbove h c mark → ⊥) × LeftCarries site (marked h c mark) left)
+LeftMarked site h c mark left = LeftRepresents site h left ⊎ ((IsMarkAbove h c mark → ⊥) × LeftRepresents site (marked h c mark) left)
 
--- it carries a history that this one begins
+-- it represents a history that this one begins
 abbrev pub LeftFrom : Site → History → Left → Type 0
-LeftFrom site h left = (g : History) × Begins h g × LeftCarries site g left
+LeftFrom site h left = (g : History) × Begins h g × LeftRepresents site g left
 
--- Whatever both disks read as, or a crash may leave of them now, carries a history that this one begins.
+-- Whatever both disks read as, or a crash may leave of them now, represents a history that this one begins.
 abbrev pub Rests : Site → DiskState → OnceState → History → Type 0
 Rests site e o h = (left : Left) → LeftNow e o left → LeftFrom site h left

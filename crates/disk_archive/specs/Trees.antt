@@ -16,7 +16,7 @@ pub record IsBlock (count : ℕ) (settled : ℕ → List ℕ → Type 0) (n : �
 
 -- A tree with this root lies on these pages, none of which is before `low`, and in settled blocks of a disk of `count` blocks. It uses no
 -- page from `fresh` on and no block from `block` on, and stands for these versions; a version to come may have this stamp, and none below it.
-pub record TreeLies (count : ℕ) (pages : List (List ℕ)) (settled : ℕ → List ℕ → Type 0) (low root fresh block next_stamp : ℕ) (versions : List Version) : Type 0 where
+pub record TreeLocated (count : ℕ) (pages : List (List ℕ)) (settled : ℕ → List ℕ → Type 0) (low root fresh block next_stamp : ℕ) (versions : List Version) : Type 0 where
   pub level : ℕ
   pub store : Store
   pub says : AreShown pages store.nodes

@@ -93,13 +93,13 @@ fn reply_to_none(alloc: Global, collector: u8, lane: Lane) -> BatchReply
 }
 
 impl<E: EraseDisk + Drop, O: OnceDisk + Drop> Archive<E, O> {
-    ghost use Rattle.disk_archive.specs.Archives.{Carries, GoesOn, Holds, Stands, IsHonest, erase_of, erase_state, is_down, once_of, once_state, pen_in, settings_of, site_of};
+    ghost use Rattle.disk_archive.specs.Archives.{Represents, GoesOn, Holds, Stands, IsHonest, erase_of, erase_state, is_down, once_of, once_state, pen_in, settings_of, site_of};
     ghost use Rattle.disk_archive.specs.Sites.{LeftEither};
     ghost use Rattle.disk_archive.specs.Crashes.{Crashes, Lasts};
     ghost use Rattle.disk_archive.specs.Limits.{IsCounterFull, IsRingFull};
     ghost use Rattle.disk_archive.specs.inner.Idle.{IsAsBefore};
 
-    // Admits a batch where the archive carries a history.
+    // Admits a batch where the archive represents a history.
     fn try_admit(&mut self, collector: u8, batch: &[Admission]) -> Result<BatchReply, AdmitError>
         ensures usable { OnOk result (is_down self.old ≡ false) }
         ensures still_usable { OnOk result (is_down self.new ≡ false) }
@@ -107,21 +107,21 @@ impl<E: EraseDisk + Drop, O: OnceDisk + Drop> Archive<E, O> {
         ensures device { KeepsDevice (E.honest (erase_of self.old)) (E.honest (erase_of self.new)) (E.fault_count (erase_of self.old)) (E.fault_count (erase_of self.new)) (result ≡ Err AdmitError.Fault) }
         ensures pen { pen_in self.new ≡ pen_in self.old }
         ensures recovery { is_down self.old ≡ true → IsAsBefore self.old self.new }
-        ensures told { (result ≡ Err AdmitError.NeedsRecovery) ↔ (is_down self.old ≡ true) }
+        ensures reported { (result ≡ Err AdmitError.NeedsRecovery) ↔ (is_down self.old ≡ true) }
         ensures no_collector { (result ≡ Err AdmitError.NoCollector) ↔ ((is_down self.old ≡ false) × ((settings_of self.old).collectors ≤ collector)) }
         ensures too_large { (result ≡ Err AdmitError.BatchTooLarge) ↔ ((is_down self.old ≡ false) × (collector < (settings_of self.old).collectors) × (262144 < sum_by entry_octets batch.now)) }
-        ensures counter_full { (h : History) → Carries self.old h → (result ≡ Err AdmitError.CounterFull) ↔ ((sum_by entry_octets batch.now ≤ 262144) × IsCounterFull h collector (length batch.now)) }
-        ensures intake_full { (h : History) → Carries self.old h → (result ≡ Err AdmitError.IntakeFull) ↔ ((sum_by entry_octets batch.now ≤ 262144) × (IsCounterFull h collector (length batch.now) → ⊥) × IsRingFull (settings_of self.old) h collector batch.now) }
-        ensures undamaged { (h : History) → Carries self.old h → (page : ℕ) → result ≡ Err (AdmitError.BadNode page) → ⊥ }
+        ensures counter_full { (h : History) → Represents self.old h → (result ≡ Err AdmitError.CounterFull) ↔ ((sum_by entry_octets batch.now ≤ 262144) × IsCounterFull h collector (length batch.now)) }
+        ensures intake_full { (h : History) → Represents self.old h → (result ≡ Err AdmitError.IntakeFull) ↔ ((sum_by entry_octets batch.now ≤ 262144) × (IsCounterFull h collector (length batch.now) → ⊥) × IsRingFull (settings_of self.old) h collector batch.now) }
+        ensures undamaged { (h : History) → Represents self.old h → (page : ℕ) → result ≡ Err (AdmitError.BadNode page) → ⊥ }
         ensures honest { IsHonest self.old ↔ IsHonest self.new }
         ensures settings { settings_of self.new ≡ settings_of self.old }
         ensures disk { once_of self.new ≡ once_of self.old }
         ensures blocks { once_state self.new ≡ once_state self.old }
-        ensures ok { OnOk result ((h : History) → Carries self.old h → Carries self.new (given h collector batch.now)) }
-        ensures reply { (h : History) → Carries self.old h → (i : Intake) → slice_get h.intakes collector ≡ Some i → IfOk result (IsReply i collector batch.now) }
-        ensures err { OnErr result ((h : History) → Carries self.old h → GoesOn self.new h) }
-        ensures memory { (h : History) → Carries self.old h → result ≡ Err AdmitError.OutOfMemory → (erase_state self.new).clock ≡ (erase_state self.old).clock }
-        ensures crash { (h : History) → Carries self.old h → Crashes self.old self.new (LeftEither (site_of self.old) h (given h collector batch.now)) }
+        ensures ok { OnOk result ((h : History) → Represents self.old h → Represents self.new (given h collector batch.now)) }
+        ensures reply { (h : History) → Represents self.old h → (i : Intake) → slice_get h.intakes collector ≡ Some i → IfOk result (IsReply i collector batch.now) }
+        ensures err { OnErr result ((h : History) → Represents self.old h → GoesOn self.new h) }
+        ensures memory { (h : History) → Represents self.old h → result ≡ Err AdmitError.OutOfMemory → (erase_state self.new).clock ≡ (erase_state self.old).clock }
+        ensures crash { (h : History) → Represents self.old h → Crashes self.old self.new (LeftEither (site_of self.old) h (given h collector batch.now)) }
         ensures empty { batch.now ≡ [] → IsAsBefore self.old self.new × IfErr result (λ e. (e ≡ AdmitError.NeedsRecovery) ⊎ (e ≡ AdmitError.NoCollector)) }
     {
         begin(&mut self.tx)?;
@@ -164,7 +164,7 @@ impl<E: EraseDisk + Drop, O: OnceDisk + Drop> Archive<E, O> {
         ensures ok { OnOk result ((h : History) → Holds self.old h → Holds self.new (given h collector batch.now)) }
         ensures reply { IsHonest self.old → (h : History) → Holds self.old h → (i : Intake) → slice_get h.intakes collector ≡ Some i → IfOk result (IsReply i collector batch.now) }
         ensures err { OnErr result ((h : History) → Holds self.old h → Holds self.new h) }
-        ensures crash { (h : History) → Carries self.old h → Crashes self.old self.new (LeftEither (site_of self.old) h (given h collector batch.now)) }
+        ensures crash { (h : History) → Represents self.old h → Crashes self.old self.new (LeftEither (site_of self.old) h (given h collector batch.now)) }
         ensures lasts { (h : History) → Stands self.old h → Lasts self.old self.new h }
         ensures memory { IsHonest self.old → (h : History) → Holds self.old h → result ≡ Err AdmitError.OutOfMemory → (erase_state self.new).clock ≡ (erase_state self.old).clock }
         ensures usable { OnOk result (is_down self.old ≡ false) }

@@ -25,7 +25,7 @@ use disk_models::{EraseDisk, OnceDisk};
 use interleaving_core::{Answer, Query};
 use once_store::ShelfReader;
 use page_tx::Pages;
-use route_history::laws::versions_tell;
+use route_history::laws::versions_report;
 use sequencer::Sequencer;
 use std::alloc::Global;
 use tree_questions::{events, rows};
@@ -96,7 +96,7 @@ pub(crate) fn answer_by<P: Pages, O: OnceDisk + Drop>(
     ensures look { O.honest_seen (reader_disk reader.old) seen.old → O.honest_seen (reader_disk reader.old) seen.new }
     ensures failed { ReportsOne (P.faults pages.old) (P.faults pages.new) (O.seen_fault_count seen.old) (O.seen_fault_count seen.new) (result ≡ Err AskError.Fault) }
 {
-    versions_tell();
+    versions_report();
     let root = root_of(pages, head)?;
     match query {
         Query::Rows(question) => {
@@ -114,32 +114,32 @@ pub(crate) fn answer_by<P: Pages, O: OnceDisk + Drop>(
 }
 
 impl<E: EraseDisk + Drop, O: OnceDisk + Drop> Archive<E, O> {
-    ghost use Rattle.disk_archive.specs.Archives.{Carries, Holds, Stands, IsHonest, erase_of, erase_state, is_down, once_of, once_state, settings_of, site_of};
-    ghost use Rattle.disk_archive.specs.Sites.{LeftCarries, LeftEither};
+    ghost use Rattle.disk_archive.specs.Archives.{Represents, Holds, Stands, IsHonest, erase_of, erase_state, is_down, once_of, once_state, settings_of, site_of};
+    ghost use Rattle.disk_archive.specs.Sites.{LeftRepresents, LeftEither};
     ghost use Rattle.disk_archive.specs.Crashes.{Crashes, Lasts};
-    ghost use Rattle.disk_archive.specs.Failures.{TellsFailure};
+    ghost use Rattle.disk_archive.specs.Failures.{ReportsFailure};
     ghost use Rattle.disk_archive.specs.inner.Idle.{IsAsBefore};
 
-    // Answers a question where the archive carries a history.
+    // Answers a question where the archive represents a history.
     fn try_answer(&mut self, query: Query) -> Result<Answer, AskError>
         ensures usable { OnOk result (is_down self.old ≡ false) }
         ensures down { is_down self.new ≡ is_down self.old }
         ensures idle { is_down self.old ≡ true → IsAsBefore self.old self.new }
-        ensures told { is_down self.old ≡ true → result ≡ Err AskError.NeedsRecovery }
+        ensures reported { is_down self.old ≡ true → result ≡ Err AskError.NeedsRecovery }
         ensures recovery { result ≡ Err AskError.NeedsRecovery → is_down self.old ≡ true }
         ensures honest { IsHonest self.old ↔ IsHonest self.new }
-        ensures answered { IfOk result (λ answer. (h : History) → Carries self.old h → IsAnswered (applied h) query answer) }
-        ensures below { OnOk result ((h : History) → Carries self.old h → last_moment query < settled h) }
-        ensures above { (h : History) → Carries self.old h → (mark : ℕ) → result ≡ Err (AskError.AboveWatermark mark) → (mark ≡ settled h) × (settled h ≤ last_moment query) }
-        ensures watermark { (h : History) → Carries self.old h → settled h ≤ last_moment query → result ≡ Err (AskError.AboveWatermark (settled h)) }
-        ensures carries { (h : History) → Carries self.old h → Carries self.new h }
-        ensures blames { (h : History) → Carries self.old h → IfErr result BlamesNone }
-        ensures still { (h : History) → Carries self.old h → (erase_state self.new).clock ≡ (erase_state self.old).clock }
-        ensures crash { (h : History) → Carries self.old h → Crashes self.old self.new (LeftEither (site_of self.old) h h) }
+        ensures answered { IfOk result (λ answer. (h : History) → Represents self.old h → IsAnswered (applied h) query answer) }
+        ensures below { OnOk result ((h : History) → Represents self.old h → last_moment query < settled h) }
+        ensures above { (h : History) → Represents self.old h → (mark : ℕ) → result ≡ Err (AskError.AboveWatermark mark) → (mark ≡ settled h) × (settled h ≤ last_moment query) }
+        ensures watermark { (h : History) → Represents self.old h → settled h ≤ last_moment query → result ≡ Err (AskError.AboveWatermark (settled h)) }
+        ensures represents { (h : History) → Represents self.old h → Represents self.new h }
+        ensures blames { (h : History) → Represents self.old h → IfErr result BlamesNone }
+        ensures still { (h : History) → Represents self.old h → (erase_state self.new).clock ≡ (erase_state self.old).clock }
+        ensures crash { (h : History) → Represents self.old h → Crashes self.old self.new (LeftEither (site_of self.old) h h) }
         ensures settings { settings_of self.new ≡ settings_of self.old }
         ensures disk { once_of self.new ≡ once_of self.old }
         ensures blocks { IsHonest self.old → once_state self.new ≡ once_state self.old }
-        ensures failed { TellsFailure self.old self.new (once_of self.old) (result ≡ Err AskError.Fault) }
+        ensures failed { ReportsFailure self.old self.new (once_of self.old) (result ≡ Err AskError.Fault) }
     {
         let burnt = self.shelf.next();
         begin(&mut self.tx)?;
@@ -169,7 +169,7 @@ impl<E: EraseDisk + Drop, O: OnceDisk + Drop> Archive<E, O> {
         ensures below { OnOk result (IsHonest self.old → (h : History) → Holds self.old h → last_moment query < settled h) }
         ensures above { IsHonest self.old → (h : History) → Holds self.old h → (mark : ℕ) → (result ≡ Err (AskError.AboveWatermark mark)) ↔ ((is_down self.old ≡ false) × (mark ≡ settled h) × (settled h ≤ last_moment query)) }
         ensures holds { (h : History) → Holds self.old h → Holds self.new h }
-        ensures crash { (h : History) → Carries self.old h → Crashes self.old self.new (LeftCarries (site_of self.old) h) }
+        ensures crash { (h : History) → Represents self.old h → Crashes self.old self.new (LeftRepresents (site_of self.old) h) }
         ensures lasts { (h : History) → Stands self.old h → Lasts self.old self.new h }
         ensures still { IsHonest self.old → (h : History) → Holds self.old h → (erase_state self.new).clock ≡ (erase_state self.old).clock }
         ensures usable { OnOk result (is_down self.old ≡ false) }
@@ -178,7 +178,7 @@ impl<E: EraseDisk + Drop, O: OnceDisk + Drop> Archive<E, O> {
         ensures recovery { (result ≡ Err AskError.NeedsRecovery) ↔ (is_down self.old ≡ true) }
         ensures sound { IsHonest self.old → (h : History) → Holds self.old h → (page : ℕ) → result ≡ Err (AskError.BadNode page) → ⊥ }
         ensures undamaged { IsHonest self.old → (h : History) → Holds self.old h → (block : ℕ) → result ≡ Err (AskError.Damaged block) → ⊥ }
-        ensures failed { TellsFailure self.old self.new (once_of self.old) (result ≡ Err AskError.Fault) }
+        ensures failed { ReportsFailure self.old self.new (once_of self.old) (result ≡ Err AskError.Fault) }
         ensures honest { IsHonest self.old ↔ IsHonest self.new }
         ensures settings { settings_of self.new ≡ settings_of self.old }
         ensures disk { once_of self.new ≡ once_of self.old }

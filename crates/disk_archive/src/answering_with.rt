@@ -16,14 +16,14 @@ use interleaving_core::{Answer, Query};
 use once_store::ShelfReader;
 
 impl<E: EraseDisk + Drop, O: OnceDisk + Drop> Archive<E, O> {
-    ghost use Rattle.disk_archive.specs.Archives.{Carries, Holds, Stands, IsHonest, erase_of, erase_state, is_down, once_of, once_state, settings_of, site_of};
-    ghost use Rattle.disk_archive.specs.Sites.{LeftCarries, LeftEither};
+    ghost use Rattle.disk_archive.specs.Archives.{Represents, Holds, Stands, IsHonest, erase_of, erase_state, is_down, once_of, once_state, settings_of, site_of};
+    ghost use Rattle.disk_archive.specs.Sites.{LeftRepresents, LeftEither};
     ghost use Rattle.disk_archive.specs.Crashes.{Crashes, Lasts};
-    ghost use Rattle.disk_archive.specs.Failures.{TellsFailure};
+    ghost use Rattle.disk_archive.specs.Failures.{ReportsFailure};
     ghost use Rattle.disk_archive.specs.Reading.{ReadsFrom};
     ghost use Rattle.disk_archive.specs.inner.Idle.{IsAsBefore};
 
-    // Answers a question by a reader of its blocks, where the archive carries a history.
+    // Answers a question by a reader of its blocks, where the archive represents a history.
     fn try_answer_with(
         &mut self,
         reader: &mut ShelfReader<O>,
@@ -33,23 +33,23 @@ impl<E: EraseDisk + Drop, O: OnceDisk + Drop> Archive<E, O> {
         ensures down { is_down self.new ≡ is_down self.old }
         ensures idle { is_down self.old ≡ true → IsAsBefore self.old self.new }
         ensures unread { is_down self.old ≡ true → reader.new ≡ reader.old }
-        ensures told { is_down self.old ≡ true → result ≡ Err AskError.NeedsRecovery }
+        ensures reported { is_down self.old ≡ true → result ≡ Err AskError.NeedsRecovery }
         ensures recovery { result ≡ Err AskError.NeedsRecovery → is_down self.old ≡ true }
         ensures honest { IsHonest self.old ↔ IsHonest self.new }
-        ensures answered { IfOk result (λ answer. (h : History) → Carries self.old h → ReadsFrom self.old reader.old → IsAnswered (applied h) query answer) }
-        ensures below { OnOk result ((h : History) → Carries self.old h → last_moment query < settled h) }
-        ensures above { (h : History) → Carries self.old h → (mark : ℕ) → result ≡ Err (AskError.AboveWatermark mark) → (mark ≡ settled h) × (settled h ≤ last_moment query) }
-        ensures watermark { (h : History) → Carries self.old h → settled h ≤ last_moment query → result ≡ Err (AskError.AboveWatermark (settled h)) }
-        ensures carries { (h : History) → Carries self.old h → Carries self.new h }
-        ensures blames { (h : History) → Carries self.old h → ReadsFrom self.old reader.old → IfErr result BlamesNone }
-        ensures still { (h : History) → Carries self.old h → (erase_state self.new).clock ≡ (erase_state self.old).clock }
-        ensures crash { (h : History) → Carries self.old h → Crashes self.old self.new (LeftEither (site_of self.old) h h) }
+        ensures answered { IfOk result (λ answer. (h : History) → Represents self.old h → ReadsFrom self.old reader.old → IsAnswered (applied h) query answer) }
+        ensures below { OnOk result ((h : History) → Represents self.old h → last_moment query < settled h) }
+        ensures above { (h : History) → Represents self.old h → (mark : ℕ) → result ≡ Err (AskError.AboveWatermark mark) → (mark ≡ settled h) × (settled h ≤ last_moment query) }
+        ensures watermark { (h : History) → Represents self.old h → settled h ≤ last_moment query → result ≡ Err (AskError.AboveWatermark (settled h)) }
+        ensures represents { (h : History) → Represents self.old h → Represents self.new h }
+        ensures blames { (h : History) → Represents self.old h → ReadsFrom self.old reader.old → IfErr result BlamesNone }
+        ensures still { (h : History) → Represents self.old h → (erase_state self.new).clock ≡ (erase_state self.old).clock }
+        ensures crash { (h : History) → Represents self.old h → Crashes self.old self.new (LeftEither (site_of self.old) h h) }
         ensures settings { settings_of self.new ≡ settings_of self.old }
         ensures disk { once_of self.new ≡ once_of self.old }
         ensures blocks { IsHonest self.old → once_state self.new ≡ once_state self.old }
-        ensures reads { (h : History) → Carries self.old h → ReadsFrom self.old reader.old → ReadsFrom self.new reader.new }
+        ensures reads { (h : History) → Represents self.old h → ReadsFrom self.old reader.old → ReadsFrom self.new reader.new }
         ensures capacity { capacity_of reader.new ≡ capacity_of reader.old }
-        ensures failed { TellsFailure self.old self.new (reader_disk reader.old) (result ≡ Err AskError.Fault) }
+        ensures failed { ReportsFailure self.old self.new (reader_disk reader.old) (result ≡ Err AskError.Fault) }
     {
         let burnt = self.shelf.next();
         begin(&mut self.tx)?;
@@ -83,7 +83,7 @@ impl<E: EraseDisk + Drop, O: OnceDisk + Drop> Archive<E, O> {
         ensures below { OnOk result (IsHonest self.old → (h : History) → Holds self.old h → last_moment query < settled h) }
         ensures above { IsHonest self.old → (h : History) → Holds self.old h → (mark : ℕ) → (result ≡ Err (AskError.AboveWatermark mark)) ↔ ((is_down self.old ≡ false) × (mark ≡ settled h) × (settled h ≤ last_moment query)) }
         ensures holds { (h : History) → Holds self.old h → Holds self.new h }
-        ensures crash { (h : History) → Carries self.old h → Crashes self.old self.new (LeftCarries (site_of self.old) h) }
+        ensures crash { (h : History) → Represents self.old h → Crashes self.old self.new (LeftRepresents (site_of self.old) h) }
         ensures lasts { (h : History) → Stands self.old h → Lasts self.old self.new h }
         ensures still { IsHonest self.old → (h : History) → Holds self.old h → (erase_state self.new).clock ≡ (erase_state self.old).clock }
         ensures usable { OnOk result (is_down self.old ≡ false) }
@@ -92,7 +92,7 @@ impl<E: EraseDisk + Drop, O: OnceDisk + Drop> Archive<E, O> {
         ensures recovery { (result ≡ Err AskError.NeedsRecovery) ↔ (is_down self.old ≡ true) }
         ensures sound { IsHonest self.old → (h : History) → Holds self.old h → ReadsFrom self.old reader.old → (page : ℕ) → result ≡ Err (AskError.BadNode page) → ⊥ }
         ensures undamaged { IsHonest self.old → (h : History) → Holds self.old h → ReadsFrom self.old reader.old → (block : ℕ) → result ≡ Err (AskError.Damaged block) → ⊥ }
-        ensures failed { TellsFailure self.old self.new (reader_disk reader.old) (result ≡ Err AskError.Fault) }
+        ensures failed { ReportsFailure self.old self.new (reader_disk reader.old) (result ≡ Err AskError.Fault) }
         ensures honest { IsHonest self.old ↔ IsHonest self.new }
         ensures settings { settings_of self.new ≡ settings_of self.old }
         ensures disk { once_of self.new ≡ once_of self.old }

@@ -45,7 +45,7 @@ fn begin_from<E: EraseDisk + Drop>(tx: &mut Tx<E>, head: &Head) -> Result<(), Ne
 
 impl<E: EraseDisk + Drop, O: OnceDisk + Drop> Archive<E, O> {
     ghost use Rattle.disk_models.specs.Once.{Grows};
-    ghost use Rattle.disk_archive.specs.Archives.{Carries, GoesOn, Holds, Stands, IsHonest, erase_of, erase_state, is_down, once_of, once_state, pen_in, settings_of, site_of};
+    ghost use Rattle.disk_archive.specs.Archives.{Represents, GoesOn, Holds, Stands, IsHonest, erase_of, erase_state, is_down, once_of, once_state, pen_in, settings_of, site_of};
     ghost use Rattle.disk_archive.specs.Blanks.{NoneBlank, unused_pages};
     ghost use Rattle.disk_archive.specs.Checks.{HasPages, root_in};
     ghost use Rattle.disk_archive.specs.Failures.{ReportsOne};
@@ -58,28 +58,28 @@ impl<E: EraseDisk + Drop, O: OnceDisk + Drop> Archive<E, O> {
     ghost use Rattle.disk_archive.specs.inner.Idle.{IsAsBefore};
     ghost use Rattle.disk_archive.specs.inner.Outcomes.{StepIs, CrashesOnStep};
 
-    // Applies the next changes where the archive carries a history.
+    // Applies the next changes where the archive represents a history.
     fn try_apply(&mut self) -> Result<Step, ApplyError>
         ensures usable { OnOk result (is_down self.old ≡ false) }
         ensures still_usable { OnOk result (is_down self.new ≡ false) }
         ensures falls { is_down self.old ≡ false → is_down self.new ≡ true → result ≡ Err ApplyError.Fault }
         ensures failed { ReportsOne (E.fault_count (erase_of self.old)) (E.fault_count (erase_of self.new)) (O.pen_fault_count (pen_in self.old)) (O.pen_fault_count (pen_in self.new)) (result ≡ Err ApplyError.Fault) }
         ensures recovery { is_down self.old ≡ true → IsAsBefore self.old self.new }
-        ensures told { is_down self.old ≡ true → result ≡ Err ApplyError.NeedsRecovery }
+        ensures reported { is_down self.old ≡ true → result ≡ Err ApplyError.NeedsRecovery }
         ensures refused { IfErr result (ApplyRefusal (is_down self.old)) }
         ensures limits { IfErr result (LimitRefusal (home_pages (journal_of (pool_of self.old.tx))) self.old.head.fresh self.old.head.applied) }
-        ensures lacks { (h : History) (k : Carries self.old h) → IfErr result (LackRefusal (IsNextVersion h) k.pages (unused_pages self.old) (root_in self.old)) }
-        ensures room { result ≡ Ok Step.Applied → (h : History) (k : Carries self.old h) → HasRoom (IsNextVersion h) k.pages (unused_pages self.old) (root_in self.old) self.old.head.applied (NoneBlank self.old) }
+        ensures lacks { (h : History) (k : Represents self.old h) → IfErr result (LackRefusal (IsNextVersion h) k.pages (unused_pages self.old) (root_in self.old)) }
+        ensures room { result ≡ Ok Step.Applied → (h : History) (k : Represents self.old h) → HasRoom (IsNextVersion h) k.pages (unused_pages self.old) (root_in self.old) self.old.head.applied (NoneBlank self.old) }
         ensures high { IsHonest self.old → (pages : List (List ℕ)) → HasPages self.old pages → result ≡ Err ApplyError.TooHigh → HasRootLevel pages (root_in self.old) 7 }
         ensures erase { E.honest (erase_of self.old) ↔ E.honest (erase_of self.new) }
         ensures settings { settings_of self.new ≡ settings_of self.old }
         ensures shelf { KeepsBlocks O.OnceDisk 2000 self.old.shelf self.new.shelf (result ≡ Err ApplyError.OnceFull) }
-        ensures ok { IfOk result (λ step. (h : History) → Carries self.old h → StepIs self.new step h) }
+        ensures ok { IfOk result (λ step. (h : History) → Represents self.old h → StepIs self.new step h) }
         ensures still { result ≡ Ok Step.Idle → IsAsBefore self.old self.new }
-        ensures err { OnErr result ((h : History) → Carries self.old h → GoesOn self.new h) }
-        ensures sound { (h : History) → Carries self.old h → (page : ℕ) → result ≡ Err (ApplyError.BadNode page) → ⊥ }
-        ensures memory { (h : History) → Carries self.old h → result ≡ Err ApplyError.OutOfMemory → (erase_state self.new).clock ≡ (erase_state self.old).clock }
-        ensures crash { (h : History) → Carries self.old h → CrashesOnStep self.old self.new h }
+        ensures err { OnErr result ((h : History) → Represents self.old h → GoesOn self.new h) }
+        ensures sound { (h : History) → Represents self.old h → (page : ℕ) → result ≡ Err (ApplyError.BadNode page) → ⊥ }
+        ensures memory { (h : History) → Represents self.old h → result ≡ Err ApplyError.OutOfMemory → (erase_state self.new).clock ≡ (erase_state self.old).clock }
+        ensures crash { (h : History) → Represents self.old h → CrashesOnStep self.old self.new h }
     {
         begin_from(&mut self.tx, &self.head)?;
         let Some(number) = self.sequencer.next() else {
@@ -120,7 +120,7 @@ impl<E: EraseDisk + Drop, O: OnceDisk + Drop> Archive<E, O> {
         ensures still { result ≡ Ok Step.Idle → erase_of self.new ≡ erase_of self.old }
         ensures unspent { result ≡ Ok Step.Idle → once_state self.new ≡ once_state self.old }
         ensures err { OnErr result ((h : History) → Holds self.old h → Holds self.new h) }
-        ensures crash { (h : History) → Carries self.old h → (g : History) × ((g ≡ h) ⊎ Moves h g) × Crashes self.old self.new (LeftEither (site_of self.old) h g) }
+        ensures crash { (h : History) → Represents self.old h → (g : History) × ((g ≡ h) ⊎ Moves h g) × Crashes self.old self.new (LeftEither (site_of self.old) h g) }
         ensures lasts { (h : History) → Stands self.old h → Lasts self.old self.new h }
         ensures memory { IsHonest self.old → (h : History) → Holds self.old h → result ≡ Err ApplyError.OutOfMemory → (erase_state self.new).clock ≡ (erase_state self.old).clock }
         ensures usable { OnOk result (is_down self.old ≡ false) }

@@ -139,12 +139,12 @@ fn count_by<P: Pages, O: OnceDisk + Drop>(
 }
 
 impl<E: EraseDisk + Drop, O: OnceDisk + Drop> Archive<E, O> {
-    ghost use Rattle.disk_archive.specs.Archives.{Carries, Holds, Stands, IsHonest, erase_of, erase_state, is_down, once_of, once_state, settings_of, site_of};
+    ghost use Rattle.disk_archive.specs.Archives.{Represents, Holds, Stands, IsHonest, erase_of, erase_state, is_down, once_of, once_state, settings_of, site_of};
     ghost use Rattle.disk_archive.specs.Checks.{HasPages, applied_in, in_use_of, root_in};
     ghost use Rattle.disk_archive.specs.Rings.{head_in};
-    ghost use Rattle.disk_archive.specs.Sites.{LeftCarries, LeftEither};
+    ghost use Rattle.disk_archive.specs.Sites.{LeftRepresents, LeftEither};
     ghost use Rattle.disk_archive.specs.Crashes.{Crashes, Lasts};
-    ghost use Rattle.disk_archive.specs.Failures.{TellsFailure};
+    ghost use Rattle.disk_archive.specs.Failures.{ReportsFailure};
     ghost use Rattle.disk_archive.specs.inner.Idle.{IsAsBefore};
 
     // Checks the archive where it needn't be opened again.
@@ -152,24 +152,24 @@ impl<E: EraseDisk + Drop, O: OnceDisk + Drop> Archive<E, O> {
         ensures usable { OnOk result (is_down self.old ≡ false) }
         ensures down { is_down self.new ≡ is_down self.old }
         ensures idle { is_down self.old ≡ true → IsAsBefore self.old self.new }
-        ensures told { is_down self.old ≡ true → result ≡ Err CheckError.NeedsRecovery }
+        ensures reported { is_down self.old ≡ true → result ≡ Err CheckError.NeedsRecovery }
         ensures recovery { result ≡ Err CheckError.NeedsRecovery → is_down self.old ≡ true }
         ensures honest { IsHonest self.old ↔ IsHonest self.new }
         ensures counted { IfOk result (λ n. n ≡ applied_in self.old) }
-        ensures finds { (h : History) → Carries self.old h → IfErr result FindsNone }
+        ensures finds { (h : History) → Represents self.old h → IfErr result FindsNone }
         ensures read { IsHonest self.old → (pages : List (List ℕ)) → HasPages self.old pages → IfOk result (IsAllRead pages (once_state self.old).settled (O.block_count (once_of self.old)) (root_in self.old) (in_use_of self.old)) }
         ensures rings { IsHonest self.old → (pages : List (List ℕ)) → HasPages self.old pages → OnOk result (AreRings pages (settings_of self.old) (head_in self.old)) }
         ensures bad { IsHonest self.old → (pages : List (List ℕ)) → HasPages self.old pages
             → (page : ℕ) → result ≡ Err (CheckError.BadNode page) → IsBadPage pages (once_state self.old).settled (O.block_count (once_of self.old)) (root_in self.old) (applied_in self.old) (in_use_of self.old) page ⊎ IsBadRing pages (settings_of self.old) (head_in self.old) page }
         ensures damaged { IsHonest self.old → (pages : List (List ℕ)) → HasPages self.old pages
             → (block : ℕ) → result ≡ Err (CheckError.Damaged block) → IsBadBlock pages (once_state self.old).settled (O.block_count (once_of self.old)) (root_in self.old) block }
-        ensures carries { (h : History) → Carries self.old h → Carries self.new h }
-        ensures still { (h : History) → Carries self.old h → (erase_state self.new).clock ≡ (erase_state self.old).clock }
-        ensures crash { (h : History) → Carries self.old h → Crashes self.old self.new (LeftEither (site_of self.old) h h) }
+        ensures represents { (h : History) → Represents self.old h → Represents self.new h }
+        ensures still { (h : History) → Represents self.old h → (erase_state self.new).clock ≡ (erase_state self.old).clock }
+        ensures crash { (h : History) → Represents self.old h → Crashes self.old self.new (LeftEither (site_of self.old) h h) }
         ensures settings { settings_of self.new ≡ settings_of self.old }
         ensures disk { once_of self.new ≡ once_of self.old }
         ensures blocks { IsHonest self.old → once_state self.new ≡ once_state self.old }
-        ensures failed { TellsFailure self.old self.new (once_of self.old) (result ≡ Err CheckError.Fault) }
+        ensures failed { ReportsFailure self.old self.new (once_of self.old) (result ≡ Err CheckError.Fault) }
     {
         let burnt = self.shelf.next();
         begin(&mut self.tx)?;
@@ -198,7 +198,7 @@ impl<E: EraseDisk + Drop, O: OnceDisk + Drop> Archive<E, O> {
         ensures head { IfOk result (λ n. n ≡ applied_in self.old) }
         ensures sound { IsHonest self.old → (h : History) → Holds self.old h → (page : ℕ) → result ≡ Err (CheckError.BadNode page) → ⊥ }
         ensures undamaged { IsHonest self.old → (h : History) → Holds self.old h → (block : ℕ) → result ≡ Err (CheckError.Damaged block) → ⊥ }
-        ensures failed { TellsFailure self.old self.new (once_of self.old) (result ≡ Err CheckError.Fault) }
+        ensures failed { ReportsFailure self.old self.new (once_of self.old) (result ≡ Err CheckError.Fault) }
         ensures read { IsHonest self.old → (pages : List (List ℕ)) → HasPages self.old pages → IfOk result (IsAllRead pages (once_state self.old).settled (O.block_count (once_of self.old)) (root_in self.old) (in_use_of self.old)) }
         ensures rings { IsHonest self.old → (pages : List (List ℕ)) → HasPages self.old pages → OnOk result (AreRings pages (settings_of self.old) (head_in self.old)) }
         ensures bad { IsHonest self.old → (pages : List (List ℕ)) → HasPages self.old pages
@@ -206,7 +206,7 @@ impl<E: EraseDisk + Drop, O: OnceDisk + Drop> Archive<E, O> {
         ensures damaged { IsHonest self.old → (pages : List (List ℕ)) → HasPages self.old pages
             → (block : ℕ) → result ≡ Err (CheckError.Damaged block) → IsBadBlock pages (once_state self.old).settled (O.block_count (once_of self.old)) (root_in self.old) block }
         ensures holds { (h : History) → Holds self.old h → Holds self.new h }
-        ensures crash { (h : History) → Carries self.old h → Crashes self.old self.new (LeftCarries (site_of self.old) h) }
+        ensures crash { (h : History) → Represents self.old h → Crashes self.old self.new (LeftRepresents (site_of self.old) h) }
         ensures lasts { (h : History) → Stands self.old h → Lasts self.old self.new h }
         ensures still { IsHonest self.old → (h : History) → Holds self.old h → (erase_state self.new).clock ≡ (erase_state self.old).clock }
         ensures usable { OnOk result (is_down self.old ≡ false) }

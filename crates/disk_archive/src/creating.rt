@@ -13,7 +13,7 @@ ghost use Rattle.interleaving_core.specs.Steps.{empty};
 ghost use Rattle.archive_pages.specs.Places.{AreSettings, tree_low};
 ghost use Rattle.disk_archive.specs.Creations.{CountsOne, IsTooSmall, LeavesNoneOrEmpty, homes_on, site_on};
 ghost use Rattle.disk_archive.specs.Notes.{note_octets};
-ghost use Rattle.disk_archive.specs.inner.Creating.{Means, disk_left, told};
+ghost use Rattle.disk_archive.specs.inner.Creating.{Means, disk_left, reported};
 
 use crate::archive::Archive;
 use crate::beginning::{Empty, make_empty};
@@ -66,8 +66,8 @@ fn make_pages<E: EraseDisk + Drop>(
     ensures maps { E.honest erase → IfOk result (λ tx. Maps E.EraseDisk (pool_of tx) (laid images.now (homes_from (E.model erase).octet 0 homes))) }
     ensures homes { IfOk result (λ tx. home_pages (journal_of (pool_of tx)) ≡ homes) }
     ensures note { IfOk result (λ tx. note_of (journal_of (pool_of tx)) ≡ note) }
-    ensures large { told result ≢ Err CreateError.PagesFull }
-    ensures serves { Serves E.EraseDisk erase (disk_left result) (told result ≡ Err CreateError.Fault) }
+    ensures large { reported result ≢ Err CreateError.PagesFull }
+    ensures serves { Serves E.EraseDisk erase (disk_left result) (reported result ≡ Err CreateError.Fault) }
 
     // Where memory runs out the disk is handed back as it was, or with all these pages.
     ensures memory { E.honest erase → IfErr result (λ refused. refused.error ≡ CreateError.OutOfMemory
@@ -91,7 +91,7 @@ fn make_pages<E: EraseDisk + Drop>(
 
 impl<E: EraseDisk + Drop, O: OnceDisk + Drop> Archive<E, O> {
     ghost use Rattle.once_store.specs.Shelves.{IsFirstBlank, disk_of, next_of, pen_of};
-    ghost use Rattle.disk_archive.specs.Archives.{Carries, settings_of, site_of};
+    ghost use Rattle.disk_archive.specs.Archives.{Represents, settings_of, site_of};
     ghost use Rattle.disk_archive.specs.Blanks.{next_block};
     ghost use Rattle.disk_archive.specs.Outcome.{erase_after, once_after, outcome, pen_after};
     ghost use Rattle.disk_archive.specs.Sites.{Rests};
@@ -109,7 +109,7 @@ impl<E: EraseDisk + Drop, O: OnceDisk + Drop> Archive<E, O> {
         requires large { tree_low settings + 2 ≤ homes }
         requires room { home_place homes ≤ E.octet_count erase }
         requires noted { note ≡ note_octets (O.block_count (disk_of shelf)) settings }
-        ensures carries { E.honest erase → O.honest (disk_of shelf) (pen_of shelf) → IfOk result (λ archive. Carries archive (empty settings.collectors)) }
+        ensures represents { E.honest erase → O.honest (disk_of shelf) (pen_of shelf) → IfOk result (λ archive. Represents archive (empty settings.collectors)) }
         ensures settings { IfOk result (λ archive. settings_of archive ≡ settings) }
         ensures homes { IfOk result (λ archive. (site_of archive).homes ≡ homes) }
         ensures note { IfOk result (λ archive. (site_of archive).note ≡ note) }
@@ -174,7 +174,7 @@ impl<E: EraseDisk + Drop, O: OnceDisk + Drop> Archive<E, O> {
         requires { AreSettings settings }
 
         // From an Ok on each crash leaves an archive to which nothing was given.
-        ensures created { E.honest erase → O.honest once.value pen → IfOk result (λ archive. Carries archive (empty settings.collectors)) }
+        ensures created { E.honest erase → O.honest once.value pen → IfOk result (λ archive. Represents archive (empty settings.collectors)) }
         ensures settings { IfOk result (λ archive. settings_of archive ≡ settings) }
         ensures homes { IfOk result (λ archive. (site_of archive).homes ≡ homes_on (E.octet_count erase)) }
         ensures note { IfOk result (λ archive. (site_of archive).note ≡ note_octets (O.block_count once.value) settings) }
@@ -217,7 +217,7 @@ impl<E: EraseDisk + Drop, O: OnceDisk + Drop> Archive<E, O> {
         match Shelf::open(once, pen, 0) {
             Ok(shelf) => Archive::begin(alloc, erase, shelf, settings, homes, note),
             Err(once_store::Refused { disk, pen, fault }) => {
-                let _told = fault;
+                let _reported = fault;
                 Err(Refused {
                     erase,
                     once: disk,

@@ -5,7 +5,7 @@ ghost use Rattle.route_meaning.specs.History.{History};
 ghost use Rattle.disk_archive.specs.Cursors.{IsGathered, asks};
 
 use interleaving_core::Query;
-use route_history::laws::versions_tell;
+use route_history::laws::versions_report;
 use route_history::{EventsCursor, RowsCursor};
 use std::alloc::Global;
 
@@ -23,7 +23,7 @@ impl Cursor {
         ensures asks { asks result ≡ query }
         ensures gathered { (h : History) → IsGathered result h }
     {
-        versions_tell();
+        versions_report();
         match query {
             Query::Rows(question) => Cursor::Rows(RowsCursor::start(alloc, question)),
             Query::Events(question) => {

@@ -20,7 +20,7 @@ use archive_head::Head;
 use disk_models::{EraseDisk, OnceDisk};
 use interleaving_core::{Answer, Query};
 use page_tx::Pages;
-use route_history::laws::{gathered_follows_histories, versions_tell};
+use route_history::laws::{gathered_follows_histories, versions_report};
 use route_history::{EventsTurn, RowsTurn};
 use std::alloc::Global;
 use tree_questions::{events_turn, rows_turn};
@@ -81,7 +81,7 @@ fn descend_by<P: Pages>(
     ensures device { KeepsDevice (P.honest pages.old) (P.honest pages.new) (P.faults pages.old) (P.faults pages.new) (result ≡ Err AskError.Fault) }
     ensures honest { P.honest pages.old ↔ P.honest pages.new }
 {
-    versions_tell();
+    versions_report();
     gathered_follows_histories();
     let root = root_of(pages, head)?;
     match cursor {
@@ -100,9 +100,9 @@ fn descend_by<P: Pages>(
 }
 
 impl<E: EraseDisk + Drop, O: OnceDisk + Drop> Archive<E, O> {
-    ghost use Rattle.disk_archive.specs.Archives.{Carries, Holds, Stands, IsHonest, erase_of, erase_state, is_down, once_of, once_state, pen_in, settings_of, site_of};
+    ghost use Rattle.disk_archive.specs.Archives.{Represents, Holds, Stands, IsHonest, erase_of, erase_state, is_down, once_of, once_state, pen_in, settings_of, site_of};
     ghost use Rattle.disk_archive.specs.Blanks.{next_block};
-    ghost use Rattle.disk_archive.specs.Sites.{LeftCarries, LeftEither};
+    ghost use Rattle.disk_archive.specs.Sites.{LeftRepresents, LeftEither};
     ghost use Rattle.disk_archive.specs.Crashes.{Crashes, Lasts};
     ghost use Rattle.disk_archive.specs.inner.Idle.{IsAsBefore};
 
@@ -114,28 +114,28 @@ impl<E: EraseDisk + Drop, O: OnceDisk + Drop> Archive<E, O> {
         Cursor::start(self.alloc, query)
     }
 
-    // A turn of a question where the archive carries a history.
+    // A turn of a question where the archive represents a history.
     fn try_descend(&mut self, cursor: &mut Cursor) -> Result<Descent, AskError>
         ensures usable { OnOk result (is_down self.old ≡ false) }
         ensures down { is_down self.new ≡ is_down self.old }
         ensures idle { is_down self.old ≡ true → IsAsBefore self.old self.new }
         ensures unmoved { is_down self.old ≡ true → cursor.new ≡ cursor.old }
-        ensures told { is_down self.old ≡ true → result ≡ Err AskError.NeedsRecovery }
+        ensures reported { is_down self.old ≡ true → result ≡ Err AskError.NeedsRecovery }
         ensures recovery { result ≡ Err AskError.NeedsRecovery → is_down self.old ≡ true }
         ensures honest { IsHonest self.old ↔ IsHonest self.new }
-        ensures descends { IfOk result (λ descent. (h : History) → Carries self.old h → IsGathered cursor.old h → Descends (O.block_count (once_of self.old)) (once_state self.old).settled h cursor.old cursor.new descent) }
+        ensures descends { IfOk result (λ descent. (h : History) → Represents self.old h → IsGathered cursor.old h → Descends (O.block_count (once_of self.old)) (once_state self.old).settled h cursor.old cursor.new descent) }
         ensures further { IfOk result (GoesFurther cursor.old cursor.new) }
         ensures burnt { IfOk result (ReadsBelow (next_block self.old)) }
-        ensures gathered { (h : History) → Carries self.old h → IsGathered cursor.old h → IsGathered cursor.new h }
+        ensures gathered { (h : History) → Represents self.old h → IsGathered cursor.old h → IsGathered cursor.new h }
         ensures asks { asks cursor.new ≡ asks cursor.old }
-        ensures below { OnOk result ((h : History) → Carries self.old h → last_moment (asks cursor.old) < settled h) }
-        ensures above { (h : History) → Carries self.old h → (mark : ℕ) → result ≡ Err (AskError.AboveWatermark mark) → (mark ≡ settled h) × (settled h ≤ last_moment (asks cursor.old)) }
-        ensures watermark { (h : History) → Carries self.old h → settled h ≤ last_moment (asks cursor.old) → result ≡ Err (AskError.AboveWatermark (settled h)) }
-        ensures carries { (h : History) → Carries self.old h → Carries self.new h }
-        ensures blames { (h : History) → Carries self.old h → IfErr result BlamesNone }
+        ensures below { OnOk result ((h : History) → Represents self.old h → last_moment (asks cursor.old) < settled h) }
+        ensures above { (h : History) → Represents self.old h → (mark : ℕ) → result ≡ Err (AskError.AboveWatermark mark) → (mark ≡ settled h) × (settled h ≤ last_moment (asks cursor.old)) }
+        ensures watermark { (h : History) → Represents self.old h → settled h ≤ last_moment (asks cursor.old) → result ≡ Err (AskError.AboveWatermark (settled h)) }
+        ensures represents { (h : History) → Represents self.old h → Represents self.new h }
+        ensures blames { (h : History) → Represents self.old h → IfErr result BlamesNone }
         ensures undamaged { (block : ℕ) → result ≡ Err (AskError.Damaged block) → ⊥ }
-        ensures still { (h : History) → Carries self.old h → (erase_state self.new).clock ≡ (erase_state self.old).clock }
-        ensures crash { (h : History) → Carries self.old h → Crashes self.old self.new (LeftEither (site_of self.old) h h) }
+        ensures still { (h : History) → Represents self.old h → (erase_state self.new).clock ≡ (erase_state self.old).clock }
+        ensures crash { (h : History) → Represents self.old h → Crashes self.old self.new (LeftEither (site_of self.old) h h) }
         ensures disk { once_of self.new ≡ once_of self.old }
         ensures blocks { once_state self.new ≡ once_state self.old }
         ensures device { KeepsDevice (E.honest (erase_of self.old)) (E.honest (erase_of self.new)) (E.fault_count (erase_of self.old)) (E.fault_count (erase_of self.new)) (result ≡ Err AskError.Fault) }
@@ -166,7 +166,7 @@ impl<E: EraseDisk + Drop, O: OnceDisk + Drop> Archive<E, O> {
         ensures below { OnOk result (IsHonest self.old → (h : History) → Holds self.old h → last_moment (asks cursor.old) < settled h) }
         ensures above { IsHonest self.old → (h : History) → Holds self.old h → (mark : ℕ) → (result ≡ Err (AskError.AboveWatermark mark)) ↔ ((is_down self.old ≡ false) × (mark ≡ settled h) × (settled h ≤ last_moment (asks cursor.old))) }
         ensures holds { (h : History) → Holds self.old h → Holds self.new h }
-        ensures crash { (h : History) → Carries self.old h → Crashes self.old self.new (LeftCarries (site_of self.old) h) }
+        ensures crash { (h : History) → Represents self.old h → Crashes self.old self.new (LeftRepresents (site_of self.old) h) }
         ensures lasts { (h : History) → Stands self.old h → Lasts self.old self.new h }
         ensures still { IsHonest self.old → (h : History) → Holds self.old h → (erase_state self.new).clock ≡ (erase_state self.old).clock }
         ensures usable { OnOk result (is_down self.old ≡ false) }

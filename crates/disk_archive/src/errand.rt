@@ -7,12 +7,12 @@ ghost use Rattle.route_history.specs.Walks.{Rose};
 ghost use Rattle.tsb_walk.specs.Inside.{KeepsInside};
 ghost use Rattle.tsb_walk.specs.Knowing.{ReadsWell};
 ghost use Rattle.disk_archive.specs.Cursors.{IsGathered, SaysSame, asks, walked_to};
-ghost use Rattle.disk_archive.specs.Descents.{IsErrandFor, LiesKnown};
+ghost use Rattle.disk_archive.specs.Descents.{IsErrandFor, LocatedKnown};
 
 use crate::cursor::Cursor;
 use disk_models::OnceDisk;
 use once_store::{BlockError, ShelfReader};
-use route_history::laws::{gathered_follows_histories, versions_tell};
+use route_history::laws::{gathered_follows_histories, versions_report};
 use route_history::{EventsErrand, RowsErrand};
 use std::alloc::Global;
 
@@ -38,13 +38,13 @@ impl Errand {
         cursor: &mut Cursor,
     ) -> Result<(), BlockError>
         requires fits { IsErrandFor cursor.old self }
-        ensures gathered { (h : History) → LiesKnown O.OnceDisk reader.old seen.old self cursor.old h → OnOk result (IsGathered cursor.new h) }
-        ensures further { (h : History) → LiesKnown O.OnceDisk reader.old seen.old self cursor.old h → OnOk result (Rose (walked_to cursor.old) (walked_to cursor.new)) }
+        ensures gathered { (h : History) → LocatedKnown O.OnceDisk reader.old seen.old self cursor.old h → OnOk result (IsGathered cursor.new h) }
+        ensures further { (h : History) → LocatedKnown O.OnceDisk reader.old seen.old self cursor.old h → OnOk result (Rose (walked_to cursor.old) (walked_to cursor.new)) }
         ensures asks { asks cursor.new ≡ asks cursor.old }
         ensures refused { OnErr result (SaysSame cursor.old cursor.new) }
         ensures kept { OnErr result ((h : History) → IsGathered cursor.old h → IsGathered cursor.new h) }
-        ensures undamaged { (h : History) → LiesKnown O.OnceDisk reader.old seen.old self cursor.old h → (block : ℕ) → result ≡ Err (BlockError.Damaged block) → ⊥ }
-        ensures reads { (h : History) → LiesKnown O.OnceDisk reader.old seen.old self cursor.old h → ReadsWell O.OnceDisk reader.new seen.new }
+        ensures undamaged { (h : History) → LocatedKnown O.OnceDisk reader.old seen.old self cursor.old h → (block : ℕ) → result ≡ Err (BlockError.Damaged block) → ⊥ }
+        ensures reads { (h : History) → LocatedKnown O.OnceDisk reader.old seen.old self cursor.old h → ReadsWell O.OnceDisk reader.new seen.new }
         ensures inside { KeepsInside O.OnceDisk reader.old → KeepsInside O.OnceDisk reader.new }
         ensures known { O.honest_seen (reader_disk reader.old) seen.old → O.known seen.new ≡ O.known seen.old }
         ensures disk { reader_disk reader.new ≡ reader_disk reader.old }
@@ -53,7 +53,7 @@ impl Errand {
         ensures quiet { (IsErrOf result BlockError.Fault → ⊥) → O.seen_fault_count seen.new ≡ O.seen_fault_count seen.old }
         ensures counted { IsErrOf result BlockError.Fault → O.seen_fault_count seen.new ≡ min (O.seen_fault_count seen.old + 1) 18446744073709551615 }
     {
-        versions_tell();
+        versions_report();
         gathered_follows_histories();
         match (self, cursor) {
             (Errand::Rows(errand), Cursor::Rows(rows)) => errand.finish(reader, seen, alloc, rows),

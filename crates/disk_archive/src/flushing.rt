@@ -51,13 +51,13 @@ fn write_home<E: EraseDisk + Drop>(tx: &mut Tx<E>) -> Result<Flush, UseError>
 }
 
 impl<E: EraseDisk + Drop, O: OnceDisk + Drop> Archive<E, O> {
-    ghost use Rattle.disk_archive.specs.Archives.{Carries, GoesOn, Holds, Stands, IsHonest, erase_of, is_down, once_of, once_state, pen_in, settings_of, site_of};
-    ghost use Rattle.disk_archive.specs.Sites.{LeftCarries, LeftEither};
+    ghost use Rattle.disk_archive.specs.Archives.{Represents, GoesOn, Holds, Stands, IsHonest, erase_of, is_down, once_of, once_state, pen_in, settings_of, site_of};
+    ghost use Rattle.disk_archive.specs.Sites.{LeftRepresents, LeftEither};
     ghost use Rattle.disk_archive.specs.Crashes.{Crashes, Lasts};
     ghost use Rattle.disk_archive.specs.Homes.{closed_in, dirty_pages};
     ghost use Rattle.disk_archive.specs.inner.Idle.{IsAsBefore};
 
-    // A step of flushing where the archive carries a history.
+    // A step of flushing where the archive represents a history.
     fn try_flush(&mut self) -> Result<Flush, FlushError>
         ensures usable { OnOk result ((is_down self.old ≡ false) × (is_down self.new ≡ false)) }
         ensures idle { is_down self.old ≡ true → IsAsBefore self.old self.new }
@@ -68,8 +68,8 @@ impl<E: EraseDisk + Drop, O: OnceDisk + Drop> Archive<E, O> {
         ensures settings { settings_of self.new ≡ settings_of self.old }
         ensures disk { once_of self.new ≡ once_of self.old }
         ensures blocks { once_state self.new ≡ once_state self.old }
-        ensures goes_on { (h : History) → Carries self.old h → GoesOn self.new h }
-        ensures crash { (h : History) → Carries self.old h → Crashes self.old self.new (LeftEither (site_of self.old) h h) }
+        ensures goes_on { (h : History) → Represents self.old h → GoesOn self.new h }
+        ensures crash { (h : History) → Represents self.old h → Crashes self.old self.new (LeftEither (site_of self.old) h h) }
         ensures flushed { IfOk result (λ step. step ≡ Flush.Flushed → IsHomed (dirty_pages self.old) (dirty_pages self.new)) }
         ensures clean { IfOk result (λ step. step ≡ Flush.Clean → (dirty_pages self.new ≡ []) × (closed_in self.new ≡ 8)) }
         ensures only { IfOk result (λ step. (step ≡ Flush.Clean) ↔ (dirty_pages self.old ≡ [])) }
@@ -85,7 +85,7 @@ impl<E: EraseDisk + Drop, O: OnceDisk + Drop> Archive<E, O> {
     /// again.
     pub fn flush_step(&mut self) -> Result<Flush, FlushError>
         ensures holds { (h : History) → Holds self.old h → Holds self.new h }
-        ensures crash { (h : History) → Carries self.old h → Crashes self.old self.new (LeftCarries (site_of self.old) h) }
+        ensures crash { (h : History) → Represents self.old h → Crashes self.old self.new (LeftRepresents (site_of self.old) h) }
         ensures lasts { (h : History) → Stands self.old h → Lasts self.old self.new h }
         ensures usable { OnOk result ((is_down self.old ≡ false) × (is_down self.new ≡ false)) }
         ensures idle { is_down self.old ≡ true → (erase_of self.new ≡ erase_of self.old) × (once_state self.new ≡ once_state self.old) × (is_down self.new ≡ true) }

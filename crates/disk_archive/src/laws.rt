@@ -5,7 +5,7 @@ ghost use Rattle.route_meaning.specs.History.{History, Begins};
 ghost use Rattle.disk_archive.specs.declared.cursor.Cursor.{Cursor};
 ghost use Rattle.disk_archive.specs.declared.errand.Errand.{Errand};
 ghost use Rattle.disk_archive.specs.Cursors.{IsGathered};
-ghost use Rattle.disk_archive.specs.Descents.{Lies};
+ghost use Rattle.disk_archive.specs.Descents.{Located};
 
 /// What a question has gathered over a history is right over each later one.
 pub fn gathered_stays()
@@ -14,5 +14,5 @@ pub fn gathered_stays()
 
 /// An errand that lies in settled blocks lies in them where more are settled.
 pub fn errands_stay()
-    ensures { (count : ℕ) (few many : ℕ → Option (List ℕ)) (errand : Errand) (c : Cursor) (h : History) → ((n : ℕ) (octets : List ℕ) → few n ≡ Some octets → many n ≡ Some octets) → Lies count few errand c h → Lies count many errand c h }
+    ensures { (count : ℕ) (few many : ℕ → Option (List ℕ)) (errand : Errand) (c : Cursor) (h : History) → ((n : ℕ) (octets : List ℕ) → few n ≡ Some octets → many n ≡ Some octets) → Located count few errand c h → Located count many errand c h }
 {}

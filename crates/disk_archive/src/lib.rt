@@ -21,13 +21,13 @@
 //! for, so `IntakeFull` is returned exactly if due.
 //!
 //! Creating lays the head and the tree's first pages home with the journal's own creation, so no crash leaves a new journal without an
-//! archive. An opening reads its pages through a map without room for an image, so only the journal's recovery writes. It tests of the
-//! head what a later call needs: each ring lies on home pages, the times in it rise up to the collector's mark, the root is one of the
-//! tree's used pages. A check decodes what waits, of which an opening reads the times alone; what it found holds of any pages, whether or
-//! not they carry a history: else a check that reads nothing would meet its contract.
+//! archive. An opening reads its pages through a page map that takes no image, so only the journal's recovery writes. It tests of the
+//! head what a later call needs: each ring is on home pages, the times in it rise up to the collector's mark, the root is one of the
+//! tree's used pages. A check also decodes what waits, of which an opening reads the times alone. Its result is stated for arbitrary
+//! pages: stated only for archives that represent a history, a check that reads nothing would satisfy it.
 //!
 //! What a cursor has gathered is stated over a history and each later one (`IsGathered`), so between two turns its owner needs to know
-//! only that one history begins the other. An errand states itself what it relies on (`Lies`, `LiesKnown`), so it is finished by any view
+//! only that one history begins the other. What an errand relies on is stated of it alone (`Located`, `LocatedKnown`), so it is finished by any view
 //! of the same disk that knows these blocks, on any thread, while the archive goes on.
 #![tactic(auto)]
 

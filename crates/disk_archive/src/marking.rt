@@ -8,8 +8,8 @@ ghost use Rattle.route_meaning.specs.History.{History, Intake};
 ghost use Rattle.sequencer.specs.Lanes.{HasMarkAbove, Raises, marks};
 ghost use Rattle.interleaving_core.specs.Steps.{IsMarkAbove, marked};
 ghost use Rattle.archive_head.specs.Head.{head_octets};
-ghost use Rattle.archive_pages.specs.Carried.{Bears};
-ghost use Rattle.disk_archive.specs.Trees.{TreeLies};
+ghost use Rattle.archive_pages.specs.Represented.{HeadRepresents};
+ghost use Rattle.disk_archive.specs.Trees.{TreeLocated};
 ghost use Rattle.disk_archive.specs.inner.Planning.{Planned};
 
 use crate::archive::Archive;
@@ -88,7 +88,7 @@ fn plan_mark<P: Pages>(
     requires some { 0 < P.homes pages.old }
     requires none { P.named pages.old ≡ [] }
     ensures planned { IfOk result (λ next. (settings : Settings) (count : ℕ) (o : OnceState) (start : Start) (shown : List (List ℕ)) (h : History) → P.shows pages.old start shown
-        → Bears (TreeLies count) settings (settled_in o) head.now shown h → (IsMarkAbove h collector mark → ⊥)
+        → HeadRepresents (TreeLocated count) settings (settled_in o) head.now shown h → (IsMarkAbove h collector mark → ⊥)
         → Planned count settings (settled_in o) (P.shows pages.new start) next (marked h collector mark)) }
     ensures lanes { IfOk result (λ next. length next.lanes ≡ length head.now.lanes) }
     ensures block { IfOk result (λ next. next.block ≡ head.now.block) }
@@ -109,12 +109,12 @@ fn plan_mark<P: Pages>(
 }
 
 impl<E: EraseDisk + Drop, O: OnceDisk + Drop> Archive<E, O> {
-    ghost use Rattle.disk_archive.specs.Archives.{Carries, GoesOn, Holds, Stands, IsHonest, erase_of, erase_state, is_down, once_of, once_state, pen_in, settings_of, site_of};
+    ghost use Rattle.disk_archive.specs.Archives.{Represents, GoesOn, Holds, Stands, IsHonest, erase_of, erase_state, is_down, once_of, once_state, pen_in, settings_of, site_of};
     ghost use Rattle.disk_archive.specs.Sites.{LeftMarked};
     ghost use Rattle.disk_archive.specs.Crashes.{Crashes, Lasts};
     ghost use Rattle.disk_archive.specs.inner.Idle.{IsAsBefore};
 
-    // Raises a mark where the archive carries a history.
+    // Raises a mark where the archive represents a history.
     fn try_mark(&mut self, collector: u8, mark: Mark) -> Result<(), MarkError>
         ensures usable { OnOk result (is_down self.old ≡ false) }
         ensures still_usable { OnOk result (is_down self.new ≡ false) }
@@ -124,17 +124,17 @@ impl<E: EraseDisk + Drop, O: OnceDisk + Drop> Archive<E, O> {
         ensures idle { is_down self.old ≡ true → IsAsBefore self.old self.new }
         ensures recovery { (result ≡ Err MarkError.NeedsRecovery) ↔ (is_down self.old ≡ true) }
         ensures no_collector { (result ≡ Err MarkError.NoCollector) ↔ ((is_down self.old ≡ false) × ((settings_of self.old).collectors ≤ collector)) }
-        ensures mark_back { (h : History) → Carries self.old h → (result ≡ Err MarkError.MarkBack) ↔ IsMarkAbove h collector mark }
-        ensures forward { (h : History) → Carries self.old h → OnOk result (IsMarkAbove h collector mark → ⊥) }
-        ensures present { (h : History) → Carries self.old h → (i : Intake) → slice_get h.intakes collector ≡ Some i → mark ≡ i.mark → IsOk result × IsAsBefore self.old self.new }
+        ensures mark_back { (h : History) → Represents self.old h → (result ≡ Err MarkError.MarkBack) ↔ IsMarkAbove h collector mark }
+        ensures forward { (h : History) → Represents self.old h → OnOk result (IsMarkAbove h collector mark → ⊥) }
+        ensures present { (h : History) → Represents self.old h → (i : Intake) → slice_get h.intakes collector ≡ Some i → mark ≡ i.mark → IsOk result × IsAsBefore self.old self.new }
         ensures honest { IsHonest self.old ↔ IsHonest self.new }
         ensures settings { settings_of self.new ≡ settings_of self.old }
         ensures disk { once_of self.new ≡ once_of self.old }
         ensures blocks { once_state self.new ≡ once_state self.old }
-        ensures ok { OnOk result ((h : History) → Carries self.old h → Carries self.new (marked h collector mark)) }
-        ensures err { OnErr result ((h : History) → Carries self.old h → GoesOn self.new h) }
-        ensures memory { (h : History) → Carries self.old h → result ≡ Err MarkError.OutOfMemory → (erase_state self.new).clock ≡ (erase_state self.old).clock }
-        ensures crash { (h : History) → Carries self.old h → Crashes self.old self.new (LeftMarked (site_of self.old) h collector mark) }
+        ensures ok { OnOk result ((h : History) → Represents self.old h → Represents self.new (marked h collector mark)) }
+        ensures err { OnErr result ((h : History) → Represents self.old h → GoesOn self.new h) }
+        ensures memory { (h : History) → Represents self.old h → result ≡ Err MarkError.OutOfMemory → (erase_state self.new).clock ≡ (erase_state self.old).clock }
+        ensures crash { (h : History) → Represents self.old h → Crashes self.old self.new (LeftMarked (site_of self.old) h collector mark) }
     {
         begin(&mut self.tx)?;
         let raised = is_raised(self.settings, &self.sequencer, collector, mark)?;
@@ -156,7 +156,7 @@ impl<E: EraseDisk + Drop, O: OnceDisk + Drop> Archive<E, O> {
     pub fn mark(&mut self, collector: u8, mark: Mark) -> Result<(), MarkError>
         ensures ok { OnOk result ((h : History) → Holds self.old h → Holds self.new (marked h collector mark)) }
         ensures err { OnErr result ((h : History) → Holds self.old h → Holds self.new h) }
-        ensures crash { (h : History) → Carries self.old h → Crashes self.old self.new (LeftMarked (site_of self.old) h collector mark) }
+        ensures crash { (h : History) → Represents self.old h → Crashes self.old self.new (LeftMarked (site_of self.old) h collector mark) }
         ensures lasts { (h : History) → Stands self.old h → Lasts self.old self.new h }
         ensures memory { IsHonest self.old → (h : History) → Holds self.old h → result ≡ Err MarkError.OutOfMemory → (erase_state self.new).clock ≡ (erase_state self.old).clock }
         ensures usable { OnOk result (is_down self.old ≡ false) }

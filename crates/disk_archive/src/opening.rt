@@ -15,10 +15,10 @@ ghost use Rattle.route_meaning.specs.History.{History};
 ghost use Rattle.archive_head.specs.Head.{IsHead, head_octets};
 ghost use Rattle.intake.specs.Calls.{OnlyReads};
 ghost use Rattle.intake.specs.Ring.{page_at};
-ghost use Rattle.archive_pages.specs.Carried.{Bears, Represents};
+ghost use Rattle.archive_pages.specs.Represented.{HeadRepresents, PagesRepresent};
 ghost use Rattle.archive_pages.specs.Places.{AreSettings};
 ghost use Rattle.disk_archive.specs.Mirrors.{Mirrors};
-ghost use Rattle.disk_archive.specs.Trees.{TreeLies};
+ghost use Rattle.disk_archive.specs.Trees.{TreeLocated};
 ghost use Rattle.disk_archive.specs.inner.Guarding.{GuardedAt, MeansOr};
 ghost use Rattle.disk_archive.specs.inner.Recalling.{HasRoot, RecallRefusal};
 
@@ -57,11 +57,11 @@ fn remember<P: Pages>(alloc: Global, pages: &mut P, settings: Settings) -> Resul
     ensures valid { IfOk result (λ memory. IsHead memory.head) }
     ensures rooted { IfOk result (λ memory. HasRoot (P.homes pages.old) settings memory.head) }
     ensures first { IfOk result (λ memory. (start : Start) (shown : List (List ℕ)) → P.shows pages.old start shown → page_at shown 0 ≡ head_octets memory.head) }
-    ensures bears { IfOk result (λ memory. (count : ℕ) (o : OnceState) (start : Start) (shown : List (List ℕ)) (h : History) → P.shows pages.old start shown → Represents (TreeLies count) settings (settled_in o) shown h
-        → Bears (TreeLies count) settings (settled_in o) memory.head shown h) }
-    ensures mirrors { IfOk result (λ memory. (count : ℕ) (o : OnceState) (start : Start) (shown : List (List ℕ)) (h : History) → P.shows pages.old start shown → Represents (TreeLies count) settings (settled_in o) shown h
+    ensures head_represents { IfOk result (λ memory. (count : ℕ) (o : OnceState) (start : Start) (shown : List (List ℕ)) (h : History) → P.shows pages.old start shown → PagesRepresent (TreeLocated count) settings (settled_in o) shown h
+        → HeadRepresents (TreeLocated count) settings (settled_in o) memory.head shown h) }
+    ensures mirrors { IfOk result (λ memory. (count : ℕ) (o : OnceState) (start : Start) (shown : List (List ℕ)) (h : History) → P.shows pages.old start shown → PagesRepresent (TreeLocated count) settings (settled_in o) shown h
         → Mirrors memory.sequencer h) }
-    ensures sound { (count : ℕ) (o : OnceState) (start : Start) (shown : List (List ℕ)) (h : History) → P.shows pages.old start shown → Represents (TreeLies count) settings (settled_in o) shown h
+    ensures sound { (count : ℕ) (o : OnceState) (start : Start) (shown : List (List ℕ)) (h : History) → P.shows pages.old start shown → PagesRepresent (TreeLocated count) settings (settled_in o) shown h
         → (page : ℕ) → result ≡ Err (OpenError.BadNode page) → ⊥ }
     ensures refused { IfErr result RecallRefusal }
     ensures same { OnlyReads P.Pages pages.old pages.new (result ≡ Err OpenError.Fault) }
@@ -88,11 +88,11 @@ fn remember_on<E: EraseDisk + Drop, B: Before>(
     ensures valid { IfOk result.1 (λ memory. IsHead memory.head) }
     ensures rooted { IfOk result.1 (λ memory. HasRoot (home_pages (journal_of looks.pool)) settings memory.head) }
     ensures first { IfOk result.1 (λ memory. (start : Start) (shown : List (List ℕ)) → GuardedAt E.EraseDisk B.clock B.left looks start shown → page_at shown 0 ≡ head_octets memory.head) }
-    ensures bears { IfOk result.1 (λ memory. (count : ℕ) (o : OnceState) (start : Start) (shown : List (List ℕ)) (h : History) → GuardedAt E.EraseDisk B.clock B.left looks start shown → Represents (TreeLies count) settings (settled_in o) shown h
-        → Bears (TreeLies count) settings (settled_in o) memory.head shown h) }
-    ensures mirrors { IfOk result.1 (λ memory. (count : ℕ) (o : OnceState) (start : Start) (shown : List (List ℕ)) (h : History) → GuardedAt E.EraseDisk B.clock B.left looks start shown → Represents (TreeLies count) settings (settled_in o) shown h
+    ensures head_represents { IfOk result.1 (λ memory. (count : ℕ) (o : OnceState) (start : Start) (shown : List (List ℕ)) (h : History) → GuardedAt E.EraseDisk B.clock B.left looks start shown → PagesRepresent (TreeLocated count) settings (settled_in o) shown h
+        → HeadRepresents (TreeLocated count) settings (settled_in o) memory.head shown h) }
+    ensures mirrors { IfOk result.1 (λ memory. (count : ℕ) (o : OnceState) (start : Start) (shown : List (List ℕ)) (h : History) → GuardedAt E.EraseDisk B.clock B.left looks start shown → PagesRepresent (TreeLocated count) settings (settled_in o) shown h
         → Mirrors memory.sequencer h) }
-    ensures sound { (count : ℕ) (o : OnceState) (start : Start) (shown : List (List ℕ)) (h : History) → GuardedAt E.EraseDisk B.clock B.left looks start shown → Represents (TreeLies count) settings (settled_in o) shown h
+    ensures sound { (count : ℕ) (o : OnceState) (start : Start) (shown : List (List ℕ)) (h : History) → GuardedAt E.EraseDisk B.clock B.left looks start shown → PagesRepresent (TreeLocated count) settings (settled_in o) shown h
         → (page : ℕ) → result.1 ≡ Err (OpenError.BadNode page) → ⊥ }
     ensures refused { IfErr result.1 RecallRefusal }
     ensures shown { (start : Start) (shown : List (List ℕ)) → GuardedAt E.EraseDisk B.clock B.left looks start shown → GuardedAt E.EraseDisk B.clock B.left result.0 start shown }
@@ -110,12 +110,12 @@ fn remember_on<E: EraseDisk + Drop, B: Before>(
 }
 
 impl<E: EraseDisk + Drop, O: OnceDisk + Drop> Archive<E, O> {
-    ghost use Rattle.disk_archive.specs.Archives.{Carries, Stands, site_of};
+    ghost use Rattle.disk_archive.specs.Archives.{Represents, Stands, site_of};
     ghost use Rattle.disk_archive.specs.Creations.{CountsOne};
     ghost use Rattle.disk_archive.specs.Outcome.{erase_after, once_after, outcome, pen_after};
     ghost use Rattle.disk_archive.specs.Notes.{note_octets};
-    ghost use Rattle.disk_archive.specs.Openings.{IsNoneOrWant, IsWant, NamesArchive, ReadsAs};
-    ghost use Rattle.disk_archive.specs.Sites.{IsNoted, LeftCarries, Rests, Site};
+    ghost use Rattle.disk_archive.specs.Openings.{IsNoneFaultOrMemory, IsFaultOrMemory, NamesArchive, ReadsAs};
+    ghost use Rattle.disk_archive.specs.Sites.{IsNoted, LeftRepresents, Rests, Site};
     ghost use Rattle.disk_archive.specs.inner.Looking.{LooksAt};
 
     // The archive of what is in memory, once the first blank block is found.
@@ -132,8 +132,8 @@ impl<E: EraseDisk + Drop, O: OnceDisk + Drop> Archive<E, O> {
         requires lanes { length memory.head.lanes ≡ settings.collectors }
         requires numbers { length memory.sequencer ≡ settings.collectors }
         requires valid { IsHead memory.head }
-        ensures carries { O.honest once.value pen → IfOk result (λ archive. (start : Start) (shown : List (List ℕ)) (h : History) → note_of (journal_of looks.pool) ≡ note_octets (O.block_count once.value) settings → LooksAt E.EraseDisk looks start shown → page_at shown 0 ≡ head_octets memory.head
-            → Bears (TreeLies (O.block_count once.value)) settings (settled_in (O.model pen)) memory.head shown h → Mirrors memory.sequencer h → Carries archive h) }
+        ensures represents { O.honest once.value pen → IfOk result (λ archive. (start : Start) (shown : List (List ℕ)) (h : History) → note_of (journal_of looks.pool) ≡ note_octets (O.block_count once.value) settings → LooksAt E.EraseDisk looks start shown → page_at shown 0 ≡ head_octets memory.head
+            → HeadRepresents (TreeLocated (O.block_count once.value)) settings (settled_in (O.model pen)) memory.head shown h → Mirrors memory.sequencer h → Represents archive h) }
         ensures site { IfOk result (λ archive. site_of archive ≡ record { settings = settings; homes = home_pages (journal_of looks.pool); note = note_of (journal_of looks.pool); blocks = O.block_count once.value }) }
         ensures erase { erase_after result ≡ disk_of (journal_of looks.pool) }
         ensures once { once_after result ≡ once.value }
@@ -155,7 +155,7 @@ impl<E: EraseDisk + Drop, O: OnceDisk + Drop> Archive<E, O> {
                 kept: None,
             }),
             Err(once_store::Refused { disk, pen, fault }) => {
-                let _told = fault;
+                let _reported = fault;
                 Err(Refused {
                     erase: pool.into_disk(),
                     once: disk,
@@ -177,13 +177,13 @@ impl<E: EraseDisk + Drop, O: OnceDisk + Drop> Archive<E, O> {
         requires left { (c : ℕ → ℕ) → MayLeave (E.model erase) c → B.left c }
         ensures left { E.honest erase → (homes : ℕ) (note : List ℕ) (pages : List (List ℕ)) → Recovers homes note (E.model erase).octet pages
             → MeansOr (E.model (erase_after result)) B.clock B.left homes note pages }
-        ensures carries { E.honest erase → O.honest once.value pen → IfOk result (λ archive. (site : Site) (h : History) → ReadsAs site (O.block_count once.value) (E.model erase) (O.model pen) h → Carries archive h) }
+        ensures represents { E.honest erase → O.honest once.value pen → IfOk result (λ archive. (site : Site) (h : History) → ReadsAs site (O.block_count once.value) (E.model erase) (O.model pen) h → Represents archive h) }
         ensures site { E.honest erase → IfOk result (λ archive. (site : Site) (h : History) → ReadsAs site (O.block_count once.value) (E.model erase) (O.model pen) h → site_of archive ≡ site) }
         ensures noted { E.honest erase → IfOk result (λ archive. IsNoted (site_of archive)) }
-        ensures undamaged { E.honest erase → (site : Site) (h : History) → ReadsAs site (O.block_count once.value) (E.model erase) (O.model pen) h → home_place site.homes ≤ E.octet_count erase → IfErr (outcome result) IsWant }
+        ensures undamaged { E.honest erase → (site : Site) (h : History) → ReadsAs site (O.block_count once.value) (E.model erase) (O.model pen) h → home_place site.homes ≤ E.octet_count erase → IfErr (outcome result) IsFaultOrMemory }
         ensures named { E.honest erase → OnOk result (NamesArchive (E.octet_count erase) (E.model erase).octet (O.block_count once.value)) }
         ensures unnamed { E.honest erase → outcome result ≡ Err OpenError.NotAJournal → NamesArchive (E.octet_count erase) (E.model erase).octet (O.block_count once.value) → ⊥ }
-        ensures none { E.honest erase → HoldsNone (E.model erase).octet → IfErr (outcome result) IsNoneOrWant }
+        ensures none { E.honest erase → HoldsNone (E.model erase).octet → IfErr (outcome result) IsNoneFaultOrMemory }
         ensures erase { E.honest erase ↔ E.honest (erase_after result) }
         ensures disk { once_after result ≡ once.value }
         ensures once { O.honest once.value pen ↔ O.honest once.value (pen_after result) }
@@ -224,26 +224,26 @@ impl<E: EraseDisk + Drop, O: OnceDisk + Drop> Archive<E, O> {
         once: Arc<O>,
         pen: O::Pen,
     ) -> Result<Self, Refused<E, O, OpenError>>
-        // The archive carries what the disks read as; so, where they are found after a crash, it carries what the crash left.
-        ensures opened { E.honest erase → O.honest once.value pen → IfOk result (λ archive. (site : Site) (h : History) → ReadsAs site (O.block_count once.value) (E.model erase) (O.model pen) h → Carries archive h) }
-        ensures found { E.honest erase → O.honest once.value pen → IfOk result (λ archive. (left : Left) (site : Site) (h : History) → IsFound (E.model erase) (O.model pen) left → site.blocks ≡ O.block_count once.value → IsNoted site → LeftCarries site h left → Carries archive h) }
+        // The archive represents what the disks read as; so, where they are found after a crash, it represents what the crash left.
+        ensures opened { E.honest erase → O.honest once.value pen → IfOk result (λ archive. (site : Site) (h : History) → ReadsAs site (O.block_count once.value) (E.model erase) (O.model pen) h → Represents archive h) }
+        ensures found { E.honest erase → O.honest once.value pen → IfOk result (λ archive. (left : Left) (site : Site) (h : History) → IsFound (E.model erase) (O.model pen) left → site.blocks ≡ O.block_count once.value → IsNoted site → LeftRepresents site h left → Represents archive h) }
         ensures site { E.honest erase → IfOk result (λ archive. (site : Site) (h : History) → ReadsAs site (O.block_count once.value) (E.model erase) (O.model pen) h → site_of archive ≡ site) }
         ensures noted { E.honest erase → IfOk result (λ archive. IsNoted (site_of archive)) }
 
         // Where the disks are those of an archive that needs to be opened again, a history that stood there still stands.
         ensures stands { E.honest erase → O.honest once.value pen → IfOk result (λ archive. (site : Site) (h : History) → Rests site (E.model erase) (O.model pen) h → site.blocks ≡ O.block_count once.value → IsNoted site → Stands archive h) }
 
-        // What a crash during the call or after it leaves could also be left before the call, or carries what the disks read as.
+        // What a crash during the call or after it leaves could also be left before the call, or represents what the disks read as.
         ensures inside { E.honest erase → O.honest once.value pen → (site : Site) (h : History) → ReadsAs site (O.block_count once.value) (E.model erase) (O.model pen) h
-            → (left : Left) → CrashPair (E.model erase) (E.model (erase_after result)) (O.model pen) (O.model pen) (O.model (pen_after result)) left → LeftNow (E.model erase) (O.model pen) left ⊎ LeftCarries site h left }
+            → (left : Left) → CrashPair (E.model erase) (E.model (erase_after result)) (O.model pen) (O.model pen) (O.model (pen_after result)) left → LeftNow (E.model erase) (O.model pen) left ⊎ LeftRepresents site h left }
         ensures after { E.honest erase → O.honest once.value pen → (site : Site) (h : History) → ReadsAs site (O.block_count once.value) (E.model erase) (O.model pen) h
-            → (left : Left) → LeftNow (E.model (erase_after result)) (O.model (pen_after result)) left → LeftNow (E.model erase) (O.model pen) left ⊎ LeftCarries site h left }
+            → (left : Left) → LeftNow (E.model (erase_after result)) (O.model (pen_after result)) left → LeftNow (E.model erase) (O.model pen) left ⊎ LeftRepresents site h left }
 
-        // Disks that carry a history are refused only where a device fails or memory runs out, and those that name no archive aren't opened.
-        ensures undamaged { E.honest erase → (site : Site) (h : History) → ReadsAs site (O.block_count once.value) (E.model erase) (O.model pen) h → home_place site.homes ≤ E.octet_count erase → IfErr (outcome result) IsWant }
+        // Disks that represent a history are refused only where a device fails or memory runs out, and those that name no archive aren't opened.
+        ensures undamaged { E.honest erase → (site : Site) (h : History) → ReadsAs site (O.block_count once.value) (E.model erase) (O.model pen) h → home_place site.homes ≤ E.octet_count erase → IfErr (outcome result) IsFaultOrMemory }
         ensures named { E.honest erase → OnOk result (NamesArchive (E.octet_count erase) (E.model erase).octet (O.block_count once.value)) }
         ensures unnamed { E.honest erase → outcome result ≡ Err OpenError.NotAJournal → NamesArchive (E.octet_count erase) (E.model erase).octet (O.block_count once.value) → ⊥ }
-        ensures none { E.honest erase → HoldsNone (E.model erase).octet → IfErr (outcome result) IsNoneOrWant }
+        ensures none { E.honest erase → HoldsNone (E.model erase).octet → IfErr (outcome result) IsNoneFaultOrMemory }
 
         // Both disks are the archive's, or handed back, and nothing was burnt. One of them failed where `Fault` is returned, and otherwise
         // none did.

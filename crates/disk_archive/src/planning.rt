@@ -12,8 +12,8 @@ ghost use Rattle.interleaving_core.specs.Steps.{given};
 ghost use Rattle.archive_head.specs.declared.lane.Lane.{Lane};
 ghost use Rattle.intake.specs.Ring.{entry_octets, octets_for};
 ghost use Rattle.archive_pages.specs.Batches.{HasLane, IsKeptOf, lane_with};
-ghost use Rattle.archive_pages.specs.Carried.{Bears};
-ghost use Rattle.disk_archive.specs.Trees.{TreeLies};
+ghost use Rattle.archive_pages.specs.Represented.{HeadRepresents};
+ghost use Rattle.disk_archive.specs.Trees.{TreeLocated};
 ghost use Rattle.disk_archive.specs.inner.Committing.{PlanRefusal};
 ghost use Rattle.disk_archive.specs.inner.Planning.{Planned};
 
@@ -72,15 +72,15 @@ pub(crate) fn plan_batch<P: Pages>(
     requires octets { sum_by entry_octets batch.now.timely ≤ 262144 }
     requires free { (lane : Lane) → HasLane head.now collector lane → octets_for batch.now.timely ≤ 16384 * settings.ring - lane.used }
     ensures planned { IfOk result (λ next. (count : ℕ) (o : OnceState) (start : Start) (shown : List (List ℕ)) (h : History) (i : Intake) (offered : List Admitted) → P.shows pages.old start shown
-        → Bears (TreeLies count) settings (settled_in o) head.now shown h → slice_get h.intakes collector ≡ Some i → AllByRecursion IsAdmission offered → IsKeptOf i.mark offered batch.now
+        → HeadRepresents (TreeLocated count) settings (settled_in o) head.now shown h → slice_get h.intakes collector ≡ Some i → AllByRecursion IsAdmission offered → IsKeptOf i.mark offered batch.now
         → Planned count settings (settled_in o) (P.shows pages.new start) next (given h collector offered)) }
     ensures lanes { IfOk result (λ next. length next.lanes ≡ length head.now.lanes) }
     ensures block { IfOk result (λ next. next.block ≡ head.now.block) }
     ensures lane { IfOk result (λ next. (lane : Lane) → HasLane head.now collector lane → HasLane next collector (lane_with lane batch.now)) }
-    ensures shown { (count : ℕ) (o : OnceState) (start : Start) (shown : List (List ℕ)) (h : History) → P.shows pages.old start shown → Bears (TreeLies count) settings (settled_in o) head.now shown h
+    ensures shown { (count : ℕ) (o : OnceState) (start : Start) (shown : List (List ℕ)) (h : History) → P.shows pages.old start shown → HeadRepresents (TreeLocated count) settings (settled_in o) head.now shown h
         → (now : List (List ℕ)) × P.shows pages.new start now }
     ensures undamaged { (count : ℕ) (o : OnceState) (start : Start) (shown : List (List ℕ)) (h : History) (i : Intake) (offered : List Admitted) (lane : Lane) → P.shows pages.old start shown
-        → Bears (TreeLies count) settings (settled_in o) head.now shown h → slice_get h.intakes collector ≡ Some i → IsKeptOf i.mark offered batch.now → HasLane head.now collector lane
+        → HeadRepresents (TreeLocated count) settings (settled_in o) head.now shown h → slice_get h.intakes collector ≡ Some i → IsKeptOf i.mark offered batch.now → HasLane head.now collector lane
         → lane.offered + length offered ≤ 18446744073709551615 → (page : ℕ) → result ≡ Err (AdmitError.BadNode page) → ⊥ }
     ensures refused { IfErr result (PlanRefusal (P.down pages.old)) }
     ensures device { KeepsDevice (P.honest pages.old) (P.honest pages.new) (P.faults pages.old) (P.faults pages.new) (result ≡ Err AdmitError.Fault) }

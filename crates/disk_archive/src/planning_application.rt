@@ -23,12 +23,12 @@ ghost use Rattle.archive_head.specs.declared.lane.Lane.{Lane};
 ghost use Rattle.intake.specs.Ring.{IsRing, Holds};
 ghost use Rattle.intake.specs.Calls.{OnlyReads};
 ghost use Rattle.archive_pages.specs.Batches.{CanPop, HasLane};
-ghost use Rattle.archive_pages.specs.Carried.{Bears};
+ghost use Rattle.archive_pages.specs.Represented.{HeadRepresents};
 ghost use Rattle.archive_pages.specs.Changes.{next_change};
 ghost use Rattle.archive_pages.specs.Places.{ring_of, tree_low};
 ghost use Rattle.disk_archive.specs.Failures.{ReportsOne};
 ghost use Rattle.disk_archive.specs.Lacks.{HasRoom, IsNextVersion, LacksNone, OneLacksNone};
-ghost use Rattle.disk_archive.specs.Trees.{TreeLies};
+ghost use Rattle.disk_archive.specs.Trees.{TreeLocated};
 ghost use Rattle.disk_archive.specs.inner.Applications.{ApplyRefusal, FrontRefusal, KeepsBlocks, LackRefusal, LimitRefusal, MovesOn, TakesNext, TreeTakes};
 
 use crate::apply_error::{ApplyError, of_pages, of_tree};
@@ -119,10 +119,10 @@ fn take_version<P: Pages, O: OnceDisk + Drop>(
     requires end { entry.now.stamp + 1 < 2 ^ 128 }
     requires later { stamp_of head.now.last head.now.applied ≤ entry.now.stamp }
     ensures takes { (start : Start) (shown : List (List ℕ)) (low : ℕ) (versions : List Version) → P.shows pages.old start shown → O.honest (disk_of shelf.old) (pen_of shelf.old)
-        → TreeLies (O.block_count (disk_of shelf.old)) shown (settled_in (O.model (pen_of shelf.old))) low head.now.root head.now.fresh head.now.block (stamp_of head.now.last head.now.applied) versions
+        → TreeLocated (O.block_count (disk_of shelf.old)) shown (settled_in (O.model (pen_of shelf.old))) low head.now.root head.now.fresh head.now.block (stamp_of head.now.last head.now.applied) versions
         → IfOk result (λ place. TreeTakes (O.block_count (disk_of shelf.old)) (settled_in (O.model (pen_of shelf.new))) (P.shows pages.new start) low place.root place.fresh place.block (entry.now.stamp + 1) (versions ++ version_of entry.now ∷ []) shown) }
     ensures sound { 7 ≤ most_level → (start : Start) (shown : List (List ℕ)) (low : ℕ) (versions : List Version) → P.shows pages.old start shown → O.honest (disk_of shelf.old) (pen_of shelf.old)
-        → TreeLies (O.block_count (disk_of shelf.old)) shown (settled_in (O.model (pen_of shelf.old))) low head.now.root head.now.fresh head.now.block (stamp_of head.now.last head.now.applied) versions
+        → TreeLocated (O.block_count (disk_of shelf.old)) shown (settled_in (O.model (pen_of shelf.old))) low head.now.root head.now.fresh head.now.block (stamp_of head.now.last head.now.applied) versions
         → (page : ℕ) → result ≡ Err (ApplyError.BadNode page) → ⊥ }
     ensures fresh { IfOk result (λ place. place.fresh ≡ P.next pages.new) }
     ensures block { IfOk result (λ place. place.block ≡ next_of shelf.new) }
@@ -134,10 +134,10 @@ fn take_version<P: Pages, O: OnceDisk + Drop>(
     ensures high { (start : Start) (shown : List (List ℕ)) → P.shows pages.old start shown → result ≡ Err ApplyError.TooHigh → HasRootLevel shown head.now.root 7 }
     ensures limits { IfErr result (LimitRefusal (P.homes pages.old) (P.next pages.old) head.now.applied) }
     ensures lacks { (start : Start) (shown : List (List ℕ)) (low : ℕ) (versions : List Version) → P.shows pages.old start shown → O.honest (disk_of shelf.old) (pen_of shelf.old)
-        → TreeLies (O.block_count (disk_of shelf.old)) shown (settled_in (O.model (pen_of shelf.old))) low head.now.root head.now.fresh head.now.block (stamp_of head.now.last head.now.applied) versions
+        → TreeLocated (O.block_count (disk_of shelf.old)) shown (settled_in (O.model (pen_of shelf.old))) low head.now.root head.now.fresh head.now.block (stamp_of head.now.last head.now.applied) versions
         → IfErr result (LackRefusal (λ v. v ≡ version_of entry.now) shown (P.homes pages.old - P.next pages.old) head.now.root) }
     ensures room { (start : Start) (shown : List (List ℕ)) (low : ℕ) (versions : List Version) → P.shows pages.old start shown → O.honest (disk_of shelf.old) (pen_of shelf.old)
-        → TreeLies (O.block_count (disk_of shelf.old)) shown (settled_in (O.model (pen_of shelf.old))) low head.now.root head.now.fresh head.now.block (stamp_of head.now.last head.now.applied) versions
+        → TreeLocated (O.block_count (disk_of shelf.old)) shown (settled_in (O.model (pen_of shelf.old))) low head.now.root head.now.fresh head.now.block (stamp_of head.now.last head.now.applied) versions
         → OnOk result (LacksNone (version_of entry.now) shown (P.homes pages.old - P.next pages.old) head.now.root (HasNoneBlank O.OnceDisk shelf.old)) }
     ensures shows { (start : Start) (shown : List (List ℕ)) → P.shows pages.old start shown → (after : List (List ℕ)) × P.shows pages.new start after }
     ensures shelf { KeepsBlocks O.OnceDisk 2 shelf.old shelf.new (result ≡ Err ApplyError.OnceFull) }
@@ -179,10 +179,10 @@ fn take_next<P: Pages, O: OnceDisk + Drop>(
     requires applied { head.now.applied + 1 < 2 ^ 64 }
     requires later { head.now.last ≤ admission.now.time }
     ensures takes { (start : Start) (shown : List (List ℕ)) (collector : ℕ) (versions : List Version) → P.shows pages.old start shown → O.honest (disk_of shelf.old) (pen_of shelf.old) → (settings : Settings)
-        → TreeLies (O.block_count (disk_of shelf.old)) shown (settled_in (O.model (pen_of shelf.old))) (tree_low settings) head.now.root head.now.fresh head.now.block (stamp_of head.now.last head.now.applied) versions
+        → TreeLocated (O.block_count (disk_of shelf.old)) shown (settled_in (O.model (pen_of shelf.old))) (tree_low settings) head.now.root head.now.fresh head.now.block (stamp_of head.now.last head.now.applied) versions
         → IfOk result (λ place. TakesNext (O.block_count (disk_of shelf.old)) settings (settled_in (O.model (pen_of shelf.new))) (P.shows pages.new start) head.now (placed collector admission.now) place.root place.fresh place.block versions shown) }
     ensures sound { 7 ≤ most_level → (start : Start) (shown : List (List ℕ)) (low : ℕ) (versions : List Version) → P.shows pages.old start shown → O.honest (disk_of shelf.old) (pen_of shelf.old)
-        → TreeLies (O.block_count (disk_of shelf.old)) shown (settled_in (O.model (pen_of shelf.old))) low head.now.root head.now.fresh head.now.block (stamp_of head.now.last head.now.applied) versions
+        → TreeLocated (O.block_count (disk_of shelf.old)) shown (settled_in (O.model (pen_of shelf.old))) low head.now.root head.now.fresh head.now.block (stamp_of head.now.last head.now.applied) versions
         → (page : ℕ) → result ≡ Err (ApplyError.BadNode page) → ⊥ }
     ensures fresh { IfOk result (λ place. P.next pages.new ≡ min place.fresh (P.homes pages.new)) }
     ensures block { IfOk result (λ place. place.block ≤ next_of shelf.new) }
@@ -194,10 +194,10 @@ fn take_next<P: Pages, O: OnceDisk + Drop>(
     ensures high { (start : Start) (shown : List (List ℕ)) → P.shows pages.old start shown → result ≡ Err ApplyError.TooHigh → HasRootLevel shown head.now.root 7 }
     ensures limits { IfErr result (LimitRefusal (P.homes pages.old) (P.next pages.old) head.now.applied) }
     ensures lacks { (start : Start) (shown : List (List ℕ)) (low collector : ℕ) (versions : List Version) → P.shows pages.old start shown → O.honest (disk_of shelf.old) (pen_of shelf.old)
-        → TreeLies (O.block_count (disk_of shelf.old)) shown (settled_in (O.model (pen_of shelf.old))) low head.now.root head.now.fresh head.now.block (stamp_of head.now.last head.now.applied) versions
+        → TreeLocated (O.block_count (disk_of shelf.old)) shown (settled_in (O.model (pen_of shelf.old))) low head.now.root head.now.fresh head.now.block (stamp_of head.now.last head.now.applied) versions
         → IfErr result (LackRefusal (λ v. AreVersions head.now.applied (next_change head.now.begun (placed collector admission.now)) (v ∷ [])) shown (P.homes pages.old - P.next pages.old) head.now.root) }
     ensures room { (start : Start) (shown : List (List ℕ)) (low collector : ℕ) (versions : List Version) → P.shows pages.old start shown → O.honest (disk_of shelf.old) (pen_of shelf.old)
-        → TreeLies (O.block_count (disk_of shelf.old)) shown (settled_in (O.model (pen_of shelf.old))) low head.now.root head.now.fresh head.now.block (stamp_of head.now.last head.now.applied) versions
+        → TreeLocated (O.block_count (disk_of shelf.old)) shown (settled_in (O.model (pen_of shelf.old))) low head.now.root head.now.fresh head.now.block (stamp_of head.now.last head.now.applied) versions
         → OnOk result (OneLacksNone (λ v. AreVersions head.now.applied (next_change head.now.begun (placed collector admission.now)) (v ∷ [])) shown (P.homes pages.old - P.next pages.old) head.now.root (HasNoneBlank O.OnceDisk shelf.old)) }
     ensures shows { (start : Start) (shown : List (List ℕ)) → P.shows pages.old start shown → (after : List (List ℕ)) × P.shows pages.new start after }
     ensures shelf { KeepsBlocks O.OnceDisk 2 shelf.old shelf.new (result ≡ Err ApplyError.OnceFull) }
@@ -236,10 +236,10 @@ pub(crate) fn plan_change<P: Pages, O: OnceDisk + Drop>(
     requires block { head.old.block ≤ next_of shelf.old }
     requires few { length (P.named pages.old) + (2 * most_level + 3) ≤ 30 }
     ensures moves { IfOk result (λ whole. (start : Start) (shown : List (List ℕ)) (h : History) (later : List (Placed Admitted)) → P.shows pages.old start shown → O.honest (disk_of shelf.old) (pen_of shelf.old)
-        → Bears (TreeLies (O.block_count (disk_of shelf.old))) settings (settled_in (O.model (pen_of shelf.old))) head.old shown h → waiting h ≡ placed collector admission.now ∷ later → IsBelowMarks h admission.now.time
+        → HeadRepresents (TreeLocated (O.block_count (disk_of shelf.old))) settings (settled_in (O.model (pen_of shelf.old))) head.old shown h → waiting h ≡ placed collector admission.now ∷ later → IsBelowMarks h admission.now.time
         → MovesOn (O.block_count (disk_of shelf.old)) settings (settled_in (O.model (pen_of shelf.new))) (P.shows pages.new start) head.new whole h) }
     ensures sound { 7 ≤ most_level → (start : Start) (shown : List (List ℕ)) (h : History) (later : List (Placed Admitted)) → P.shows pages.old start shown → O.honest (disk_of shelf.old) (pen_of shelf.old)
-        → Bears (TreeLies (O.block_count (disk_of shelf.old))) settings (settled_in (O.model (pen_of shelf.old))) head.old shown h → waiting h ≡ placed collector admission.now ∷ later
+        → HeadRepresents (TreeLocated (O.block_count (disk_of shelf.old))) settings (settled_in (O.model (pen_of shelf.old))) head.old shown h → waiting h ≡ placed collector admission.now ∷ later
         → (page : ℕ) → result ≡ Err (ApplyError.BadNode page) → ⊥ }
     ensures as_before { OnErr result (head.new ≡ head.old) }
     ensures stays { IfOk result (λ whole. whole ≡ false → head.new.lanes ≡ head.old.lanes) }
@@ -254,10 +254,10 @@ pub(crate) fn plan_change<P: Pages, O: OnceDisk + Drop>(
     ensures high { (start : Start) (shown : List (List ℕ)) → P.shows pages.old start shown → result ≡ Err ApplyError.TooHigh → HasRootLevel shown head.old.root 7 }
     ensures limits { IfErr result (LimitRefusal (P.homes pages.old) (P.next pages.old) head.old.applied) }
     ensures lacks { (start : Start) (shown : List (List ℕ)) (h : History) (later : List (Placed Admitted)) → P.shows pages.old start shown → O.honest (disk_of shelf.old) (pen_of shelf.old)
-        → Bears (TreeLies (O.block_count (disk_of shelf.old))) settings (settled_in (O.model (pen_of shelf.old))) head.old shown h → waiting h ≡ placed collector admission.now ∷ later
+        → HeadRepresents (TreeLocated (O.block_count (disk_of shelf.old))) settings (settled_in (O.model (pen_of shelf.old))) head.old shown h → waiting h ≡ placed collector admission.now ∷ later
         → IfErr result (LackRefusal (IsNextVersion h) shown (P.homes pages.old - P.next pages.old) head.old.root) }
     ensures room { (start : Start) (shown : List (List ℕ)) (h : History) (later : List (Placed Admitted)) → P.shows pages.old start shown → O.honest (disk_of shelf.old) (pen_of shelf.old)
-        → Bears (TreeLies (O.block_count (disk_of shelf.old))) settings (settled_in (O.model (pen_of shelf.old))) head.old shown h → waiting h ≡ placed collector admission.now ∷ later
+        → HeadRepresents (TreeLocated (O.block_count (disk_of shelf.old))) settings (settled_in (O.model (pen_of shelf.old))) head.old shown h → waiting h ≡ placed collector admission.now ∷ later
         → OnOk result (HasRoom (IsNextVersion h) shown (P.homes pages.old - P.next pages.old) head.old.root head.old.applied (HasNoneBlank O.OnceDisk shelf.old)) }
     ensures shows { (start : Start) (shown : List (List ℕ)) → P.shows pages.old start shown → (after : List (List ℕ)) × P.shows pages.new start after }
     ensures shelf { KeepsBlocks O.OnceDisk 2 shelf.old shelf.new (result ≡ Err ApplyError.OnceFull) }

@@ -7,16 +7,16 @@ ghost use Rattle.once_store.specs.Shelves.{disk_of, next_of, pen_of};
 ghost use Rattle.page_tx.specs.Device.{KeepsDevice};
 ghost use Rattle.page_tx.specs.Start.{Start};
 ghost use Rattle.route_meaning.specs.History.{History};
-ghost use Rattle.sequencer.specs.Ahead.{behind};
+ghost use Rattle.sequencer.specs.Ahead.{beyond};
 ghost use Rattle.sequencer.specs.First.{IsNext};
 ghost use Rattle.sequencer.specs.Lanes.{Releases};
-ghost use Rattle.archive_pages.specs.Carried.{Bears};
+ghost use Rattle.archive_pages.specs.Represented.{HeadRepresents};
 ghost use Rattle.tsb_tree.specs.Opened.{HasRootLevel};
 ghost use Rattle.tsb_tree.specs.Shelves.{HasNoneBlank};
 ghost use Rattle.disk_archive.specs.Failures.{ReportsOne};
 ghost use Rattle.disk_archive.specs.Lacks.{HasRoom, IsNextVersion};
 ghost use Rattle.disk_archive.specs.Mirrors.{Mirrors};
-ghost use Rattle.disk_archive.specs.Trees.{TreeLies};
+ghost use Rattle.disk_archive.specs.Trees.{TreeLocated};
 ghost use Rattle.disk_archive.specs.inner.Applications.{Advances, ApplyRefusal, FrontRefusal, IsPlan, KeepsBlocks, LackRefusal, LimitRefusal, PlansMove, Reached, Reaches};
 
 use crate::apply_error::{ApplyError, of_pages, of_tree};
@@ -81,11 +81,11 @@ fn begin_plan<P: Pages>(
     requires lanes { length head.now.lanes ≡ length sequencer.now }
     requires few { length sequencer.now ≤ 16 }
     requires first { IsNext sequencer.now number }
-    ensures reached { IfOk result (λ plan. (count : ℕ) (o : OnceState) (start : Start) (shown : List (List ℕ)) (h : History) → P.shows pages.old start shown → Bears (TreeLies count) settings (settled_in o) head.now shown h → Mirrors sequencer.now h
+    ensures reached { IfOk result (λ plan. (count : ℕ) (o : OnceState) (start : Start) (shown : List (List ℕ)) (h : History) → P.shows pages.old start shown → HeadRepresents (TreeLocated count) settings (settled_in o) head.now shown h → Mirrors sequencer.now h
         → Reached count settings (settled_in o) (P.shows pages.new start) sequencer.now plan h) }
     ensures fits { IfOk result (λ plan. (block : ℕ) → P.next pages.old ≡ min head.now.fresh (P.homes pages.old) → head.now.block ≤ block → IsPlan settings (P.homes pages.old) (P.next pages.old) block sequencer.now plan) }
     ensures hand { IfOk result (λ plan. plan.whole ≡ false) }
-    ensures sound { (count : ℕ) (o : OnceState) (start : Start) (shown : List (List ℕ)) (h : History) → P.shows pages.old start shown → Bears (TreeLies count) settings (settled_in o) head.now shown h → Mirrors sequencer.now h
+    ensures sound { (count : ℕ) (o : OnceState) (start : Start) (shown : List (List ℕ)) (h : History) → P.shows pages.old start shown → HeadRepresents (TreeLocated count) settings (settled_in o) head.now shown h → Mirrors sequencer.now h
         → (page : ℕ) → result ≡ Err (ApplyError.BadNode page) → ⊥ }
     ensures refused { IfErr result (FrontRefusal (P.down pages.old)) }
     ensures head { IfOk result (λ plan. plan.head ≡ head.now) }
@@ -115,9 +115,9 @@ fn begin_plan<P: Pages>(
 // The first time of the collector is passed over, where its admission is wholly applied.
 fn pass_whole(sequencer: &Sequencer, ahead: &mut Ahead, collector: u8, whole: bool)
     requires count { length ahead.old ≡ length sequencer.now }
-    requires next { IsNext (behind ahead.old sequencer.now) collector }
+    requires next { IsNext (beyond ahead.old sequencer.now) collector }
     ensures count { length ahead.new ≡ length sequencer.now }
-    ensures leaves { whole ≡ true → Releases (behind ahead.old sequencer.now) collector (behind ahead.new sequencer.now) }
+    ensures leaves { whole ≡ true → Releases (beyond ahead.old sequencer.now) collector (beyond ahead.new sequencer.now) }
     ensures stays { whole ≡ false → ahead.new ≡ ahead.old }
 {
     if whole {
@@ -206,7 +206,7 @@ fn find_front<P: Pages>(
     if !plan.whole {
         return Ok(());
     }
-    let Some(number) = sequencer.next_behind(&plan.ahead) else {
+    let Some(number) = sequencer.next_after(&plan.ahead) else {
         return Err(Stop::Enough);
     };
     let collector = number as u8;
@@ -333,10 +333,10 @@ pub(crate) fn plan_changes<P: Pages, O: OnceDisk + Drop>(
     requires block { head.now.block ≤ next_of shelf.old }
     requires none { P.named pages.old ≡ [] }
     ensures planned { IfOk result (λ plan. (start : Start) (shown : List (List ℕ)) (h : History) → P.shows pages.old start shown → O.honest (disk_of shelf.old) (pen_of shelf.old)
-        → Bears (TreeLies (O.block_count (disk_of shelf.old))) settings (settled_in (O.model (pen_of shelf.old))) head.now shown h → Mirrors sequencer.now h
+        → HeadRepresents (TreeLocated (O.block_count (disk_of shelf.old))) settings (settled_in (O.model (pen_of shelf.old))) head.now shown h → Mirrors sequencer.now h
         → PlansMove (O.block_count (disk_of shelf.old)) settings (settled_in (O.model (pen_of shelf.new))) (P.shows pages.new start) sequencer.now plan h) }
     ensures sound { (start : Start) (shown : List (List ℕ)) (h : History) → P.shows pages.old start shown → O.honest (disk_of shelf.old) (pen_of shelf.old)
-        → Bears (TreeLies (O.block_count (disk_of shelf.old))) settings (settled_in (O.model (pen_of shelf.old))) head.now shown h → Mirrors sequencer.now h
+        → HeadRepresents (TreeLocated (O.block_count (disk_of shelf.old))) settings (settled_in (O.model (pen_of shelf.old))) head.now shown h → Mirrors sequencer.now h
         → (page : ℕ) → result ≡ Err (ApplyError.BadNode page) → ⊥ }
     ensures lanes { IfOk result (λ plan. length plan.head.lanes ≡ length sequencer.now) }
     ensures count { IfOk result (λ plan. length plan.ahead ≡ length sequencer.now) }
@@ -345,10 +345,10 @@ pub(crate) fn plan_changes<P: Pages, O: OnceDisk + Drop>(
     ensures high { (start : Start) (shown : List (List ℕ)) → P.shows pages.old start shown → result ≡ Err ApplyError.TooHigh → HasRootLevel shown head.now.root 7 }
     ensures limits { IfErr result (LimitRefusal (P.homes pages.old) (P.next pages.old) head.now.applied) }
     ensures lacks { (start : Start) (shown : List (List ℕ)) (h : History) → P.shows pages.old start shown → O.honest (disk_of shelf.old) (pen_of shelf.old)
-        → Bears (TreeLies (O.block_count (disk_of shelf.old))) settings (settled_in (O.model (pen_of shelf.old))) head.now shown h → Mirrors sequencer.now h
+        → HeadRepresents (TreeLocated (O.block_count (disk_of shelf.old))) settings (settled_in (O.model (pen_of shelf.old))) head.now shown h → Mirrors sequencer.now h
         → IfErr result (LackRefusal (IsNextVersion h) shown (P.homes pages.old - P.next pages.old) head.now.root) }
     ensures room { (start : Start) (shown : List (List ℕ)) (h : History) → P.shows pages.old start shown → O.honest (disk_of shelf.old) (pen_of shelf.old)
-        → Bears (TreeLies (O.block_count (disk_of shelf.old))) settings (settled_in (O.model (pen_of shelf.old))) head.now shown h → Mirrors sequencer.now h
+        → HeadRepresents (TreeLocated (O.block_count (disk_of shelf.old))) settings (settled_in (O.model (pen_of shelf.old))) head.now shown h → Mirrors sequencer.now h
         → OnOk result (HasRoom (IsNextVersion h) shown (P.homes pages.old - P.next pages.old) head.now.root head.now.applied (HasNoneBlank O.OnceDisk shelf.old)) }
     ensures shows { (start : Start) (shown : List (List ℕ)) → P.shows pages.old start shown → (after : List (List ℕ)) × P.shows pages.new start after }
     ensures shelf { KeepsBlocks O.OnceDisk 2000 shelf.old shelf.new (result ≡ Err ApplyError.OnceFull) }

@@ -13,10 +13,10 @@ ghost use Rattle.archive_head.specs.declared.lane.Lane.{Lane};
 ghost use Rattle.intake.specs.Calls.{OnlyReads};
 ghost use Rattle.intake.specs.Ring.{Holds, IsRing, page_at, time_of};
 ghost use Rattle.archive_pages.specs.Batches.{HasLane};
-ghost use Rattle.archive_pages.specs.Carried.{Bears};
+ghost use Rattle.archive_pages.specs.Represented.{HeadRepresents};
 ghost use Rattle.archive_pages.specs.Places.{ring_of};
 ghost use Rattle.disk_archive.specs.Mirrors.{Mirrors};
-ghost use Rattle.disk_archive.specs.Trees.{TreeLies};
+ghost use Rattle.disk_archive.specs.Trees.{TreeLocated};
 ghost use Rattle.disk_archive.specs.inner.Recalling.{HasRoot, IsUnknown, RecallRefusal};
 
 use crate::open_error::OpenError;
@@ -149,9 +149,9 @@ pub(crate) fn recall<P: Pages>(
     requires lanes { length head.now.lanes ≡ settings.collectors }
     requires usable { P.down pages.old ≡ false }
     ensures count { IfOk result (λ sequencer. length sequencer ≡ settings.collectors) }
-    ensures mirrors { IfOk result (λ sequencer. (count : ℕ) (o : OnceState) (start : Start) (shown : List (List ℕ)) (h : History) → P.shows pages.old start shown → Bears (TreeLies count) settings (settled_in o) head.now shown h
+    ensures mirrors { IfOk result (λ sequencer. (count : ℕ) (o : OnceState) (start : Start) (shown : List (List ℕ)) (h : History) → P.shows pages.old start shown → HeadRepresents (TreeLocated count) settings (settled_in o) head.now shown h
         → Mirrors sequencer h) }
-    ensures sound { (count : ℕ) (o : OnceState) (start : Start) (shown : List (List ℕ)) (h : History) → P.shows pages.old start shown → Bears (TreeLies count) settings (settled_in o) head.now shown h
+    ensures sound { (count : ℕ) (o : OnceState) (start : Start) (shown : List (List ℕ)) (h : History) → P.shows pages.old start shown → HeadRepresents (TreeLocated count) settings (settled_in o) head.now shown h
         → (page : ℕ) → result ≡ Err (OpenError.BadNode page) → ⊥ }
     ensures refused { IfErr result RecallRefusal }
     ensures same { OnlyReads P.Pages pages.old pages.new (result ≡ Err OpenError.Fault) }

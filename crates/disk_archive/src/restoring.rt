@@ -11,7 +11,7 @@ ghost use Rattle.buffer_pool.specs.Pool.{Maps, journal_of};
 ghost use Rattle.archive_pages.specs.declared.settings.Settings.{Settings};
 ghost use Rattle.archive_pages.specs.Places.{AreSettings, tree_low};
 ghost use Rattle.disk_archive.specs.Notes.{note_octets};
-ghost use Rattle.disk_archive.specs.Openings.{IsNoneOrWant, IsWant, NamesArchive};
+ghost use Rattle.disk_archive.specs.Openings.{IsNoneFaultOrMemory, IsFaultOrMemory, NamesArchive};
 ghost use Rattle.disk_archive.specs.inner.Guarding.{MeansOr};
 ghost use Rattle.disk_archive.specs.inner.Restoring.{Restores, disk_restored, of_opening, restored};
 
@@ -116,9 +116,9 @@ pub(crate) fn restore<E: EraseDisk + Drop>(
 
     ensures named { E.honest erase → OnOk result (NamesArchive (E.octet_count erase) (E.model erase).octet blocks) }
     ensures unnamed { E.honest erase → IfErr result (λ refused. refused.error ≡ OpenError.NotAJournal → NamesArchive (E.octet_count erase) (E.model erase).octet blocks → ⊥) }
-    ensures none { E.honest erase → HoldsNone (E.model erase).octet → IfErr result (λ refused. IsNoneOrWant refused.error) }
+    ensures none { E.honest erase → HoldsNone (E.model erase).octet → IfErr result (λ refused. IsNoneFaultOrMemory refused.error) }
     ensures undamaged { E.honest erase → (homes : ℕ) (note : List ℕ) (pages : List (List ℕ)) → Recovers homes note (E.model erase).octet pages → home_place homes ≤ E.octet_count erase
-        → (s : Settings) → AreSettings s → note ≡ note_octets blocks s → tree_low s ≤ homes → IfErr result (λ refused. IsWant refused.error) }
+        → (s : Settings) → AreSettings s → note ≡ note_octets blocks s → tree_low s ≤ homes → IfErr result (λ refused. IsFaultOrMemory refused.error) }
     ensures serves { Serves E.EraseDisk erase (disk_restored result) (restored result ≡ Err OpenError.Fault) }
 {
     match Journal::open(alloc, erase) {

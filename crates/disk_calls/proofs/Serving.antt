@@ -34,18 +34,18 @@ use Rattle.disk_archive.specs.declared.check_error.CheckError.TheVariants as che
 use Rattle.disk_archive.specs.Archives.{GoesOn, IsHonest, once_of, once_state, settings_of}
 use Rattle.disk_archive.specs.Limits.{IsCounterFull}
 use Rattle.disk_archive.specs.Moves.{Moves}
-use Rattle.disk_calls.specs.Carried.{KeepsFrom}
+use Rattle.disk_calls.specs.Represented.{KeepsFrom}
 use Rattle.disk_calls.specs.inner.Refusals.{of_admit, of_ask, of_check, of_mark}
 
 -- an archive goes on with a history only on disks that follow their models
 pub honest_of : {E O Pen Seen : Type 0} {erase : EraseGhosts E} {once : OnceGhosts O Pen Seen} (a : Archive E O Pen Seen erase once) (h : History) → GoesOn a h → IsHonest a
-honest_of a h (inl carries) = carries.honest
+honest_of a h (inl represents) = represents.honest
 honest_of a h (inr waits) = waits.honest
 
 -- the history has as many collectors as the archive was made with
 pub number_of : {E O Pen Seen : Type 0} {erase : EraseGhosts E} {once : OnceGhosts O Pen Seen} (a : Archive E O Pen Seen erase once) (h : History) → GoesOn a h → length h.intakes ≡ (settings_of a).collectors
-number_of a h (inl carries) = carries.bears.number
-number_of a h (inr waits) = waits.told.number
+number_of a h (inl represents) = represents.head_represents.number
+number_of a h (inr waits) = waits.reported.number
 
 -- what is true of each value is true of that of a success
 pub if_ok : {T E : Type 0} (r : Result T E) (P Q : T → Type 0) → ((x : T) → P x → Q x) → IfOk r P → IfOk r Q
@@ -126,7 +126,7 @@ pub not_answered : (down : Bool) (h : History) (query : Query) (e : AskError)
     → ((mark : ℕ) → (◌≡◌ {A = Result Answer AskError} (Err e) (Err (asks.AboveWatermark mark))) ↔ ((down ≡ false) × (mark ≡ settled h) × (settled h ≤ last_moment query)))
     → IsAnswerOf h query (Err (of_ask e))
 not_answered down h query asks.NeedsRecovery above = tt
-not_answered down h query (asks.AboveWatermark mark) above = let told = (above mark).0 refl in (told.1, told.2)
+not_answered down h query (asks.AboveWatermark mark) above = let reported = (above mark).0 refl in (reported.1, reported.2)
 not_answered down h query (asks.BadNode page) above = tt
 not_answered down h query (asks.Damaged block) above = tt
 not_answered down h query asks.Fault above = tt

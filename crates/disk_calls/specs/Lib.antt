@@ -1,2 +1,2 @@
-pub mod Carried
+pub mod Represented
 pub mod inner

@@ -25,13 +25,13 @@ impl<E: EraseDisk + Drop, O: OnceDisk + Drop, R: Drop> DiskArchive<E, O, R> {
     ghost use Rattle.route_meaning.specs.History.{History, applied};
     ghost use Rattle.disk_archive.specs.Archives.{GoesOn, erase_state, once_state, site_of};
     ghost use Rattle.disk_archive.specs.Sites.{Rests};
-    ghost use Rattle.disk_calls.specs.Carried.{GoesOnWith, archive_in, site_in};
+    ghost use Rattle.disk_calls.specs.Represented.{GoesOnWith, archive_in, site_in};
 
     /// An archive that was created or opened, and what knows why its disks fail.
     pub fn new(archive: Archive<E, O>, reasons: R) -> Self
         ensures same { archive_in result ≡ archive }
         ensures site { site_in result ≡ site_of archive }
-        ensures carries { (h : History) → GoesOn archive h → GoesOnWith result h }
+        ensures represents { (h : History) → GoesOn archive h → GoesOnWith result h }
     {
         let reader = reader_of(&archive);
         DiskArchive {
@@ -46,7 +46,7 @@ impl<E: EraseDisk + Drop, O: OnceDisk + Drop, R: Drop> DiskArchive<E, O, R> {
         &self.reasons
     }
 
-    /// The archive alone. Whatever its disks read as now, or a crash leaves of them, carries a history that begins with what it carried.
+    /// The archive alone. Whatever its disks read as now, or a crash leaves of them, represents a history that begins with what it represented.
     pub fn into_archive(self) -> Archive<E, O>
         ensures same { result ≡ archive_in self }
         ensures rests { (h : History) → GoesOnWith self h → Rests (site_of result) (erase_state result) (once_state result) h }

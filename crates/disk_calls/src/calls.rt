@@ -18,13 +18,13 @@ use std::alloc::Global;
 const ONE_ADMISSION: usize = 131_076;
 
 impl<E: EraseDisk + Drop, O: OnceDisk + Drop, R: Reasons> RouteArchive for DiskArchive<E, O, R> {
-    ghost use Rattle.disk_calls.specs.Carried.{GoesOnWith, limit_of, right_of};
+    ghost use Rattle.disk_calls.specs.Represented.{GoesOnWith, limit_of, right_of};
 
-    ghost carries = { λ a h. GoesOnWith a h };
+    ghost represents = { λ a h. GoesOnWith a h };
 
     ghost most = { λ a. limit_of a };
 
-    ghost right = { λ a h carried. right_of a h carried };
+    ghost right = { λ a h represented. right_of a h represented };
 
     fn collectors(&self) -> u8 {
         self.archive.collectors()

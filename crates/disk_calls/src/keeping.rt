@@ -5,7 +5,7 @@ ghost use Rattle.route_meaning.specs.History.{History, applied, settled};
 ghost use Rattle.interleaving_core.specs.Does.{last_moment};
 ghost use Rattle.interleaving_core.specs.Headline.{IsAnswered};
 ghost use Rattle.disk_archive.specs.Archives.{Holds, IsHonest, is_down, settings_of};
-ghost use Rattle.disk_calls.specs.Carried.{KeepsFrom};
+ghost use Rattle.disk_calls.specs.Represented.{KeepsFrom};
 
 use disk_archive::{Archive, AskError};
 use disk_models::{EraseDisk, OnceDisk};

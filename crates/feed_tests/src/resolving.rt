@@ -1,4 +1,4 @@
-//! Records from outside, worked examples among them, and the spelling of what they mean.
+//! Records from outside, worked examples among them, and the encoding of what they mean.
 
 use crate::{be, octets};
 use mrt_records::{Framer, Item};
@@ -11,7 +11,7 @@ use std::process::Abort;
 const UPDATE: &str = "65920080 0010 0001 0000003D FDE9 FC00 0000 0001 C0000201 C0000202
     FFFFFFFFFFFFFFFFFFFFFFFFFFFFFFFF 002D 02 0000 0014 40010100 4002060202FDE9FDEA 400304C0000201 080A";
 
-/// The same, with 10.0.0.0/8 in the withdrawn field too, behind 11.0.0.0/8.
+/// The same, with 10.0.0.0/8 in the withdrawn field too, after 11.0.0.0/8.
 const BOTH: &str = "65920080 0010 0001 00000041 FDE9 FC00 0000 0001 C0000201 C0000202
     FFFFFFFFFFFFFFFFFFFFFFFFFFFFFFFF 0031 02 0004 080B 080A 0014 40010100 4002060202FDE9FDEA 400304C0000201 080A";
 
@@ -59,7 +59,7 @@ const RIB_OF_SECOND: &str =
     "65920080 000D 0002 00000028 00000000 08 0A 0001 0001 65920000 0018 40010100
     40020A02020000FDE90000FDEA 400304C0000201";
 
-/// An entry of the second peer, and one whose ORIGIN is 3: the first fault is told.
+/// An entry of the second peer, and one whose ORIGIN is 3: the first fault is reported.
 const RIB_OF_TWO_FAULTS: &str =
     "65920080 000D 0002 0000001C 00000000 08 0A 0002 0001 65920000 0000 0000 65920000 0004 40010103";
 
@@ -106,7 +106,7 @@ const RIB_IPV6: &str =
     "65920080 000D 0004 00000038 00000000 20 20010DB8 0001 0000 65920000 0025 40010100
     40020A02020000FDE90000FDEA 800E11 10 20010DB8000000000000000000000001";
 
-/// The spelling of the admission of `UPDATE`.
+/// The encoding of the admission of `UPDATE`.
 const ANNOUNCED: &str = "0000000065920080 0001 0004C0000201000000000000000000000000 0000FDE9
     0001 0015 00 0001 02020000FDE90000FDEA 04C0000201 00 0000 0001 01 0000 04080A 0000";
 
@@ -132,7 +132,7 @@ const ENDED: &str =
 const ANNOUNCED_IPV6: &str = "0000000065920080 0001 0004C0000201000000000000000000000000 0000FDE9
     0001 0021 00 0001 02020000FDE90000FDEA 1020010DB8000000000000000000000001 00 0000 0001 01 0000 062020010DB8 0000";
 
-/// What a record means: an admission of this spelling, nothing, or a fault.
+/// What a record means: an admission of this encoding, nothing, or a fault.
 type Meaning = Result<Option<&'static str>, ResolveFault>;
 
 /// The records of a feed, what each means after those before it where entries without a next hop are taken so, and how many entries are left
@@ -252,9 +252,9 @@ fn items_of(rt: &impl Abort, alloc: Global, records: &[(&str, Meaning)]) -> Vec<
 }
 
 /// Whether the admission is encoded so.
-fn is_spelled(rt: &impl Abort, alloc: Global, admission: &Admission, text: &str) -> bool {
-    let spelled = admission.encode(alloc).expect(rt, "memory");
-    spelled.as_slice() == octets(rt, alloc, text).as_slice()
+fn is_encoded(rt: &impl Abort, alloc: Global, admission: &Admission, text: &str) -> bool {
+    let encoded = admission.encode(alloc).expect(rt, "memory");
+    encoded.as_slice() == octets(rt, alloc, text).as_slice()
 }
 
 /// Whether the next record means this.
@@ -264,15 +264,15 @@ fn means(
     resolver: &mut Resolver,
     rule: WithoutHop,
     item: &Item,
-    wanted: &Meaning,
+    expected: &Meaning,
 ) -> bool {
     match resolver.record(alloc, rule, item) {
-        Ok(Some(admission)) => match wanted {
-            Ok(Some(text)) => is_spelled(rt, alloc, &admission, text),
+        Ok(Some(admission)) => match expected {
+            Ok(Some(text)) => is_encoded(rt, alloc, &admission, text),
             _ => false,
         },
-        Ok(None) => matches!(wanted, Ok(None)),
-        Err(fault) => match wanted {
+        Ok(None) => matches!(expected, Ok(None)),
+        Err(fault) => match expected {
             Err(other) => fault == *other,
             _ => false,
         },
@@ -284,11 +284,11 @@ fn play(rt: &impl Abort, alloc: Global, feed: &Feed) {
     let mut resolver = Resolver::new(0);
     let items = items_of(rt, alloc, feed.records);
     be(rt, items.len() == feed.records.len(), feed.name);
-    for (place, (_, wanted)) in feed.records.iter().enumerate() {
+    for (place, (_, expected)) in feed.records.iter().enumerate() {
         let item = items.get(place).expect(rt, "no record");
         be(
             rt,
-            means(rt, alloc, &mut resolver, feed.rule, item, wanted),
+            means(rt, alloc, &mut resolver, feed.rule, item, expected),
             feed.name,
         );
     }

@@ -6,7 +6,7 @@ ghost use Rattle.interleaving_core.specs.Steps.{empty};
 ghost use Rattle.archive_pages.specs.Places.{AreSettings, tree_low};
 ghost use Rattle.disk_archive.specs.Creations.{homes_on};
 ghost use Rattle.disk_archive.specs.Notes.{note_octets};
-ghost use Rattle.disk_calls.specs.Carried.{FollowModels, GoesOnWith, site_in};
+ghost use Rattle.disk_calls.specs.Represented.{FollowModels, GoesOnWith, site_in};
 ghost use Rattle.file_archive.specs.Faults.{IsUncreated};
 
 use crate::disks::{FileDisks, disk_size, take_away};

@@ -3,7 +3,7 @@
 ghost use Rattle.std.specs.Prelude.{◌≡◌, IfOk, IfErr, Err};
 ghost use Rattle.disk_files.specs.Blocks.{count_of};
 ghost use Rattle.disk_archive.specs.Sites.{IsNoted};
-ghost use Rattle.disk_calls.specs.Carried.{FollowModels, site_in};
+ghost use Rattle.disk_calls.specs.Represented.{FollowModels, site_in};
 ghost use Rattle.file_archive.specs.Disks.{once_in};
 ghost use Rattle.file_archive.specs.Faults.{IsUnopened};
 

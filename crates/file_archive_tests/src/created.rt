@@ -28,7 +28,7 @@ enum Refusal {
     Other,
 }
 
-/// Why an archive of so many pages and blocks isn't created, if it isn't.
+/// Why an archive of this many pages and blocks isn't created, if it isn't.
 fn why_refused(rt: &HostRuntime, folder: &str, pages: u64, blocks: u64) -> Refusal {
     match create(rt, folder, pages, blocks) {
         Ok(_) => Refusal::None,
@@ -107,7 +107,7 @@ fn the_head_the_rings_and_the_tree_need_pages(rt: HostRuntime) {
     be(&rt, remove(&rt, &folder), "the folder goes");
 }
 
-/// Whether an archive of so many pages and blocks is refused for this, and leaves no folder.
+/// Whether an archive of this many pages and blocks is refused for this, and leaves no folder.
 fn leaves_nothing(rt: &HostRuntime, folder: &str, pages: u64, blocks: u64, why: Refusal) -> bool {
     why_refused(rt, folder, pages, blocks) == why && is_there(rt, folder) == Some(false)
 }
@@ -115,7 +115,7 @@ fn leaves_nothing(rt: &HostRuntime, folder: &str, pages: u64, blocks: u64, why: 
 #[test]
 fn a_refused_archive_leaves_no_folder(rt: HostRuntime) {
     let folder = new_name(&rt, "refused").expect(&rt, "a name");
-    // Pages of more octets than a file can have; no blocks, which is told once the pages are made; and a name that no folder has.
+    // Pages of more octets than a file can have; no blocks, which is reported once the pages are made; and a name that no folder has.
     let pages = leaves_nothing(&rt, &folder, 1 << 49, 7, Refusal::Pages);
     be(&rt, pages, "too many pages");
     be(

@@ -47,7 +47,7 @@ pub(crate) fn size_of(rt: &HostRuntime, folder: &str, name: &str) -> Option<u64>
     Some(fs::metadata(rt, path.as_str()).ok()?.len())
 }
 
-/// An archive of one collector with a ring of nine pages, of so many home pages and blocks.
+/// An archive of one collector with a ring of nine pages, of this many home pages and blocks.
 pub(crate) fn create(
     rt: &HostRuntime,
     folder: &str,

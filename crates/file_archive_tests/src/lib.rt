@@ -1,4 +1,7 @@
-//! Tests of archives in folders: what creating one leaves there, what opening one tells, and what stays over a reopening.
+//! Tests of archives in folders: what creating one leaves there, what opening one reports, and what stays over a reopening.
+//!
+//! Each test has a folder of its own in the system, named by test and process. Some write other octets into its files first, or hold them.
+//! `session` is a table of commands, each of which opens the archive anew, and of the lines that it writes.
 #![tactic(auto)]
 
 #[cfg(test)]

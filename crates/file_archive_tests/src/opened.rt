@@ -1,4 +1,4 @@
-//! What opening the archive of a folder tells, and a check of one that is damaged.
+//! What opening the archive of a folder reports, and a check of one that is damaged.
 
 use crate::be;
 use crate::folders::{create, inside, is_created, new_name, remove};
@@ -32,7 +32,7 @@ fn given(rt: &HostRuntime, folder: &str) -> Option<Status> {
     )
 }
 
-/// What a check of an archive tells.
+/// What a check of an archive reports.
 fn checked(rt: &HostRuntime, folder: &str) -> Option<Result<u64, Trouble>> {
     let mut archive = file_archive::open(rt.alloc(), rt, folder).ok()?;
     Some(archive.check())
@@ -74,7 +74,7 @@ fn is_held(rt: &HostRuntime, folder: &str) -> bool {
 
 // After the head and the nine pages of the ring page 10 is the root of the tree.
 #[test]
-fn a_damaged_page_of_the_tree_is_told_by_a_check(rt: HostRuntime) {
+fn a_damaged_page_of_the_tree_is_reported_by_a_check(rt: HostRuntime) {
     let folder = new_name(&rt, "spoilt").expect(&rt, "a name");
     be(&rt, given(&rt, &folder) == Some(Status::Done), "a feed");
     be(&rt, checked(&rt, &folder) == Some(Ok(6)), "a check");
@@ -130,10 +130,10 @@ fn a_folder_without_an_archive_is_not_opened(rt: HostRuntime) {
 }
 
 #[test]
-fn a_damaged_head_is_told_as_home_page_0(rt: HostRuntime) {
+fn a_damaged_head_is_reported_as_home_page_0(rt: HostRuntime) {
     let folder = new_name(&rt, "damaged").expect(&rt, "a name");
     be(&rt, is_created(&rt, &folder, 20, 7), "an archive");
-    // The head tells a time at octet 8, and none is so great.
+    // The head has a time at octet 8, and none is so great.
     be(&rt, spoil(&rt, &folder, 0) == Some(true), "damage");
     be(
         &rt,
@@ -153,9 +153,9 @@ fn open_slot(rt: &HostRuntime, folder: &str, number: u8) -> Option<bool> {
 }
 
 /// Whether a check of the journal's slots ends so.
-fn slots_are(rt: &HostRuntime, folder: &str, wanted: Result<(), OpenFault>) -> bool {
+fn slots_are(rt: &HostRuntime, folder: &str, expected: Result<(), OpenFault>) -> bool {
     match FileDisks::open(rt.alloc(), rt, folder, Access::Alone) {
-        Ok(mut disks) => disks.check_slots() == wanted,
+        Ok(mut disks) => disks.check_slots() == expected,
         Err(_) => false,
     }
 }

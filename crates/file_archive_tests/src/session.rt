@@ -163,7 +163,7 @@ fn a_session_of_two_collectors_goes_on_over_openings(rt: HostRuntime) {
     be(&rt, remove(&rt, &folder), "the folder goes");
 }
 
-/// Whether so many records and changes were counted.
+/// Whether this many records and changes were counted.
 fn are_counts(counts: Counts, records: u64, applied: u64) -> bool {
     counts.records == records && counts.applied == applied
 }

@@ -102,8 +102,8 @@ impl Bench {
 
     /// Whether each step returns what the table says.
     fn plays(&mut self, rt: &HostRuntime, folder: &str, table: &[(Step, Answer)]) -> bool {
-        for (step, wanted) in table {
-            if self.act(rt, folder, *step) != *wanted {
+        for (step, expected) in table {
+            if self.act(rt, folder, *step) != *expected {
                 return false;
             }
         }

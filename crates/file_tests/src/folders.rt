@@ -106,8 +106,8 @@ pub(crate) fn link(rt: &HostRuntime, target: &str, folder: &str, name: &str) -> 
 }
 
 /// Whether all octets are this number.
-pub(crate) fn are_all(octets: &[u8], wanted: u8) -> bool {
-    octets.iter().all(|octet| *octet == wanted)
+pub(crate) fn are_all(octets: &[u8], expected: u8) -> bool {
+    octets.iter().all(|octet| *octet == expected)
 }
 
 /// Whether a file holds these octets at these places: none after its end.
@@ -115,9 +115,9 @@ pub(crate) fn holds(
     rt: &HostRuntime,
     folder: &str,
     name: &str,
-    wanted: &[(u64, Option<u8>)],
+    expected: &[(u64, Option<u8>)],
 ) -> bool {
-    for (at, octet) in wanted {
+    for (at, octet) in expected {
         if octet_of(rt, folder, name, *at) != Some(*octet) {
             return false;
         }

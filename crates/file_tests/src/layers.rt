@@ -211,9 +211,9 @@ fn are_appended_alike(
     octets: &[u8],
 ) -> Option<bool> {
     let mut over_files = file_shelf(rt, folder)?;
-    let wanted = appended(rt.alloc(), over_memory, octets)?;
+    let expected = appended(rt.alloc(), over_memory, octets)?;
     let found = appended(rt.alloc(), &mut over_files, octets)?;
-    Some(found.as_slice() == wanted.as_slice() && over_files.faults() == 0)
+    Some(found.as_slice() == expected.as_slice() && over_files.faults() == 0)
 }
 
 /// A shelf on a disk of five blocks in memory.

@@ -60,8 +60,8 @@ fn act(rt: &HostRuntime, folder: &str, disk: &mut FileErase, step: Step) -> Answ
 
 /// Whether each step returns what the table says.
 fn plays(rt: &HostRuntime, folder: &str, disk: &mut FileErase, table: &[(Step, Answer)]) -> bool {
-    for (step, wanted) in table {
-        if act(rt, folder, disk, *step) != *wanted {
+    for (step, expected) in table {
+        if act(rt, folder, disk, *step) != *expected {
             return false;
         }
     }
@@ -206,7 +206,7 @@ fn sizes_that_no_such_file_has_make_nothing(rt: HostRuntime) {
 }
 
 #[test]
-fn what_is_missing_is_told(rt: HostRuntime) {
+fn what_is_missing_is_reported(rt: HostRuntime) {
     let folder = folder(&rt, "missing").expect(&rt, "a folder");
     let nowhere = inside(rt.alloc(), &folder, "nowhere").expect(&rt, "a name");
     let missing = Some(FileError::Missing(Part::Pages));
@@ -328,7 +328,7 @@ fn a_file_that_was_cut_is_met(rt: HostRuntime) {
 const CUT_AND_WRITE: [(Step, Answer); 2] = [(Cut(PAGE + 100), Yes), (Write(3, 8), Fault)];
 
 #[test]
-fn a_write_behind_a_cut_does_not_make_the_file_grow(rt: HostRuntime) {
+fn a_write_after_a_cut_does_not_make_the_file_grow(rt: HostRuntime) {
     let folder = folder(&rt, "grow").expect(&rt, "a folder");
     let mut disk = created(&rt, &folder, 4).expect(&rt, "a disk");
     be(
@@ -439,10 +439,10 @@ fn is_cut_at(failures: &Failures, call: Call) -> bool {
 /// Whether the first failure is reported with the name of its file.
 fn is_named(rt: &HostRuntime, folder: &str, failures: &Failures) -> Option<bool> {
     let text = failures.text(rt.alloc())?;
-    let wanted = format!(in rt.alloc();
+    let expected = format!(in rt.alloc();
         "{folder}/pages.rha: write: the file is shorter than it should be"
     );
-    Some(text == wanted.ok()?)
+    Some(text == expected.ok()?)
 }
 
 /// A page is written, and another one isn't read.

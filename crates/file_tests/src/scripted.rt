@@ -153,7 +153,7 @@ fn not_created_anew(alloc: Global) -> Option<(FileError, usize)> {
 }
 
 #[test]
-fn what_stands_against_an_opening_is_told(rt: HostRuntime) {
+fn what_stands_against_an_opening_is_reported(rt: HostRuntime) {
     let alloc = rt.alloc();
     for (wrong, refusal) in &REFUSED {
         be(

@@ -40,11 +40,11 @@ const HELD: [(Access, Access, Option<Part>); 4] = [
 
 /// Whether files that are held so are opened as the row says.
 fn is_right(rt: &HostRuntime, folder: &str, row: &(Access, Access, Option<Part>)) -> bool {
-    let (held, wanted, in_use) = *row;
+    let (held, expected, in_use) = *row;
     let Ok(_first) = opened(rt, folder, held) else {
         return false;
     };
-    match opened(rt, folder, wanted) {
+    match opened(rt, folder, expected) {
         Ok(_second) => in_use.is_none(),
         Err(FileError::InUse(part)) => in_use == Some(part),
         Err(_) => false,

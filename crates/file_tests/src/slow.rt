@@ -49,12 +49,12 @@ impl SlowFile {
         }
     }
 
-    /// How many octets are moved at a place where `wanted` are asked for.
-    fn count(&self, at: u64, wanted: usize) -> usize
-        ensures { result ≤ wanted }
+    /// How many octets are moved at a place where `expected` are asked for.
+    fn count(&self, at: u64, expected: usize) -> usize
+        ensures { result ≤ expected }
     {
         match usize::try_from(at) {
-            Ok(at) => wanted
+            Ok(at) => expected
                 .min(self.most)
                 .min(self.octets.len().saturating_sub(at)),
             Err(_) => 0,

@@ -6,7 +6,7 @@ use Rattle.std.proofs.lemmas.List.{append-nil, take-append-drop}
 use Rattle.std.proofs.lemmas.Nat.{from_be_bytes-to_be_bytes_4}
 use Rattle.std.specs.List.{flat_map, AllByRecursion, slice_get}
 use Rattle.std.specs.Int.{w32, to_be_bytes, from_be_bytes}
-use Rattle.route_model.specs.Admission.{Admitted, IsAdmission, SpellsAdmission, admission_octets}
+use Rattle.route_model.specs.Admission.{Admitted, IsAdmission, EncodesAdmission, admission_octets}
 use Rattle.intake.specs.declared.ring.Ring.{Ring}
 use Rattle.intake.specs.Ring.{sized, entry, octets_for, wrapped, size_of, ring_octet, Holds}
 use Rattle.intake.proofs.Wrapping.{reads_later}
@@ -99,5 +99,5 @@ none_there pages ring (a ∷ rest) none h = let u = front_used a rest ring.used 
 pub first_len : (ring : Ring) (waits : List Admitted) (octets : List ℕ) → (f : First ring waits) → octets ≡ take 4 (drop 0 (flat_map entry waits)) → from_be_bytes w32 octets ≡ length (admission_octets f.a)
 first_len ring waits octets f e = front_len f.a f.rest octets f.valid.small (e ∙ ap (λ l. take 4 (drop 0 (flat_map entry l))) f.is)
 
-pub first_spelled : (ring : Ring) (waits : List Admitted) (n : ℕ) (octets : List ℕ) → (f : First ring waits) → n ≡ length (admission_octets f.a) → octets ≡ take n (drop 4 (flat_map entry waits)) → SpellsAdmission f.a octets
-first_spelled ring waits n octets f is e = record { valid = f.valid; spelled = front_octets f.a f.rest n octets is (e ∙ ap (λ l. take n (drop 4 (flat_map entry l))) f.is) }
+pub first_encoded : (ring : Ring) (waits : List Admitted) (n : ℕ) (octets : List ℕ) → (f : First ring waits) → n ≡ length (admission_octets f.a) → octets ≡ take n (drop 4 (flat_map entry waits)) → EncodesAdmission f.a octets
+first_encoded ring waits n octets f is e = record { valid = f.valid; encoded = front_octets f.a f.rest n octets is (e ∙ ap (λ l. take n (drop 4 (flat_map entry l))) f.is) }

@@ -8,6 +8,6 @@ pub mod Filling
 pub mod Untouched
 pub mod Spanning
 pub mod Unique
-pub mod Telling
+pub mod Reporting
 pub mod Standing
 pub mod api

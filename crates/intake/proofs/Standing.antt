@@ -4,7 +4,7 @@ use Rattle.std.proofs.Math.Seq.{take-add}
 use Rattle.std.proofs.lemmas.List.{get_or-take, length-take, take-append-drop, ext_get_or}
 use Rattle.std.proofs.lemmas.Nat.{from_be_bytes-to_be_bytes_4}
 use Rattle.std.specs.Int.{w32, to_be_bytes, from_be_bytes}
-use Rattle.route_model.specs.Admission.{Admitted, SpellsAdmission, admission_octets}
+use Rattle.route_model.specs.Admission.{Admitted, EncodesAdmission, admission_octets}
 use Rattle.intake.specs.declared.ring.Ring.{Ring}
 use Rattle.intake.specs.Ring.{entry, size_of, wrapped, ring_octet, StandsIn}
 use Rattle.intake.specs.Standing.{StandsFirst}
@@ -49,15 +49,15 @@ front_stood pages ring octets stood few one all =
 -- ---- the first admission
 
 pub first_stands : (pages : List (List ℕ)) (ring : Ring) (a : Admitted) (len : ℕ) (size octets stood : List ℕ) → StandsIn pages ring stood
-    → size ≡ take 4 (drop 0 stood) → octets ≡ take len (drop 4 stood) → size ≡ to_be_bytes w32 len → length octets ≡ len → 4 + len ≤ ring.used → SpellsAdmission a octets → StandsFirst pages ring a
-first_stands pages ring a len size octets stood stand size_is octets_are number long fits spelled =
-    let same : len ≡ length (admission_octets a) = sym long ∙ ap length spelled.spelled in
+    → size ≡ take 4 (drop 0 stood) → octets ≡ take len (drop 4 stood) → size ≡ to_be_bytes w32 len → length octets ≡ len → 4 + len ≤ ring.used → EncodesAdmission a octets → StandsFirst pages ring a
+first_stands pages ring a len size octets stood stand size_is octets_are number long fits encoded =
+    let same : len ≡ length (admission_octets a) = sym long ∙ ap length encoded.encoded in
     let front : take (4 + len) stood ≡ entry a =
     take-add 4 len stood
     ∙ (ap (λ l. l ++ take len (drop 4 stood)) (sym size_is ∙ (number ∙ ap (to_be_bytes w32) same))
-    ∙ (ap (λ l. to_be_bytes w32 (length (admission_octets a)) ++ l) (sym octets_are ∙ spelled.spelled) ∙ sym (entry_is a))) in
+    ∙ (ap (λ l. to_be_bytes w32 (length (admission_octets a)) ++ l) (sym octets_are ∙ encoded.encoded) ∙ sym (entry_is a))) in
     record {
-      valid = spelled.valid;
+      valid = encoded.valid;
       fits = (let l = length-sized (admission_octets a) in omega arith);
       octets = subst (StandsIn pages ring) front (stands_front pages ring stood (4 + len) stand);
     }
@@ -84,5 +84,5 @@ begins pages ring a stood used stand f =
           ∙ (ap (take (length (admission_octets a))) (drop_front 4 size (admission_octets a ++ rest) refl) ∙ take_front (length (admission_octets a)) (admission_octets a) rest refl);
     }
 
-pub length_told : (a : Admitted) (len : ℕ) (stood size : List ℕ) → length (admission_octets a) ≤ 131072 → take 4 (drop 0 stood) ≡ to_be_bytes w32 (length (admission_octets a)) → size ≡ take 4 (drop 0 stood) → len ≡ from_be_bytes w32 size → len ≡ length (admission_octets a)
-length_told a len stood size small is read told = told ∙ (ap (from_be_bytes w32) (read ∙ is) ∙ from_be_bytes-to_be_bytes_4 (length (admission_octets a)) (omega arith))
+pub length_reported : (a : Admitted) (len : ℕ) (stood size : List ℕ) → length (admission_octets a) ≤ 131072 → take 4 (drop 0 stood) ≡ to_be_bytes w32 (length (admission_octets a)) → size ≡ take 4 (drop 0 stood) → len ≡ from_be_bytes w32 size → len ≡ length (admission_octets a)
+length_reported a len stood size small is read reported = reported ∙ (ap (from_be_bytes w32) (read ∙ is) ∙ from_be_bytes-to_be_bytes_4 (length (admission_octets a)) (omega arith))

@@ -48,4 +48,4 @@ reads_as pages a b one two r to from = record {
 
 -- a refusal that is passed on is the one that came
 pub passed_on : {T U : Type 0} (r : Result T ReadError) (s : Result U ReadError) (e : ReadError) (page : ℕ) → IfErr r (λ x. x ≡ e) → s ≡ Err e → r ≡ Err (reads.BadNode page) → s ≡ Err (reads.BadNode page)
-passed_on {T} {U} r s e page told was is = was ∙ ap (λ (x : ReadError). Err x) (sym (subst (λ (r : Result T ReadError). IfErr r (λ x. x ≡ e)) is told))
+passed_on {T} {U} r s e page reported was is = was ∙ ap (λ (x : ReadError). Err x) (sym (subst (λ (r : Result T ReadError). IfErr r (λ x. x ≡ e)) is reported))

@@ -65,18 +65,18 @@ pub record Holds (pages : List (List ℕ)) (ring : Ring) (admissions : List Admi
   pub octets : StandsIn pages ring (flat_map entry admissions)
 
 -- The page holds one of the first `octets` octets after the used ones.
-abbrev pub HoldsBehind : Ring → ℕ → ℕ → Type 0
-HoldsBehind ring octets n = (k : ℕ) × (k < octets) × (n ≡ ring.low + wrapped (size_of ring) (ring.first + (ring.used + k)) / 16384)
+abbrev pub HoldsAfter : Ring → ℕ → ℕ → Type 0
+HoldsAfter ring octets n = (k : ℕ) × (k < octets) × (n ≡ ring.low + wrapped (size_of ring) (ring.first + (ring.used + k)) / 16384)
 
 -- a page is listed where it was, or holds such an octet, and no other page is
-abbrev pub ListsBehind : Ring → ℕ → List ℕ → List ℕ → Type 0
-ListsBehind ring octets old new = (n : ℕ) → IsListed n new ↔ (IsListed n old ⊎ HoldsBehind ring octets n)
+abbrev pub ListsAfter : Ring → ℕ → List ℕ → List ℕ → Type 0
+ListsAfter ring octets old new = (n : ℕ) → IsListed n new ↔ (IsListed n old ⊎ HoldsAfter ring octets n)
 
 -- The listed pages, with those that hold one of the first `octets` octets after the used ones, are more than 31.
 pub record Crowds (ring : Ring) (octets : ℕ) (listed : List ℕ) : Type 0 where
   pub all : List ℕ
   pub distinct : AreDistinct all
-  pub lists : ListsBehind ring octets listed all
+  pub lists : ListsAfter ring octets listed all
   pub many : 31 < length all
 
 -- The ring stands on these pages: it is a ring of theirs, and of all lists of admissions it holds this one alone.
@@ -104,4 +104,4 @@ pub record Adds (shows : List (List ℕ) → Type 0) (old : List (List ℕ)) (ri
   pub pages : List (List ℕ)
   pub shown : shows pages
   pub outside : ChangesOnly ring old pages
-  pub behind : (used : List ℕ) → length used ≡ ring.used → StandsIn old ring used → StandsIn pages ring (used ++ octets)
+  pub beyond : (used : List ℕ) → length used ≡ ring.used → StandsIn old ring used → StandsIn pages ring (used ++ octets)

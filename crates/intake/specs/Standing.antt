@@ -35,19 +35,19 @@ pub record IsOutline (o : Outline) : Type 0 where
   pub small : 8 + length o.more ≤ 131072
 
 -- The octets from the first used one up to a place are entries, one after another, with these times.
-pub record TellsTimes (pages : List (List ℕ)) (ring : Ring) (at : ℕ) (times : List ℕ) : Type 0 where
+pub record ReportsTimes (pages : List (List ℕ)) (ring : Ring) (at : ℕ) (times : List ℕ) : Type 0 where
   pub entries : List Outline
   pub valid : AllByRecursion IsOutline entries
-  pub told : times ≡ map time_in entries
+  pub reported : times ≡ map time_in entries
   pub place : length (flat_map outlined entries) ≡ at
   pub octets : StandsIn pages ring (flat_map outlined entries)
 
 -- Up to this place, where octets are used still, entries stand, and there no further one stands within the used octets.
 pub record BreaksAt (pages : List (List ℕ)) (ring : Ring) (at : ℕ) : Type 0 where
   pub times : List ℕ
-  pub before : TellsTimes pages ring at times
+  pub before : ReportsTimes pages ring at times
   pub inside : at < ring.used
-  pub none : (time next : ℕ) → next ≤ ring.used → TellsTimes pages ring next (times ++ time ∷ []) → ⊥
+  pub none : (time next : ℕ) → next ≤ ring.used → ReportsTimes pages ring next (times ++ time ∷ []) → ⊥
 
 -- These admissions stand one after another from the first used octet on, and no further one within the used octets, though some are left.
 -- It would begin on this page.

@@ -32,7 +32,7 @@ impl Ring {
     ghost use Rattle.page_tx.specs.Device.{KeepsDevice};
     ghost use Rattle.page_tx.specs.Start.{Start};
     ghost use Rattle.route_model.specs.Admission.{Admitted};
-    ghost use Rattle.intake.specs.Ring.{entry, entry_octets, octets_for, size_of, IsRing, Holds, Adds, Gains, ListsBehind, Crowds};
+    ghost use Rattle.intake.specs.Ring.{entry, entry_octets, octets_for, size_of, IsRing, Holds, Adds, Gains, ListsAfter, Crowds};
     ghost use Rattle.intake.specs.Calls.{OnlyReads, AppendRefusal, most_pages};
     ghost use Rattle.page_tx.specs.declared.error.PageError.TheVariants as pages_refusals;
 
@@ -57,7 +57,7 @@ impl Ring {
 
         // Images are held of the pages that hold an octet of the batch, and of those held before. One transaction holds
         // images of at most 31 pages; a batch within its limit needs at most 17 more.
-        ensures set { OnOk result (ListsBehind self.old (octets_for batch.now) (P.named pages.old) (P.named pages.new)) }
+        ensures set { OnOk result (ListsAfter self.old (octets_for batch.now) (P.named pages.old) (P.named pages.new)) }
         ensures room { result ≡ Err (IntakeError.Pages pages_refusals.TooManyImages) → Crowds self.old (octets_for batch.now) (P.named pages.old) }
         ensures few { OnOk result (length (P.named pages.new) ≤ length (P.named pages.old) + most_pages (octets_for batch.now)) }
         ensures few_of_batch { sum_by entry_octets batch.now ≤ 262144 → OnOk result (length (P.named pages.new) ≤ length (P.named pages.old) + 17) }

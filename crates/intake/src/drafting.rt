@@ -5,7 +5,7 @@ ghost use Rattle.route_model.specs.Admission.{IsAdmission};
 ghost use Rattle.page_journal.specs.Layout.{Image, pages_of};
 ghost use Rattle.page_journal.specs.Recovers.{laid, IsListed};
 ghost use Rattle.page_tx.specs.Start.{Start};
-ghost use Rattle.intake.specs.Ring.{page_at, wrapped, entry, octets_for, size_of, IsRing, StandsIn, HoldsBehind};
+ghost use Rattle.intake.specs.Ring.{page_at, wrapped, entry, octets_for, size_of, IsRing, StandsIn, HoldsAfter};
 ghost use Rattle.intake.specs.Calls.{OnlyReads, PageRefusal, most_pages};
 ghost use Rattle.intake.specs.inner.Drafts.{numbers_from, image_of, AreFrom, Covers, Fills, Writes};
 
@@ -155,11 +155,11 @@ fn put_octets(images: &mut Vec<(u64, Page)>, ring: Ring, begun: u64, octets: &[u
 {
     let mut done = 0;
     while done < octets.len() {
-        let behind = Ring {
+        let beyond = Ring {
             used: ring.used + done as u64,
             ..ring
         };
-        done += put_piece(images, behind, begun, &octets[done..]);
+        done += put_piece(images, beyond, begun, &octets[done..]);
     }
 }
 
@@ -184,11 +184,11 @@ fn put_entry(
     let octets = admission.encode(alloc)?;
     let len = admission.encoded_len() as u32;
     put_octets(images, ring, begun, &len.to_be_bytes());
-    let behind = Ring {
+    let beyond = Ring {
         used: ring.used + 4,
         ..ring
     };
-    put_octets(images, behind, begun, &octets);
+    put_octets(images, beyond, begun, &octets);
     Ok(())
 }
 
@@ -246,7 +246,7 @@ pub fn draft<P: Pages>(
     requires octets { octets ≡ octets_for batch.now }
     requires room { ring.used + octets ≤ size_of ring }
     ensures numbers { IfOk result (λ images. (begun : ℕ) × (begun < ring.count) × AreFrom ring.low ring.count begun (pages_of images.items)) }
-    ensures behind { IfOk result (λ images. (n : ℕ) → IsListed n (pages_of images.items) ↔ HoldsBehind ring octets n) }
+    ensures beyond { IfOk result (λ images. (n : ℕ) → IsListed n (pages_of images.items) ↔ HoldsAfter ring octets n) }
     ensures few { IfOk result (λ images. length images.items ≤ most_pages octets) }
     ensures stands { IfOk result (λ images. (start : Start) (shown : List (List ℕ)) (stood : List ℕ) → P.shows pages.old start shown → length stood ≡ ring.used → StandsIn shown ring stood → StandsIn (laid images.items shown) ring (stood ++ flat_map entry batch.now)) }
     ensures valid { OnOk result (AllByRecursion IsAdmission batch.now) }

@@ -1,5 +1,5 @@
 //! An admission with its encoding.
-use route_model::{Admission, spellings_are_one};
+use route_model::{Admission, encodings_are_one};
 use std::alloc::{AllocError, Global};
 use std::marker::Model;
 
@@ -12,18 +12,18 @@ pub struct Encoded {
 }
 
 impl Model for Encoded {
-    ghost use Rattle.route_model.specs.Admission.{Admitted, SpellsAdmission};
+    ghost use Rattle.route_model.specs.Admission.{Admitted, EncodesAdmission};
 
     ghost Value = { Admitted };
 
     ghost view = { λ a. a.admission };
 
-    ghost invariant = { λ a. SpellsAdmission a.admission a.octets.items };
+    ghost invariant = { λ a. EncodesAdmission a.admission a.octets.items };
 }
 
 impl Encoded {
     ghost use Rattle.std.specs.Prelude.{◌≡◌, Some, IfOk, IfSome};
-    ghost use Rattle.route_model.specs.Admission.{Admitted, SpellsAdmission};
+    ghost use Rattle.route_model.specs.Admission.{Admitted, EncodesAdmission};
 
     /// The admission.
     pub fn admission(&self) -> &Admission
@@ -38,12 +38,12 @@ impl Encoded {
         octets: Vec<u8>,
         kept: Option<Encoded>,
     ) -> Result<Option<Encoded>, AllocError>
-        ensures found { IfOk result (λ o. IfSome o (λ a. SpellsAdmission a octets.items)) }
-        ensures only { (a : Admitted) → SpellsAdmission a octets.items → IfOk result (λ o. o ≡ Some a) }
+        ensures found { IfOk result (λ o. IfSome o (λ a. EncodesAdmission a octets.items)) }
+        ensures only { (a : Admitted) → EncodesAdmission a octets.items → IfOk result (λ o. o ≡ Some a) }
     {
         if let Some(kept) = kept {
             if kept.octets == octets {
-                spellings_are_one();
+                encodings_are_one();
                 return Ok(Some(kept));
             }
         }

@@ -5,7 +5,7 @@ ghost use Rattle.route_model.specs.Admission.{Admitted};
 ghost use Rattle.intake.specs.declared.ring.Ring.{Ring};
 ghost use Rattle.intake.specs.Ring.{page_at, entry_octets, octets_for, size_of, wrapped, ring_octet, StandsIn, ChangesOnly, Holds, IsRing};
 
-use route_model::spellings_are_one;
+use route_model::encodings_are_one;
 
 /// What a ring holds stays where its pages stay, as they do while only pages of another ring, before or after it, are
 /// changed.
@@ -19,7 +19,7 @@ pub fn rings_hold_one_list()
     ensures one { (ring : Ring) (pages : List (List ℕ)) (one other : List Admitted) → Holds pages ring one → Holds pages ring other → one ≡ other }
     ensures octets { (batch : List Admitted) → octets_for batch ≡ sum_by entry_octets batch }
 {
-    spellings_are_one();
+    encodings_are_one();
 }
 
 /// Places go round: the place of an octet is the remainder by the ring's size. So octets stand in a ring exactly where it has each of

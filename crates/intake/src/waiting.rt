@@ -4,7 +4,7 @@ ghost use Rattle.std.specs.Int.{w32, w64, from_be_bytes, to_be_bytes};
 ghost use Rattle.page_tx.specs.Start.{Start};
 ghost use Rattle.page_tx.specs.declared.error.PageError.TheVariants as pages_refusals;
 ghost use Rattle.intake.specs.Ring.{size_of, IsRing};
-ghost use Rattle.intake.specs.Standing.{page_of, TellsTimes, BreaksAt};
+ghost use Rattle.intake.specs.Standing.{page_of, ReportsTimes, BreaksAt};
 ghost use Rattle.intake.specs.Calls.{OnlyReads, ReadRefusal};
 
 use crate::error::ReadError;
@@ -67,10 +67,10 @@ fn time_at<P: Pages>(
 ) -> Result<(Moment, u64), ReadError>
     requires ring { IsRing (P.homes pages.old) ring }
     requires some { at < ring.used }
-    ensures told { IfOk result (λ found. (start : Start) (shown : List (List ℕ)) (times : List ℕ) → P.shows pages.old start shown → TellsTimes shown ring at times → TellsTimes shown ring found.1 (times ++ found.0 ∷ [])) }
+    ensures reported { IfOk result (λ found. (start : Start) (shown : List (List ℕ)) (times : List ℕ) → P.shows pages.old start shown → ReportsTimes shown ring at times → ReportsTimes shown ring found.1 (times ++ found.0 ∷ [])) }
     ensures on { IfOk result (λ found. at < found.1) }
     ensures inside { IfOk result (λ found. found.1 ≤ ring.used) }
-    ensures breaks { (page : ℕ) → result ≡ Err (ReadError.BadNode page) → (start : Start) (shown : List (List ℕ)) (times : List ℕ) → P.shows pages.old start shown → TellsTimes shown ring at times → BreaksAt shown ring at }
+    ensures breaks { (page : ℕ) → result ≡ Err (ReadError.BadNode page) → (start : Start) (shown : List (List ℕ)) (times : List ℕ) → P.shows pages.old start shown → ReportsTimes shown ring at times → BreaksAt shown ring at }
     ensures page { (page : ℕ) → result ≡ Err (ReadError.BadNode page) → page ≡ page_of ring at }
     ensures inner { (page : ℕ) → result ≡ Err (ReadError.BadNode page) → (ring.low ≤ page) × (page < ring.low + ring.count) }
     ensures short { ring.used < at + 12 → (result ≡ Err (ReadError.BadNode (page_of ring at))) × (pages.new ≡ pages.old) }
@@ -102,7 +102,7 @@ impl Ring {
     ghost use Rattle.page_tx.specs.declared.error.PageError.TheVariants as pages_refusals;
     ghost use Rattle.route_model.specs.Admission.{Admitted};
     ghost use Rattle.intake.specs.Ring.{time_of, IsRing, Holds};
-    ghost use Rattle.intake.specs.Standing.{page_of, TellsTimes, BreaksAt};
+    ghost use Rattle.intake.specs.Standing.{page_of, ReportsTimes, BreaksAt};
     ghost use Rattle.intake.specs.Calls.{OnlyReads, ReadRefusal};
 
     /// The times of all that waits, in its order. Of each admission only its length and its time are read. Where there is no
@@ -115,9 +115,9 @@ impl Ring {
         pages: &mut P,
     ) -> Result<Vec<Moment>, ReadError>
         requires ring { IsRing (P.homes pages.old) self.now }
-        ensures told { IfOk result (λ times. (start : Start) (shown : List (List ℕ)) → P.shows pages.old start shown → TellsTimes shown self.now self.now.used times.items) }
+        ensures reported { IfOk result (λ times. (start : Start) (shown : List (List ℕ)) → P.shows pages.old start shown → ReportsTimes shown self.now self.now.used times.items) }
         ensures breaks { (page : ℕ) → result ≡ Err (ReadError.BadNode page) → (start : Start) (shown : List (List ℕ)) → P.shows pages.old start shown → (at : ℕ) × BreaksAt shown self.now at × (page ≡ page_of self.now at) }
-        ensures none { (page : ℕ) → result ≡ Err (ReadError.BadNode page) → (start : Start) (shown : List (List ℕ)) (times : List ℕ) → P.shows pages.old start shown → TellsTimes shown self.now self.now.used times → ⊥ }
+        ensures none { (page : ℕ) → result ≡ Err (ReadError.BadNode page) → (start : Start) (shown : List (List ℕ)) (times : List ℕ) → P.shows pages.old start shown → ReportsTimes shown self.now self.now.used times → ⊥ }
         ensures times { IfOk result (λ times. (start : Start) (shown : List (List ℕ)) (waits : List Admitted) → P.shows pages.old start shown → Holds shown self.now waits → times.items ≡ map time_of waits) }
         ensures damaged { (page : ℕ) → result ≡ Err (ReadError.BadNode page) → (start : Start) (shown : List (List ℕ)) (waits : List Admitted) → P.shows pages.old start shown → Holds shown self.now waits → ⊥ }
         ensures page { (page : ℕ) → result ≡ Err (ReadError.BadNode page) → (self.now.low ≤ page) × (page < self.now.low + self.now.count) }

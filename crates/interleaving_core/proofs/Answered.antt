@@ -19,7 +19,7 @@ use Rattle.route_meaning.proofs.api.There.{rows_there}
 use Rattle.sequencer.specs.Late.{is_late, timely, lates}
 use Rattle.sequencer.proofs.api.Setting.{one_there}
 use Rattle.interleaving_core.specs.declared.query.Query.TheVariants.{Rows, Events}
-use Rattle.interleaving_core.specs.declared.query.Answer.TheVariants.{Rows as RowsTold, Events as EventsTold}
+use Rattle.interleaving_core.specs.declared.query.Answer.TheVariants.{Rows as RowsReported, Events as EventsReported}
 use Rattle.interleaving_core.specs.declared.reply.BatchReply.{BatchReply}
 use Rattle.interleaving_core.specs.declared.reply.Reply.{Reply}
 use Rattle.interleaving_core.specs.declared.reply.Reply.TheVariants.{Taken, Marked, NoCollector, MarkBack, Applied, Idle, Flushed, Begun, Again, Done, AboveWatermark, NoQuestion, Crashed, Recovered, NeedsRecovery}
@@ -68,12 +68,12 @@ admit_answered w c batch = elim (cases_lt c (length w.history.intakes)) [
       let i = at.0 in
       let late = lates admitted_time i.mark [] 0 batch.items in
       let few : length late < 2 ^ 63 = omega (arith, few_lates admitted_time i.mark [] 0 batch.items, batch.ok.0, batch.ok.1, batch.small) in
-      let told : BatchReply = record {
+      let reported : BatchReply = record {
         receipt = record { collector = c; from = length i.admitted; to = length i.admitted + length (timely admitted_time i.mark [] batch.items) };
         offered = i.offered + length batch.items;
         late = vec late few;
       } in
-      (Taken told, with_history w (given w.history c batch.items), record { intake = i; here = at.1; reply = record { collector = refl; from = refl; to = refl; offered = refl; late = refl }; after = refl })
+      (Taken reported, with_history w (given w.history c batch.items), record { intake = i; here = at.1; reply = record { collector = refl; from = refl; to = refl; offered = refl; late = refl }; after = refl })
   | inr ge ↦ (NoCollector, w, ((λ lt. absurd (omega (arith, ge, lt))), refl))
 ]
 
@@ -168,13 +168,13 @@ takes_turn ps reach (OfRows g) made on =
     let left = rows_there ps g.question.moment g.question.select g.low None made in
     let all = g.rows ++ added_rows g.low reach left.0 in
     elim (done_or_not reach (length all)) [
-      | inl done ↦ (Done (RowsTold (record { rows = vec (take most_rows all) (few_first all); more = nat_lt most_rows (length all) })), Ended (Rows g.question), (left.0, left.1, (done, refl, refl, refl)))
+      | inl done ↦ (Done (RowsReported (record { rows = vec (take most_rows all) (few_first all); more = nat_lt most_rows (length all) })), Ended (Rows g.question), (left.0, left.1, (done, refl, refl, refl)))
       | inr open_ ↦ (Again, OfRows (record { question = g.question; low = come_to g.low reach; rows = all }), (left.0, left.1, (open_, refl)))
     ]
 takes_turn ps reach (OfEvents g) made on =
     let all = g.events ++ added_events reach (drop (length g.events) (events ps g.question)) in
     elim (done_or_not reach (length all)) [
-      | inl done ↦ (Done (EventsTold (record { events = vec (take most_rows all) (few_first all); more = nat_lt most_rows (length all) })), Ended (Events g.question), (done, refl, refl, refl))
+      | inl done ↦ (Done (EventsReported (record { events = vec (take most_rows all) (few_first all); more = nat_lt most_rows (length all) })), Ended (Events g.question), (done, refl, refl, refl))
       | inr open_ ↦ (Again, OfEvents (record { question = g.question; events = all }), (open_, refl))
     ]
 takes_turn ps reach (Ended query) made on = absurd on
@@ -192,7 +192,7 @@ turn_of w i reach (Some q) right e = elim (progress q) [
         let turn = takes_turn (applied w.history) reach q (made_applied w.history right) on in
         let v = with_questions w (slice_set w.questions i turn.1) in
         (turn.0, v, does_turn w i reach turn.0 v (record { question = q; here = e; below = below; new = turn.1; turn = turn.2; after = refl }))
-    | inr above ↦ (AboveWatermark (settled w.history), w, (record { question = q; here = e; in_progress = on; told_is = refl; above = above }, refl))
+    | inr above ↦ (AboveWatermark (settled w.history), w, (record { question = q; here = e; in_progress = on; reported_is = refl; above = above }, refl))
   ]
   | inr ended ↦ (NoQuestion, w, ((λ p at on. let same : p ≡ q = same_Some p q (sym at ∙ e) in ended (subst IsInProgress same on)), refl))
 ]

@@ -31,7 +31,7 @@ turned_count w m i reach reply t = same_count' ∙ length_set w.questions i t.ne
 turn_count : (w m : World) (i : ℕ) (reach : Reach) (reply : Reply) → DoesTurn w i reach reply m → SameCount w m
 turn_count w m i reach Again d = turned_count w m i reach Again d
 turn_count w m i reach (Done answer) d = turned_count w m i reach (Done answer) d
-turn_count w m i reach (AboveWatermark told) d = same_count w m d.1
+turn_count w m i reach (AboveWatermark reported) d = same_count w m d.1
 turn_count w m i reach NoQuestion d = same_count w m d.1
 turn_count w m i reach _ d = absurd d
 
@@ -43,7 +43,7 @@ as_before : (w m : World) (step : Step) (reply : Reply) (i : ℕ) → SameCount 
 as_before w m step reply i same lt = inl (omega (arith, same, lt))
 
 taken_before : (w m : World) (step : Step) (reply : Reply) (i : ℕ) → Does w step reply m → i < length m.questions → IsTaken w step reply i
-taken_before w m (Admit c batch) (Taken told) i (inl up) lt = as_before w m (Admit c batch) (Taken told) i (ap (λ (x : World). length x.questions) up.1.after) lt
+taken_before w m (Admit c batch) (Taken reported) i (inl up) lt = as_before w m (Admit c batch) (Taken reported) i (ap (λ (x : World). length x.questions) up.1.after) lt
 taken_before w m (Admit c batch) NoCollector i (inl up) lt = as_before w m (Admit c batch) NoCollector i (same_count w m up.1.1) lt
 taken_before w m (Admit c batch) _ i (inl up) lt = absurd up.1
 taken_before w m (Admit c batch) reply i (inr down) lt = as_before w m (Admit c batch) reply i (same_count w m down.2) lt

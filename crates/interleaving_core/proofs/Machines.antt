@@ -31,8 +31,8 @@ set_same (j ∷ is) zero i at = ap (λ (x : Intake). x ∷ is) (sym (same_Some j
 set_same (j ∷ is) (suc c) i at = ap (λ (l : List Intake). j ∷ l) (set_same is c i at)
 
 module _ (is : List Intake) (whole some : ℕ) (questions : List Question) (down : Bool) (c : ℕ) (i new : Intake) (at : slice_get is c ≡ Some i) where
-  pub admits : (batch : List Admitted) (told : BatchReply) → new ≡ with_batch batch i → IsReply i c batch told → Admits (world is whole some questions down) c batch told (world (slice_set is c new) whole some questions down)
-  admits batch told e reply = record {
+  pub admits : (batch : List Admitted) (reported : BatchReply) → new ≡ with_batch batch i → IsReply i c batch reported → Admits (world is whole some questions down) c batch reported (world (slice_set is c new) whole some questions down)
+  admits batch reported e reply = record {
     intake = i;
     here = at;
     reply = reply;

@@ -18,17 +18,17 @@ pub record Split (w v : World) (steps : List Step) (replies : List Reply) (k : �
   pub later : Runs after (drop (suc k) steps) (drop (suc k) replies) v
 
 pub split : (w v : World) (steps : List Step) (replies : List Reply) (k : ℕ) (step : Step) (reply : Reply) → Runs w steps replies v → slice_get steps k ≡ Some step → slice_get replies k ≡ Some reply → Split w v steps replies k step reply
-split w v [] rs k step reply run at told = absurd (none-some step at)
-split w v (s ∷ ss) [] k step reply run at told = absurd run
-split w v (s ∷ ss) (r ∷ rs) zero step reply run at told = record {
+split w v [] rs k step reply run at reported = absurd (none-some step at)
+split w v (s ∷ ss) [] k step reply run at reported = absurd run
+split w v (s ∷ ss) (r ∷ rs) zero step reply run at reported = record {
   before = w;
   after = run.0;
   first = refl;
-  does = subst (λ (x : Reply). Does w step x run.0) (same_Some r reply told) (subst (λ (x : Step). Does w x r run.0) (same_Some s step at) run.1);
+  does = subst (λ (x : Reply). Does w step x run.0) (same_Some r reply reported) (subst (λ (x : Step). Does w x r run.0) (same_Some s step at) run.1);
   later = run.2;
 }
-split w v (s ∷ ss) (r ∷ rs) (suc k) step reply run at told =
-    let rest = split run.0 v ss rs k step reply run.2 at told in
+split w v (s ∷ ss) (r ∷ rs) (suc k) step reply run at reported =
+    let rest = split run.0 v ss rs k step reply run.2 at reported in
     record { before = rest.before; after = rest.after; first = (run.0, run.1, rest.first); does = rest.does; later = rest.later }
 
 -- what has something is a place of the list

@@ -25,6 +25,6 @@ promised collectors steps replies last valid run = record {
   answers = λ query answer d. (all_settled collectors steps replies last valid run query answer d).0;
   settled = λ query answer d. (all_settled collectors steps replies last valid run query answer d).1;
   begins = λ k w before after. all_begin collectors k w last steps replies valid before after;
-  receipts = λ k step reply at told. each_kept collectors last steps replies k step reply valid run at told;
+  receipts = λ k step reply at reported. each_kept collectors last steps replies k step reply valid run at reported;
   only = λ c intake at. all_given collectors last steps replies c intake valid run at;
 }

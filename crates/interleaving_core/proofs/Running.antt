@@ -10,7 +10,7 @@ use Rattle.sequencer.proofs.api.Setting.{all_at, one_there}
 use Rattle.interleaving_core.specs.declared.query.Query.{Query}
 use Rattle.interleaving_core.specs.declared.query.Query.TheVariants.{Rows, Events}
 use Rattle.interleaving_core.specs.declared.query.Answer.{Answer}
-use Rattle.interleaving_core.specs.declared.query.Answer.TheVariants.{Rows as RowsTold, Events as EventsTold}
+use Rattle.interleaving_core.specs.declared.query.Answer.TheVariants.{Rows as RowsReported, Events as EventsReported}
 use Rattle.interleaving_core.specs.declared.reply.Reply.{Reply}
 use Rattle.interleaving_core.specs.declared.reply.Reply.TheVariants.{Begun, Done, NeedsRecovery}
 use Rattle.interleaving_core.specs.declared.step.Reach.{Reach}
@@ -26,10 +26,10 @@ use Rattle.interleaving_core.proofs.Sound.{IsSound, step_fine, run_fine, created
 
 -- below the settled watermark what is answered over what is applied is the answer over all that is admitted later
 answered_later : (h g : History) (query : Query) (answer : Answer) → IsHistory h → Begins h g → last_moment query < settled h → IsAnswered (applied h) query answer → IsAnswered (all_of g) query answer
-answered_later h g (Rows q) (RowsTold a) right b lt is = IsAnswer-until (applied h) (all_of g) q a.rows.items a.more (until-later h g q.moment right b lt) is
-answered_later h g (Rows q) (EventsTold a) right b lt is = is
-answered_later h g (Events q) (RowsTold a) right b lt is = is
-answered_later h g (Events q) (EventsTold a) right b lt is = IsEventsAnswer-until (applied h) (all_of g) q a.events.items a.more (until-later h g q.to right b lt) is
+answered_later h g (Rows q) (RowsReported a) right b lt is = IsAnswer-until (applied h) (all_of g) q a.rows.items a.more (until-later h g q.moment right b lt) is
+answered_later h g (Rows q) (EventsReported a) right b lt is = is
+answered_later h g (Events q) (RowsReported a) right b lt is = is
+answered_later h g (Events q) (EventsReported a) right b lt is = IsEventsAnswer-until (applied h) (all_of g) q a.events.items a.more (until-later h g q.to right b lt) is
 
 -- over all of the history the question has the answer, and its last moment is settled
 abbrev pub IsSettled : History → Query → Answer → Type 0

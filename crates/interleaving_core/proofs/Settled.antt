@@ -22,10 +22,10 @@ none_more c ps i p lt e none other =
 -- the first that the collector gave
 pub first_found : (c mark : ℕ) (ps : List (Placed Admitted)) (i : ℕ) (p : Placed Admitted) → i < length ps → p ≡ get_or ps i p → part c (take i ps) ≡ [] → (p.collector == c) ≡ true → first_or admitted_time mark (part c ps) ≡ time_of p
 first_found c mark ps i p lt e none own =
-    let behind : part c (p ∷ drop (suc i) ps) ≡ p.item ∷ part c (drop (suc i) ps) = rw own refl in
+    let beyond : part c (p ∷ drop (suc i) ps) ≡ p.item ∷ part c (drop (suc i) ps) = rw own refl in
     let all : part c ps ≡ p.item ∷ part c (drop (suc i) ps) =
     ap (part c) (sym (take-append-drop i ps) ∙ ap (λ (l : List (Placed Admitted)). take i ps ++ l) (waits i ps p lt e))
-    ∙ (part-append c (take i ps) (p ∷ drop (suc i) ps) ∙ (ap (λ (l : List Admitted). l ++ part c (p ∷ drop (suc i) ps)) none ∙ behind)) in
+    ∙ (part-append c (take i ps) (p ∷ drop (suc i) ps) ∙ (ap (λ (l : List Admitted). l ++ part c (p ∷ drop (suc i) ps)) none ∙ beyond)) in
     ap (first_or admitted_time mark) all
 
 pub take_all : {X : Type 0} (n : ℕ) (xs : List X) → length xs ≤ n → take n xs ≡ xs

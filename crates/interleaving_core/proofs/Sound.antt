@@ -62,7 +62,7 @@ when_up w reply v Up sound (inl up) fine = fine up.1
 when_up w reply v Up sound (inr down) fine = fine_same w v down.2 sound
 
 admit_fine : (w : World) (c : ℕ) (batch : List Admitted) (reply : Reply) (v : World) → AllByRecursion IsAdmission batch → IsSound w → DoesAdmit w c batch reply v → Fine w v
-admit_fine w c batch (Taken told) v valid sound d = subst (Fine w) (sym d.after) (fine_history w (given w.history c batch) sound (record { begins = begins_given w.history c batch; right = right_given w.history c batch valid sound.history }))
+admit_fine w c batch (Taken reported) v valid sound d = subst (Fine w) (sym d.after) (fine_history w (given w.history c batch) sound (record { begins = begins_given w.history c batch; right = right_given w.history c batch valid sound.history }))
 admit_fine w c batch NoCollector v valid sound d = fine_same w v d.1 sound
 admit_fine w c batch _ v valid sound d = absurd d
 
@@ -120,7 +120,7 @@ fine_turn w i reach reply v sound t =
 turn_fine : (w : World) (i : ℕ) (reach : Reach) (reply : Reply) (v : World) → IsSound w → DoesTurn w i reach reply v → Fine w v
 turn_fine w i reach Again v sound d = fine_turn w i reach Again v sound d
 turn_fine w i reach (Done answer) v sound d = fine_turn w i reach (Done answer) v sound d
-turn_fine w i reach (AboveWatermark told) v sound d = fine_same w v d.1 sound
+turn_fine w i reach (AboveWatermark reported) v sound d = fine_same w v d.1 sound
 turn_fine w i reach NoQuestion v sound d = fine_same w v d.1 sound
 turn_fine w i reach _ v sound d = absurd d
 

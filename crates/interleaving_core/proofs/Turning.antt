@@ -18,7 +18,7 @@ use Rattle.route_meaning.proofs.api.Ranges.{AreRows-joined}
 use Rattle.interleaving_core.specs.declared.query.Query.{Query}
 use Rattle.interleaving_core.specs.declared.query.Query.TheVariants.{Rows, Events}
 use Rattle.interleaving_core.specs.declared.query.Answer.{Answer}
-use Rattle.interleaving_core.specs.declared.query.Answer.TheVariants.{Rows as RowsTold, Events as EventsTold}
+use Rattle.interleaving_core.specs.declared.query.Answer.TheVariants.{Rows as RowsReported, Events as EventsReported}
 use Rattle.interleaving_core.specs.declared.step.Reach.{Reach}
 use Rattle.interleaving_core.specs.declared.step.Reach.TheVariants.{UpTo, Further, End}
 use Rattle.interleaving_core.specs.declared.reply.Reply.{Reply}
@@ -183,10 +183,10 @@ events_again h g reach right lt so =
     let parts = events_parts (applied h) g reach all.0 all.1 in
     inr (sure_now h g.question.to _ right lt (parts.later, parts.whole))
 
-events_done : (h : History) (g : EventsSoFar) (reach : Reach) (told : List Event) (more : Bool) → IsHistory h → g.question.to < settled h → IsEventsSoFar h g → IsDone reach (length (g.events ++ added_events reach (drop (length g.events) (events (applied h) g.question))))
-    → told ≡ take most_rows (g.events ++ added_events reach (drop (length g.events) (events (applied h) g.question)))
-    → more ≡ nat_lt most_rows (length (g.events ++ added_events reach (drop (length g.events) (events (applied h) g.question)))) → IsEventsAnswer (applied h) g.question told more
-events_done h g reach told more right lt so done first rest =
+events_done : (h : History) (g : EventsSoFar) (reach : Reach) (reported : List Event) (more : Bool) → IsHistory h → g.question.to < settled h → IsEventsSoFar h g → IsDone reach (length (g.events ++ added_events reach (drop (length g.events) (events (applied h) g.question))))
+    → reported ≡ take most_rows (g.events ++ added_events reach (drop (length g.events) (events (applied h) g.question)))
+    → more ≡ nat_lt most_rows (length (g.events ++ added_events reach (drop (length g.events) (events (applied h) g.question)))) → IsEventsAnswer (applied h) g.question reported more
+events_done h g reach reported more right lt so done first rest =
     let all = all_events h g right lt so in
     let parts = events_parts (applied h) g reach all.0 all.1 in
     let same = enough reach (g.events ++ added_events reach (drop (length g.events) (events (applied h) g.question))) parts.later done parts.none in
@@ -232,14 +232,14 @@ not_end : (reach : Reach) (count : ℕ) → (IsDone reach count → ⊥) → rea
 not_end reach count never e = never (inr e)
 
 rows_turn : (h : History) (g : RowsSoFar) (reach : Reach) (left : List Row) (reply : Reply) (new : Question) → IsHistory h → g.question.moment < settled h → IsRowsSoFar h g → AreLeft (applied h) g left → RowsTurn g reach (g.rows ++ added_rows g.low reach left) reply new → TurnsOn h (OfRows g) new
-rows_turn h g reach left (Done (RowsTold a)) new right lt so are t = subst (TurnsOn h (OfRows g)) (sym t.3) (record { so = tt; same = refl })
-rows_turn h g reach left (Done (EventsTold a)) new right lt so are t = absurd t
+rows_turn h g reach left (Done (RowsReported a)) new right lt so are t = subst (TurnsOn h (OfRows g)) (sym t.3) (record { so = tt; same = refl })
+rows_turn h g reach left (Done (EventsReported a)) new right lt so are t = absurd t
 rows_turn h g reach left Again new right lt so are t = subst (TurnsOn h (OfRows g)) (sym t.1) (record { so = rows_again h g left right lt are reach (not_end reach _ t.0) so; same = refl })
 rows_turn h g reach left _ new right lt so are t = absurd t
 
 events_turn : (h : History) (g : EventsSoFar) (reach : Reach) (reply : Reply) (new : Question) → IsHistory h → g.question.to < settled h → IsEventsSoFar h g → EventsTurn g reach (g.events ++ added_events reach (drop (length g.events) (events (applied h) g.question))) reply new → TurnsOn h (OfEvents g) new
-events_turn h g reach (Done (RowsTold a)) new right lt so t = absurd t
-events_turn h g reach (Done (EventsTold a)) new right lt so t = subst (TurnsOn h (OfEvents g)) (sym t.3) (record { so = tt; same = refl })
+events_turn h g reach (Done (RowsReported a)) new right lt so t = absurd t
+events_turn h g reach (Done (EventsReported a)) new right lt so t = subst (TurnsOn h (OfEvents g)) (sym t.3) (record { so = tt; same = refl })
 events_turn h g reach Again new right lt so t = subst (TurnsOn h (OfEvents g)) (sym t.1) (record { so = events_again h g reach right lt so; same = refl })
 events_turn h g reach _ new right lt so t = absurd t
 
@@ -248,16 +248,16 @@ turn_on h reach (OfRows g) new reply right lt so t = rows_turn h g reach t.0 rep
 turn_on h reach (OfEvents g) new reply right lt so t = events_turn h g reach reply new right lt so t
 turn_on h reach (Ended query) new reply right lt so t = absurd t
 
-rows_told : (h : History) (g : RowsSoFar) (reach : Reach) (left : List Row) (answer : Answer) (new : Question) → IsHistory h → g.question.moment < settled h → IsRowsSoFar h g → AreLeft (applied h) g left → RowsTurn g reach (g.rows ++ added_rows g.low reach left) (Done answer) new → IsAnswered (applied h) (Rows g.question) answer
-rows_told h g reach left (RowsTold a) new right lt so are t = rows_done h g left right lt are reach a.rows.items a.more so t.0 t.1 t.2
-rows_told h g reach left (EventsTold a) new right lt so are t = t
+rows_reported : (h : History) (g : RowsSoFar) (reach : Reach) (left : List Row) (answer : Answer) (new : Question) → IsHistory h → g.question.moment < settled h → IsRowsSoFar h g → AreLeft (applied h) g left → RowsTurn g reach (g.rows ++ added_rows g.low reach left) (Done answer) new → IsAnswered (applied h) (Rows g.question) answer
+rows_reported h g reach left (RowsReported a) new right lt so are t = rows_done h g left right lt are reach a.rows.items a.more so t.0 t.1 t.2
+rows_reported h g reach left (EventsReported a) new right lt so are t = t
 
-events_told : (h : History) (g : EventsSoFar) (reach : Reach) (answer : Answer) (new : Question) → IsHistory h → g.question.to < settled h → IsEventsSoFar h g → EventsTurn g reach (g.events ++ added_events reach (drop (length g.events) (events (applied h) g.question))) (Done answer) new → IsAnswered (applied h) (Events g.question) answer
-events_told h g reach (RowsTold a) new right lt so t = t
-events_told h g reach (EventsTold a) new right lt so t = events_done h g reach a.events.items a.more right lt so t.0 t.1 t.2
+events_reported : (h : History) (g : EventsSoFar) (reach : Reach) (answer : Answer) (new : Question) → IsHistory h → g.question.to < settled h → IsEventsSoFar h g → EventsTurn g reach (g.events ++ added_events reach (drop (length g.events) (events (applied h) g.question))) (Done answer) new → IsAnswered (applied h) (Events g.question) answer
+events_reported h g reach (RowsReported a) new right lt so t = t
+events_reported h g reach (EventsReported a) new right lt so t = events_done h g reach a.events.items a.more right lt so t.0 t.1 t.2
 
 -- a question that is done has its answer over what is applied
 pub turn_done : (h : History) (reach : Reach) (q new : Question) (answer : Answer) → IsHistory h → last_moment (asked q) < settled h → IsSoFar h q → TakesTurn (applied h) reach q (Done answer) new → IsAnswered (applied h) (asked q) answer
-turn_done h reach (OfRows g) new answer right lt so t = rows_told h g reach t.0 answer new right lt so t.1 t.2
-turn_done h reach (OfEvents g) new answer right lt so t = events_told h g reach answer new right lt so t
+turn_done h reach (OfRows g) new answer right lt so t = rows_reported h g reach t.0 answer new right lt so t.1 t.2
+turn_done h reach (OfEvents g) new answer right lt so t = events_reported h g reach answer new right lt so t
 turn_done h reach (Ended query) new answer right lt so t = absurd t

@@ -56,24 +56,24 @@ turn_whole h reach (Ended query) reply new lt t = absurd t
 
 -- ---- what a turn answers
 
-rows_told : (g : RowsSoFar) (reach : Reach) (all : List Row) (reply : Reply) (new : Question) → RowsTurn g reach all reply new → (reply ≡ Again) ⊎ ((answer : Answer) × (reply ≡ Done answer))
-rows_told g reach all (Done answer) new t = inr (answer, refl)
-rows_told g reach all Again new t = inl refl
-rows_told g reach all _ new t = absurd t
+rows_reported : (g : RowsSoFar) (reach : Reach) (all : List Row) (reply : Reply) (new : Question) → RowsTurn g reach all reply new → (reply ≡ Again) ⊎ ((answer : Answer) × (reply ≡ Done answer))
+rows_reported g reach all (Done answer) new t = inr (answer, refl)
+rows_reported g reach all Again new t = inl refl
+rows_reported g reach all _ new t = absurd t
 
-events_told : (g : EventsSoFar) (reach : Reach) (all : List Event) (reply : Reply) (new : Question) → EventsTurn g reach all reply new → (reply ≡ Again) ⊎ ((answer : Answer) × (reply ≡ Done answer))
-events_told g reach all (Done answer) new t = inr (answer, refl)
-events_told g reach all Again new t = inl refl
-events_told g reach all _ new t = absurd t
+events_reported : (g : EventsSoFar) (reach : Reach) (all : List Event) (reply : Reply) (new : Question) → EventsTurn g reach all reply new → (reply ≡ Again) ⊎ ((answer : Answer) × (reply ≡ Done answer))
+events_reported g reach all (Done answer) new t = inr (answer, refl)
+events_reported g reach all Again new t = inl refl
+events_reported g reach all _ new t = absurd t
 
-told : (ps : List (Placed Admitted)) (reach : Reach) (q : Question) (reply : Reply) (new : Question) → TakesTurn ps reach q reply new → (reply ≡ Again) ⊎ ((answer : Answer) × (reply ≡ Done answer))
-told ps reach (OfRows g) reply new t = rows_told g reach _ reply new t.2
-told ps reach (OfEvents g) reply new t = events_told g reach _ reply new t
-told ps reach (Ended query) reply new t = absurd t
+reported : (ps : List (Placed Admitted)) (reach : Reach) (q : Question) (reply : Reply) (new : Question) → TakesTurn ps reach q reply new → (reply ≡ Again) ⊎ ((answer : Answer) × (reply ≡ Done answer))
+reported ps reach (OfRows g) reply new t = rows_reported g reach _ reply new t.2
+reported ps reach (OfEvents g) reply new t = events_reported g reach _ reply new t
+reported ps reach (Ended query) reply new t = absurd t
 
 -- a turn is what the step of a turn does
 pub does_turn : (w : World) (i : ℕ) (reach : Reach) (reply : Reply) (v : World) → Turns w i reach reply v → DoesTurn w i reach reply v
-does_turn w i reach reply v t = elim (told (applied w.history) reach t.question reply t.new t.turn) [
+does_turn w i reach reply v t = elim (reported (applied w.history) reach t.question reply t.new t.turn) [
   | inl e ↦ subst (λ (r : Reply). DoesTurn w i reach r v) (sym e) (subst (λ (r : Reply). Turns w i reach r v) e t)
   | inr d ↦ subst (λ (r : Reply). DoesTurn w i reach r v) (sym d.1) (subst (λ (r : Reply). Turns w i reach r v) d.1 t)
 ]

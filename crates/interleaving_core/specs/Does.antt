@@ -24,23 +24,23 @@ abbrev pub WhenUp : World → Reply → World → Type 0 → Type 0
 WhenUp w reply v Up = ((w.down ≡ false) × Up) ⊎ ((w.down ≡ true) × (reply ≡ NeedsRecovery) × (v ≡ w))
 
 -- the reply to a batch that the collector c gives after this intake
-pub record IsReply (i : Intake) (c : ℕ) (batch : List Admitted) (told : BatchReply) : Type 0 where
-  pub collector : told.receipt.collector ≡ c
-  pub from : told.receipt.from ≡ length i.admitted
-  pub to : told.receipt.to ≡ length i.admitted + length (timely admitted_time i.mark [] batch)
-  pub offered : told.offered ≡ i.offered + length batch
-  pub late : told.late.items ≡ lates admitted_time i.mark [] 0 batch
+pub record IsReply (i : Intake) (c : ℕ) (batch : List Admitted) (reported : BatchReply) : Type 0 where
+  pub collector : reported.receipt.collector ≡ c
+  pub from : reported.receipt.from ≡ length i.admitted
+  pub to : reported.receipt.to ≡ length i.admitted + length (timely admitted_time i.mark [] batch)
+  pub offered : reported.offered ≡ i.offered + length batch
+  pub late : reported.late.items ≡ lates admitted_time i.mark [] 0 batch
 
 -- the collector gives the batch
-pub record Admits (w : World) (c : ℕ) (batch : List Admitted) (told : BatchReply) (v : World) : Type 0 where
+pub record Admits (w : World) (c : ℕ) (batch : List Admitted) (reported : BatchReply) (v : World) : Type 0 where
   pub intake : Intake
   pub here : slice_get w.history.intakes c ≡ Some intake
-  pub reply : IsReply intake c batch told
+  pub reply : IsReply intake c batch reported
   pub after : v ≡ with_history w (given w.history c batch)
 
 -- a batch is taken, but for its late records, where there is such a collector
 abbrev pub DoesAdmit : World → ℕ → List Admitted → Reply → World → Type 0
-DoesAdmit w c batch (Taken told) v = Admits w c batch told v
+DoesAdmit w c batch (Taken reported) v = Admits w c batch reported v
 DoesAdmit w c batch NoCollector v = (IsCollector w.history c → ⊥) × (v ≡ w)
 DoesAdmit w c batch _ v = ⊥
 
@@ -90,18 +90,18 @@ pub record Turns (w : World) (i : ℕ) (reach : Reach) (reply : Reply) (v : Worl
   pub after : v ≡ with_questions w (slice_set w.questions i new)
 
 -- the question of this number is in progress, and its last moment isn't below the settled watermark, which is reported
-pub record IsAboveWatermark (w : World) (i told : ℕ) : Type 0 where
+pub record IsAboveWatermark (w : World) (i reported : ℕ) : Type 0 where
   pub question : Question
   pub here : slice_get w.questions i ≡ Some question
   pub in_progress : IsInProgress question
-  pub told_is : told ≡ settled w.history
+  pub reported_is : reported ≡ settled w.history
   pub above : settled w.history ≤ last_moment (asked question)
 
 -- a turn of the question of this number
 abbrev pub DoesTurn : World → ℕ → Reach → Reply → World → Type 0
 DoesTurn w i reach Again v = Turns w i reach Again v
 DoesTurn w i reach (Done answer) v = Turns w i reach (Done answer) v
-DoesTurn w i reach (AboveWatermark told) v = IsAboveWatermark w i told × (v ≡ w)
+DoesTurn w i reach (AboveWatermark reported) v = IsAboveWatermark w i reported × (v ≡ w)
 DoesTurn w i reach NoQuestion v = ((question : Question) → slice_get w.questions i ≡ Some question → IsInProgress question → ⊥) × (v ≡ w)
 DoesTurn w i reach _ v = ⊥
 

@@ -10,7 +10,7 @@ use Rattle.sequencer.specs.Late.{greatest, timely, lates}
 use Rattle.interleaving_core.specs.declared.query.Query.{Query}
 use Rattle.interleaving_core.specs.declared.query.Query.TheVariants.{Rows, Events}
 use Rattle.interleaving_core.specs.declared.query.Answer.{Answer}
-use Rattle.interleaving_core.specs.declared.query.Answer.TheVariants.{Rows as RowsTold, Events as EventsTold}
+use Rattle.interleaving_core.specs.declared.query.Answer.TheVariants.{Rows as RowsReported, Events as EventsReported}
 use Rattle.interleaving_core.specs.declared.reply.BatchReply.{BatchReply}
 use Rattle.interleaving_core.specs.declared.reply.Reply.{Reply}
 use Rattle.interleaving_core.specs.declared.reply.Reply.TheVariants.{Taken, Marked, Begun, Done}
@@ -22,26 +22,26 @@ use Rattle.interleaving_core.specs.Does.{Runs, last_moment}
 
 -- over these admissions the question has this answer
 abbrev pub IsAnswered : List (Placed Admitted) → Query → Answer → Type 0
-IsAnswered ps (Rows q) (RowsTold a) = IsAnswer ps q a.rows.items a.more
-IsAnswered ps (Rows q) (EventsTold a) = ⊥
-IsAnswered ps (Events q) (RowsTold a) = ⊥
-IsAnswered ps (Events q) (EventsTold a) = IsEventsAnswer ps q a.events.items a.more
+IsAnswered ps (Rows q) (RowsReported a) = IsAnswer ps q a.rows.items a.more
+IsAnswered ps (Rows q) (EventsReported a) = ⊥
+IsAnswered ps (Events q) (RowsReported a) = ⊥
+IsAnswered ps (Events q) (EventsReported a) = IsEventsAnswer ps q a.events.items a.more
 
 -- the times and the mark that the step gave for the collector c, those of late records too
-abbrev pub told_by : ℕ → Step → Reply → List ℕ
-told_by c (Admit d batch) (Taken told) = if d == c then map admitted_time batch.items else []
-told_by c (Mark d mark) Marked = if d == c then mark ∷ [] else []
-told_by c step reply = []
+abbrev pub reported_by : ℕ → Step → Reply → List ℕ
+reported_by c (Admit d batch) (Taken reported) = if d == c then map admitted_time batch.items else []
+reported_by c (Mark d mark) Marked = if d == c then mark ∷ [] else []
+reported_by c step reply = []
 
 -- all the times and marks that the steps gave for the collector c
-abbrev pub told_of : ℕ → List Step → List Reply → List ℕ
-told_of c [] replies = []
-told_of c (step ∷ steps) [] = []
-told_of c (step ∷ steps) (reply ∷ replies) = told_by c step reply ++ told_of c steps replies
+abbrev pub reported_of : ℕ → List Step → List Reply → List ℕ
+reported_of c [] replies = []
+reported_of c (step ∷ steps) [] = []
+reported_of c (step ∷ steps) (reply ∷ replies) = reported_by c step reply ++ reported_of c steps replies
 
 -- what the step offered for the collector c that was taken and wasn't late: each record below none of these times and marks, and below none before it in its batch
 abbrev pub taken_by : ℕ → List ℕ → Step → Reply → List Admitted
-taken_by c earlier (Admit d batch) (Taken told) = if d == c then timely admitted_time 0 earlier batch.items else []
+taken_by c earlier (Admit d batch) (Taken reported) = if d == c then timely admitted_time 0 earlier batch.items else []
 taken_by c earlier step reply = []
 
 -- All that the steps offered for the collector c that was taken and wasn't late, in the order of offering: each record below none of the times and marks that
@@ -49,11 +49,11 @@ taken_by c earlier step reply = []
 abbrev pub taken_of : ℕ → List ℕ → List Step → List Reply → List Admitted
 taken_of c earlier [] replies = []
 taken_of c earlier (step ∷ steps) [] = []
-taken_of c earlier (step ∷ steps) (reply ∷ replies) = taken_by c earlier step reply ++ taken_of c (earlier ++ told_by c step reply) steps replies
+taken_of c earlier (step ∷ steps) (reply ∷ replies) = taken_by c earlier step reply ++ taken_of c (earlier ++ reported_by c step reply) steps replies
 
 -- what the step offered for the collector c: a batch that was taken, its late records too
 abbrev pub offered_by : ℕ → Step → Reply → List Admitted
-offered_by c (Admit d batch) (Taken told) = if d == c then batch.items else []
+offered_by c (Admit d batch) (Taken reported) = if d == c then batch.items else []
 offered_by c step reply = []
 
 -- all that the steps offered for the collector c in batches that were taken, late records too
@@ -64,27 +64,27 @@ offered_of c (step ∷ steps) (reply ∷ replies) = offered_by c step reply ++ o
 
 -- The receipt names the collector. At the receipt's numbers the list of the collector has exactly the records of the batch that weren't late after these
 -- earlier times and marks, and before them these others. The reply reports the late ones, and how many were offered in all, `count` of them before.
-pub record Stands (h : History) (earlier : List ℕ) (before : List Admitted) (count : ℕ) (c : ℕ) (batch : List Admitted) (told : BatchReply) : Type 0 where
+pub record Stands (h : History) (earlier : List ℕ) (before : List Admitted) (count : ℕ) (c : ℕ) (batch : List Admitted) (reported : BatchReply) : Type 0 where
   pub intake : Intake
   pub here : slice_get h.intakes c ≡ Some intake
-  pub collector : told.receipt.collector ≡ c
+  pub collector : reported.receipt.collector ≡ c
   pub after : List Admitted
   pub admitted : intake.admitted ≡ (before ++ timely admitted_time 0 earlier batch) ++ after
-  pub from : told.receipt.from ≡ length before
-  pub to : told.receipt.to ≡ length before + length (timely admitted_time 0 earlier batch)
-  pub offered : told.offered ≡ count + length batch
-  pub late : told.late.items ≡ lates admitted_time 0 earlier 0 batch
+  pub from : reported.receipt.from ≡ length before
+  pub to : reported.receipt.to ≡ length before + length (timely admitted_time 0 earlier batch)
+  pub offered : reported.offered ≡ count + length batch
+  pub late : reported.late.items ≡ lates admitted_time 0 earlier 0 batch
 
 -- where the step gave a batch that was taken, it stands: after what these earlier steps gave for the collector, times and marks included
 abbrev pub IsKept : History → List Step → List Reply → Step → Reply → Type 0
-IsKept h steps replies (Admit c batch) (Taken told) = Stands h (told_of c steps replies) (taken_of c [] steps replies) (length (offered_of c steps replies)) c batch.items told
+IsKept h steps replies (Admit c batch) (Taken reported) = Stands h (reported_of c steps replies) (taken_of c [] steps replies) (length (offered_of c steps replies)) c batch.items reported
 IsKept h steps replies step reply = Unit {0}
 
 -- What the collector c has is what the steps gave: its list is all that they offered for it that wasn't late, in the order of offering; its mark is the
 -- greatest of the times and marks that they gave for it; and its count is that of all that they offered for it.
 pub record IsGiven (i : Intake) (c : ℕ) (steps : List Step) (replies : List Reply) : Type 0 where
   pub admitted : i.admitted ≡ taken_of c [] steps replies
-  pub mark : i.mark ≡ greatest 0 (told_of c steps replies)
+  pub mark : i.mark ≡ greatest 0 (reported_of c steps replies)
   pub offered : i.offered ≡ length (offered_of c steps replies)
 
 -- an earlier step than that of the place k began the question of the number i

@@ -8,7 +8,7 @@ use Rattle.route_meaning.specs.Merged.{Placed}
 use Rattle.route_meaning.specs.Rows.{AreRows, row_number, spot_number, most_rows}
 use Rattle.route_meaning.specs.Events.{events}
 use Rattle.interleaving_core.specs.declared.query.Query.TheVariants.{Rows, Events}
-use Rattle.interleaving_core.specs.declared.query.Answer.TheVariants.{Rows as RowsTold, Events as EventsTold}
+use Rattle.interleaving_core.specs.declared.query.Answer.TheVariants.{Rows as RowsReported, Events as EventsReported}
 use Rattle.interleaving_core.specs.declared.step.Reach.{Reach}
 use Rattle.interleaving_core.specs.declared.step.Reach.TheVariants.{UpTo, Further, End}
 use Rattle.interleaving_core.specs.declared.reply.Reply.{Reply}
@@ -50,13 +50,13 @@ IsDone reach count = (most_rows < count) ⊎ (reach ≡ End)
 
 -- a turn of a question of a moment that now has all these rows: it is done, with the first of them, or goes on from where it has come
 abbrev pub RowsTurn : RowsSoFar → Reach → List Row → Reply → Question → Type 0
-RowsTurn g reach all (Done (RowsTold a)) new = IsDone reach (length all) × (a.rows.items ≡ take most_rows all) × (a.more ≡ nat_lt most_rows (length all)) × (new ≡ Ended (Rows g.question))
+RowsTurn g reach all (Done (RowsReported a)) new = IsDone reach (length all) × (a.rows.items ≡ take most_rows all) × (a.more ≡ nat_lt most_rows (length all)) × (new ≡ Ended (Rows g.question))
 RowsTurn g reach all Again new = (IsDone reach (length all) → ⊥) × (new ≡ OfRows (record { question = g.question; low = come_to g.low reach; rows = all }))
 RowsTurn g reach all _ new = ⊥
 
 -- a turn of a question of events that now has all these
 abbrev pub EventsTurn : EventsSoFar → Reach → List Event → Reply → Question → Type 0
-EventsTurn g reach all (Done (EventsTold a)) new = IsDone reach (length all) × (a.events.items ≡ take most_rows all) × (a.more ≡ nat_lt most_rows (length all)) × (new ≡ Ended (Events g.question))
+EventsTurn g reach all (Done (EventsReported a)) new = IsDone reach (length all) × (a.events.items ≡ take most_rows all) × (a.more ≡ nat_lt most_rows (length all)) × (new ≡ Ended (Events g.question))
 EventsTurn g reach all Again new = (IsDone reach (length all) → ⊥) × (new ≡ OfEvents (record { question = g.question; events = all }))
 EventsTurn g reach all _ new = ⊥
 

@@ -81,7 +81,7 @@ impl Given {
         collector: u8,
         batch: &[Admission],
     ) -> Result<BatchReply, AllocError>
-        ensures taken { IfOk result (λ told. self.new ≡ with_batch batch.now self.old) }
+        ensures taken { IfOk result (λ reported. self.new ≡ with_batch batch.now self.old) }
         ensures reply { IfOk result (IsReply self.old collector batch.now) }
         ensures same { OnErr result (self.new ≡ self.old) }
     {

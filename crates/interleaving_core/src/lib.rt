@@ -21,7 +21,7 @@
 //!
 //! A turn adds the rows of the list that is left, over what is applied at that turn, so no list has to be shown to exist
 //! later; an answer that is full says that there is more exactly if one row more was seen. In the proof a question in
-//! progress carries an earlier history of its own: below its settled watermark the rows so far are those of every later
+//! progress represents an earlier history of its own: below its settled watermark the rows so far are those of every later
 //! history, so no other step touches it. A question's number is its place among all that were begun, and an ended one keeps
 //! its place, so a number is never given twice.
 //!

@@ -83,8 +83,8 @@ impl Machine {
             return Ok(Reply::NoCollector);
         }
         let given = &mut self.given[number];
-        let told = given.take_in(self.alloc, collector, batch)?;
-        Ok(Reply::Taken(told))
+        let reported = given.take_in(self.alloc, collector, batch)?;
+        Ok(Reply::Taken(reported))
     }
 
     /// The collector of this number gives a mark.

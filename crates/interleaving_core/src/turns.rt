@@ -125,7 +125,7 @@ fn add_rows(
 
 /// The rows so far and those that the turn adds. They are copies, whose routes are shared: a turn that is refused memory leaves its
 /// question as it was.
-fn rows_behind(
+fn rows_after(
     alloc: Global,
     applied: &[PlacedAdmission],
     so_far: &RowsSoFar,
@@ -153,7 +153,7 @@ pub(crate) fn rows_turn(
 ) -> Result<Turned, AllocError>
     ensures { IfOk result (λ turned. TakesTurn applied.now reach.now (OfRows so_far.now) turned.reply turned.question) }
 {
-    let mut rows = rows_behind(alloc, applied, so_far, reach)?;
+    let mut rows = rows_after(alloc, applied, so_far, reach)?;
     let more = rows.len() > MAX_ROWS;
     if more || is_end(reach) {
         rows.truncate(MAX_ROWS);
@@ -201,21 +201,21 @@ fn keep_added(left: &mut Vec<Event>, reach: &Reach)
 }
 
 /// The events so far and those that the turn adds.
-fn events_behind(
+fn events_after(
     alloc: Global,
     applied: &[PlacedAdmission],
     so_far: &EventsSoFar,
     reach: &Reach,
 ) -> Result<Vec<Event>, AllocError>
-    ensures { IfOk result (λ told. told.items ≡ so_far.now.events ++ added_events reach.now (drop (length so_far.now.events) (events applied.now so_far.now.question))) }
+    ensures { IfOk result (λ reported. reported.items ≡ so_far.now.events ++ added_events reach.now (drop (length so_far.now.events) (events applied.now so_far.now.question))) }
 {
     let mut left = events_of(alloc, applied, &so_far.question)?;
     let count = left.len().min(so_far.events.len());
     left.drain(..count);
     keep_added(&mut left, reach);
-    let mut told = same_events(alloc, &so_far.events)?;
-    told.append(&mut left)?;
-    Ok(told)
+    let mut reported = same_events(alloc, &so_far.events)?;
+    reported.append(&mut left)?;
+    Ok(reported)
 }
 
 /// A turn of a question of events, over what is applied.
@@ -227,12 +227,15 @@ pub(crate) fn events_turn(
 ) -> Result<Turned, AllocError>
     ensures { IfOk result (λ turned. TakesTurn applied.now reach.now (OfEvents so_far.now) turned.reply turned.question) }
 {
-    let mut told = events_behind(alloc, applied, so_far, reach)?;
-    let more = told.len() > MAX_ROWS;
+    let mut reported = events_after(alloc, applied, so_far, reach)?;
+    let more = reported.len() > MAX_ROWS;
     if more || is_end(reach) {
-        told.truncate(MAX_ROWS);
+        reported.truncate(MAX_ROWS);
         return Ok(Turned {
-            reply: Reply::Done(Answer::Events(EventsAnswer { events: told, more })),
+            reply: Reply::Done(Answer::Events(EventsAnswer {
+                events: reported,
+                more,
+            })),
             question: Question::Ended(Query::Events(so_far.question)),
         });
     }
@@ -240,7 +243,7 @@ pub(crate) fn events_turn(
         reply: Reply::Again,
         question: Question::OfEvents(EventsSoFar {
             question: so_far.question,
-            events: told,
+            events: reported,
         }),
     })
 }

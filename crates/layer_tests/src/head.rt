@@ -62,9 +62,9 @@ fn has_lanes(head: &Head, first: Lane, second: Lane) -> bool {
 }
 
 /// What is kept of a batch: admissions that aren't late, how many were offered, and the mark.
-fn sifted(alloc: Global, spellings: &[&[u8]], offered: u64, mark: u32) -> Option<Sifted> {
+fn sifted(alloc: Global, encodings: &[&[u8]], offered: u64, mark: u32) -> Option<Sifted> {
     let mut timely = Vec::new(alloc);
-    for octets in spellings {
+    for octets in encodings {
         timely.push(Admission::decode(alloc, *octets).ok()??).ok()?;
     }
     Some(Sifted {
@@ -95,8 +95,8 @@ fn given(
 
 /// The head passes over the next change of the admission, whose tree then is at these places. Whether that was the
 /// last; none where the ring has no such admission.
-fn passed(alloc: Global, head: &mut Head, collector: u8, spelling: &[u8]) -> Option<bool> {
-    let admission = Admission::decode(alloc, spelling).ok()??;
+fn passed(alloc: Global, head: &mut Head, collector: u8, encoding: &[u8]) -> Option<bool> {
+    let admission = Admission::decode(alloc, encoding).ok()??;
     if !can_pass(SETTINGS, head, collector, &admission) {
         return None;
     }
@@ -109,7 +109,7 @@ fn passed(alloc: Global, head: &mut Head, collector: u8, spelling: &[u8]) -> Opt
 }
 
 /// Whether a page holds these octets from a place on.
-fn holds(tx: &mut Tx<MemErase>, page: u64, place: usize, wanted: &[u8]) -> bool {
+fn holds(tx: &mut Tx<MemErase>, page: u64, place: usize, expected: &[u8]) -> bool {
     if page >= tx.home_pages() || tx.fetch(page).is_err() {
         return false;
     }
@@ -117,7 +117,7 @@ fn holds(tx: &mut Tx<MemErase>, page: u64, place: usize, wanted: &[u8]) -> bool 
         return false;
     };
     match page.octets().get(place..) {
-        Some(octets) => octets.starts_with(wanted),
+        Some(octets) => octets.starts_with(expected),
         None => false,
     }
 }

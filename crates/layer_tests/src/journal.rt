@@ -86,8 +86,8 @@ fn shown(alloc: Global, journal: &mut Journal<MemErase>) -> Result<[u8; 4], Jour
 }
 
 /// Whether these are the octets of the pages.
-fn shows(alloc: Global, journal: &mut Journal<MemErase>, wanted: [u8; 4]) -> bool {
-    shown(alloc, journal) == Ok(wanted)
+fn shows(alloc: Global, journal: &mut Journal<MemErase>, expected: [u8; 4]) -> bool {
+    shown(alloc, journal) == Ok(expected)
 }
 
 /// Posts new pages 1 and 2.
@@ -143,8 +143,8 @@ fn post_one(
 }
 
 /// Whether these pages are shown after a crash that tears all unsynced ranges alike.
-fn shows_after_crash(alloc: Global, disk: &MemErase, kind: u8, wanted: [u8; 4]) -> Option<bool> {
+fn shows_after_crash(alloc: Global, disk: &MemErase, kind: u8, expected: [u8; 4]) -> Option<bool> {
     let left = disk.crash(&all_torn(alloc, kind, 4).ok()?).ok()?;
     let mut journal = opened(alloc, left).ok()?;
-    Some(shows(alloc, &mut journal, wanted))
+    Some(shows(alloc, &mut journal, expected))
 }

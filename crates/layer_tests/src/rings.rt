@@ -247,9 +247,9 @@ fn free(tx: &Tx<MemErase>, ring: &Ring) -> Option<u64> {
 }
 
 /// Whether an admission has this encoding.
-fn is_spelled(alloc: Global, admission: &Admission, wanted: &[u8]) -> bool {
+fn is_encoded(alloc: Global, admission: &Admission, expected: &[u8]) -> bool {
     match admission.encode(alloc) {
-        Ok(octets) => octets.as_slice() == wanted,
+        Ok(octets) => octets.as_slice() == expected,
         Err(_) => false,
     }
 }
@@ -257,7 +257,7 @@ fn is_spelled(alloc: Global, admission: &Admission, wanted: &[u8]) -> bool {
 /// Whether two admissions have one encoding.
 fn is_same(alloc: Global, one: &Admission, other: &Admission) -> bool {
     match other.encode(alloc) {
-        Ok(octets) => is_spelled(alloc, one, &octets),
+        Ok(octets) => is_encoded(alloc, one, &octets),
         Err(_) => false,
     }
 }

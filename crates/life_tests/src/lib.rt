@@ -1,4 +1,6 @@
 //! A life of uses_tests is run: what each act of a script returns.
+//!
+//! The life is a list of acts on two disks in memory, crashes among them; a table has what each act returns, in the same order.
 #![tactic(auto)]
 
 #[cfg(test)]

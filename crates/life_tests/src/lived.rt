@@ -70,7 +70,7 @@ const ACTS: [Act; 20] = [
     Act::Check,
 ];
 
-const WANTED: [Outcome; 20] = [
+const EXPECTED: [Outcome; 20] = [
     Outcome::Admitted(5),
     Outcome::Marked,
     Outcome::Applied,
@@ -102,12 +102,12 @@ fn played(alloc: Global) -> Option<Life> {
 }
 
 /// Whether each act returned what it has to.
-fn are_wanted(rt: &impl Abort, life: &Life) {
+fn are_expected(rt: &impl Abort, life: &Life) {
     for (number, turn) in life.turns.iter().enumerate() {
-        let wanted = WANTED.get(number).copied();
+        let expected = EXPECTED.get(number).copied();
         be_at(
             rt,
-            Some(outcome_of(&turn.returned)) == wanted,
+            Some(outcome_of(&turn.returned)) == expected,
             "an act",
             number as u64,
         );
@@ -117,6 +117,6 @@ fn are_wanted(rt: &impl Abort, life: &Life) {
 #[test]
 fn a_life_of_uses_is_lived(rt: HostRuntime) {
     let life = played(rt.alloc()).expect(&rt, "a life");
-    be(&rt, life.turns.len() == WANTED.len(), "all acts");
-    are_wanted(&rt, &life);
+    be(&rt, life.turns.len() == EXPECTED.len(), "all acts");
+    are_expected(&rt, &life);
 }

@@ -46,8 +46,8 @@ read_below was now a b r piece e f p =
 
 -- a window that isn't full
 pub below_limit : (full : Bool) (n : ℕ) → (IsTrue full ↔ (n ≡ 4096)) → n ≤ 4096 → full ≡ false → n < 4096
-below_limit full n tells few isnt =
-    let other : n ≢ 4096 = λ e. let is : full ≡ true = tells.1 e in cc in
+below_limit full n reports few isnt =
+    let other : n ≢ 4096 = λ e. let is : full ≡ true = reports.1 e in cc in
     omega arith
 
 -- a read that gave nothing leaves the window as it was

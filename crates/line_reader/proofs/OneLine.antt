@@ -6,18 +6,18 @@ use Rattle.std.specs.Str.Lines.{StripsCarriageReturn}
 use Rattle.line_reader.specs.Lines.{HasNoEnd}
 use Rattle.line_reader.specs.LineLaws.{OneLine, StaysTheLine}
 
-no_end_behind : (x : ℕ) (xs : List ℕ) → HasNoEnd (x ∷ xs) → HasNoEnd xs
-no_end_behind x xs none k d h = none (suc k) d (omega arith)
+no_end_after : (x : ℕ) (xs : List ℕ) → HasNoEnd (x ∷ xs) → HasNoEnd xs
+no_end_after x xs none k d h = none (suc k) d (omega arith)
 
 -- the first line feed stands at one place
-one_end : (w v rest behind : List ℕ) → HasNoEnd w → HasNoEnd v → w ++ 10 ∷ rest ≡ v ++ 10 ∷ behind → (w ≡ v) × (rest ≡ behind)
-one_end [] [] rest behind none others e = let tails : rest ≡ behind = cc in (refl, tails)
-one_end [] (y ∷ v) rest behind none others e = let first : y ≡ 10 = cc in absurd (others 0 0 (omega arith) first)
-one_end (x ∷ w) [] rest behind none others e = let first : x ≡ 10 = cc in absurd (none 0 0 (omega arith) first)
-one_end (x ∷ w) (y ∷ v) rest behind none others e =
+one_end : (w v rest beyond : List ℕ) → HasNoEnd w → HasNoEnd v → w ++ 10 ∷ rest ≡ v ++ 10 ∷ beyond → (w ≡ v) × (rest ≡ beyond)
+one_end [] [] rest beyond none others e = let tails : rest ≡ beyond = cc in (refl, tails)
+one_end [] (y ∷ v) rest beyond none others e = let first : y ≡ 10 = cc in absurd (others 0 0 (omega arith) first)
+one_end (x ∷ w) [] rest beyond none others e = let first : x ≡ 10 = cc in absurd (none 0 0 (omega arith) first)
+one_end (x ∷ w) (y ∷ v) rest beyond none others e =
     let first : x ≡ y = cc in
-    let tails : w ++ 10 ∷ rest ≡ v ++ 10 ∷ behind = cc in
-    let same = one_end w v rest behind (no_end_behind x w none) (no_end_behind y v others) tails in
+    let tails : w ++ 10 ∷ rest ≡ v ++ 10 ∷ beyond = cc in
+    let same = one_end w v rest beyond (no_end_after x w none) (no_end_after y v others) tails in
     ((λ i. first i ∷ same.0 i), same.1)
 
 -- the last octet is no carriage return, and is one
@@ -35,8 +35,8 @@ one_text l x y (inr p) (inl q) = absurd (last_differs l x q.1 p)
 one_text l x y (inr p) (inr q) = (same_from_push x y 13 13 (sym p ∙ q)).0
 
 pub one_line : OneLine
-one_line octets line rest other behind p q =
-    let same = one_end p.written q.written rest behind p.whole q.whole (sym p.parts ∙ q.parts) in
+one_line octets line rest other beyond p q =
+    let same = one_end p.written q.written rest beyond p.whole q.whole (sym p.parts ∙ q.parts) in
     (one_text q.written line other (subst (λ (w : List ℕ). StripsCarriageReturn w line) same.0 p.line_is) q.line_is, same.1)
 
 pub stays_the_line : StaysTheLine

@@ -40,7 +40,7 @@ impl<R: Read> Model for LineReader<R> {
 
     ghost Value = { LineReading R };
 
-    ghost view = { λ l. record { reader = l.reader; line = take l.end.text l.window; behind = drop l.end.whole l.window } };
+    ghost view = { λ l. record { reader = l.reader; line = take l.end.text l.window; beyond = drop l.end.whole l.window } };
 
     ghost invariant = { λ l. (l.end.text ≤ l.end.whole) × (l.end.whole ≤ length l.window) };
 }
@@ -82,7 +82,7 @@ impl<R: Read> LineReader<R> {
     pub fn new(reader: R) -> LineReader<R>
         ensures reader { result.reader ≡ reader }
         ensures line { result.line ≡ [] }
-        ensures behind { result.behind ≡ [] }
+        ensures beyond { result.beyond ≡ [] }
     {
         LineReader {
             reader,
@@ -104,9 +104,9 @@ impl<R: Read> LineReader<R> {
     /// `TooLong` where 4,096 octets have no line feed, from then on at each call; `Failed` where a read fails: the next call
     /// reads on. Neither loses an octet.
     pub fn read_line(&mut self) -> Result<Found, LineError>
-        ensures reads { (gave : List ℕ) × Consumes (R.remaining self.old.reader) (R.remaining self.new.reader) gave × ReadsLine result (self.old.behind ++ gave) self.new.line self.new.behind (R.remaining self.new.reader) }
-        ensures ready { HasLine self.old.behind → self.new.reader ≡ self.old.reader }
-        ensures full { length self.old.behind ≡ 4096 → self.new.reader ≡ self.old.reader }
+        ensures reads { (gave : List ℕ) × Consumes (R.remaining self.old.reader) (R.remaining self.new.reader) gave × ReadsLine result (self.old.beyond ++ gave) self.new.line self.new.beyond (R.remaining self.new.reader) }
+        ensures ready { HasLine self.old.beyond → self.new.reader ≡ self.old.reader }
+        ensures full { length self.old.beyond ≡ 4096 → self.new.reader ≡ self.old.reader }
     {
         leave_line(&mut self.window, &mut self.end);
         match fill_line(&mut self.reader, &mut self.window)? {
@@ -123,13 +123,13 @@ impl<R: Read> Read for LineReader<R> {
     ghost use Rattle.std.specs.Prelude.{ℕ, List, Option};
     ghost use Rattle.std.specs.Io.KnownBytes.{prepend_known};
 
-    ghost remaining = { λ l. prepend_known l.behind (R.remaining l.reader) };
+    ghost remaining = { λ l. prepend_known l.beyond (R.remaining l.reader) };
 
     /// Leaves the last line, and reads octets after it: first those that were read already, without a read.
     fn read(&mut self, piece: &mut [u8]) -> io::Result<usize>
         ensures bound { ReadsAtMost result piece.new }
-        ensures bytes { ReadConsumes (prepend_known self.old.behind (R.remaining self.old.reader)) (prepend_known self.new.behind (R.remaining self.new.reader)) result piece.new }
-        ensures ready { 0 < length self.old.behind → self.new.reader ≡ self.old.reader }
+        ensures bytes { ReadConsumes (prepend_known self.old.beyond (R.remaining self.old.reader)) (prepend_known self.new.beyond (R.remaining self.new.reader)) result piece.new }
+        ensures ready { 0 < length self.old.beyond → self.new.reader ≡ self.old.reader }
     {
         leave_line(&mut self.window, &mut self.end);
         if self.window.as_slice().is_empty() {

@@ -42,11 +42,11 @@ impl<'a, A: Applied, T: Eprint + Clock> WatchedArchive<'a, A, T> {
 }
 
 impl<'a, A: RouteArchive + Applied, T: Eprint + Clock> RouteArchive for WatchedArchive<'a, A, T> {
-    ghost carries = { λ it h. A.carries (watched it) h };
+    ghost represents = { λ it h. A.represents (watched it) h };
 
     ghost most = { λ it. A.most (watched it) };
 
-    ghost right = { λ it h carried. A.right (watched it) h carried };
+    ghost right = { λ it h represented. A.right (watched it) h represented };
 
     fn collectors(&self) -> u8 {
         self.archive.collectors()

@@ -44,20 +44,20 @@ impl<'a, T: Eprint + Clock> Meter<'a, T> {
     pub fn count_octets(&self, count: usize) {
         self.octets
             .set(self.octets.get().saturating_add(count as u64));
-        self.tell();
+        self.report();
     }
 
     /// Counts records that were offered.
     pub fn count_records(&self, count: usize) {
         self.records
             .set(self.records.get().saturating_add(count as u64));
-        self.tell();
+        self.report();
     }
 
     /// Sets how many changes are applied by now.
     pub fn count_applied(&self, applied: u64) {
         self.applied.set(applied);
-        self.tell();
+        self.report();
     }
 
     /// Removes the line, if it is on the terminal. If that can't be written, nobody sees the line either.
@@ -72,7 +72,7 @@ impl<'a, T: Eprint + Clock> Meter<'a, T> {
     }
 
     // Writes the line, unless it was written a moment ago. If no clock can be read, there is none.
-    fn tell(&self) {
+    fn report(&self) {
         let (Some(terminal), Some(began)) = (self.terminal, self.began) else {
             return;
         };

@@ -21,14 +21,14 @@ pub(crate) enum Act {
     AskEvents(u32, u8),
     /// A turn up to the prefix of the peer of a collector.
     UpTo(usize, u8, u8),
-    /// A turn over so many events more, and one over all that is left.
+    /// A turn over this many events more, and one over all that is left.
     Further(usize, u64),
     End(usize),
     Crash,
     Recover,
 }
 
-/// What is done one after another with so many collectors, and what each step answers.
+/// What is done one after another with this many collectors, and what each step answers.
 struct Script {
     name: &'static str,
     collectors: u8,
@@ -78,7 +78,7 @@ const SCRIPTS: [Script; 6] = [
         ],
     },
     Script {
-        name: "a state change ends the routes, and the history tells it",
+        name: "a state change ends the routes, and the history has it",
         collectors: 1,
         acts: &[
             (
@@ -144,7 +144,7 @@ const SCRIPTS: [Script; 6] = [
             (Act::Mark(0, 30), "marked"),
             (Act::Mark(1, 30), "marked"),
             (Act::Apply(9), "applied"),
-            // Behind the spot that it has come to.
+            // After the spot that it has come to.
             (Act::UpTo(0, 0, 0), "again"),
             (Act::UpTo(0, 1, 0), "again"),
             (Act::End(0), "rows 0/0:1 0/1:1 0/2:1 1/0:2"),
@@ -267,7 +267,7 @@ fn played(rt: &impl Abort, alloc: Global, script: &Script) -> String {
 }
 
 /// What they have to reply.
-fn wanted(rt: &impl Abort, alloc: Global, script: &Script) -> String {
+fn expected(rt: &impl Abort, alloc: Global, script: &Script) -> String {
     let mut text = String::new(alloc);
     for (_, reply) in script.acts {
         put(rt, &mut text, reply);
@@ -281,12 +281,12 @@ fn scripts_are_played(rt: HostRuntime) {
     let alloc = rt.alloc();
     for script in &SCRIPTS {
         let replies = played(&rt, alloc, script);
-        be(&rt, replies == wanted(&rt, alloc, script), script.name);
+        be(&rt, replies == expected(&rt, alloc, script), script.name);
     }
 }
 
 #[test]
-fn a_collector_goes_on_behind_what_it_offered(rt: HostRuntime) {
+fn a_collector_goes_on_after_what_it_offered(rt: HostRuntime) {
     let alloc = rt.alloc();
     let offered = batch_of(&rt, alloc, 0, &[(100, &[]), (99, &[]), (100, &[])]);
     let steps = vec![in alloc; offered].expect(&rt, "memory");
@@ -295,22 +295,22 @@ fn a_collector_goes_on_behind_what_it_offered(rt: HostRuntime) {
     be(
         &rt,
         resume.offered == 3,
-        "a collector goes on behind what it offered",
+        "a collector goes on after what it offered",
     );
     be(
         &rt,
         resume.admitted == 2,
-        "a collector goes on behind what it offered",
+        "a collector goes on after what it offered",
     );
     be(
         &rt,
         resume.mark.seconds() == 100,
-        "a collector goes on behind what it offered",
+        "a collector goes on after what it offered",
     );
     be(
         &rt,
         ran.machine.resume(1).is_none(),
-        "a collector goes on behind what it offered",
+        "a collector goes on after what it offered",
     );
 }
 

@@ -13,7 +13,7 @@ use route_model::{Admission, Mark};
 use std::alloc::Global;
 use std::process::Abort;
 
-/// How many runs are generated, of so many steps each, by so many collectors.
+/// How many runs are generated, of this many steps each, by this many collectors.
 const RUNS: u32 = 2000;
 
 const STEPS: u32 = 32;
@@ -143,7 +143,7 @@ impl Generator {
     }
 }
 
-/// Puts those of the batch at the end that are no earlier than the mark and than those before them; tells the mark behind them.
+/// Puts those of the batch at the end that are no earlier than the mark and than those before them; returns the mark after them.
 fn add_timely(
     rt: &impl Abort,
     alloc: Global,
@@ -163,7 +163,7 @@ fn add_timely(
     mark
 }
 
-/// What a collector gave in a run that wasn't late, as the steps alone tell it.
+/// What a collector gave in a run that wasn't late, by the steps alone.
 fn admitted_by(rt: &impl Abort, alloc: Global, collector: u8, steps: &[Step]) -> Vec<Admission> {
     let mut list = Vec::new(alloc);
     let mut mark = 0u64;
@@ -189,7 +189,7 @@ fn admitted_by(rt: &impl Abort, alloc: Global, collector: u8, steps: &[Step]) ->
 }
 
 /// Whether the question is done in these steps, and something is applied before that.
-fn is_done_behind_an_application(number: usize, steps: &[Step], replies: &[Reply]) -> bool {
+fn is_done_after_an_application(number: usize, steps: &[Step], replies: &[Reply]) -> bool {
     let mut applied = false;
     for (place, reply) in replies.iter().enumerate() {
         match reply {
@@ -212,7 +212,7 @@ fn is_interleaved(steps: &[Step], replies: &[Reply]) -> bool {
     for (place, step) in steps.iter().enumerate() {
         if let Step::Turn(number, _) = step
             && let Some(Reply::Again) = replies.get(place)
-            && is_done_behind_an_application(*number, &steps[place..], &replies[place..])
+            && is_done_after_an_application(*number, &steps[place..], &replies[place..])
         {
             return true;
         }

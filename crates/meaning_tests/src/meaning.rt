@@ -23,7 +23,7 @@ const NEW_YEAR: u32 = 1_704_067_200;
 const LAST: u32 = u32::MAX;
 
 // What the peer of the first collector says in one admission, at a time.
-type Told = (u32, Said);
+type Reported = (u32, Said);
 
 // Which rows are asked for.
 #[derive(Clone, Copy)]
@@ -48,15 +48,15 @@ struct EventsAsked(u32, u32, &'static str);
 // What two collectors gave, and what is asked of it.
 struct Example {
     name: &'static str,
-    first: &'static [Told],
-    second: &'static [Told],
+    first: &'static [Reported],
+    second: &'static [Reported],
     rows: &'static [RowsAsked],
     events: &'static [EventsAsked],
 }
 
 const EXAMPLES: [Example; 14] = [
     Example {
-        name: "a state change ends the route, and the history tells it",
+        name: "a state change ends the route, and the history has it",
         first: &[
             (NEW_YEAR, Said::Announces(0, 65002)),
             (NEW_YEAR, Said::Ends),
@@ -82,14 +82,14 @@ const EXAMPLES: [Example; 14] = [
     },
     // A message that withdraws and announces a prefix gives no withdrawal of it; and one before it would change nothing.
     Example {
-        name: "a prefix that is announced stands",
+        name: "a prefix that is announced holds",
         first: &[(NEW_YEAR, Said::Announces(0, 65002))],
         second: &[],
         rows: &[RowsAsked(NEW_YEAR, Which::ByPrefix, None, "rows 0/0:65002")],
         events: &[],
     },
     Example {
-        name: "a prefix that is withdrawn and announced in one message stands",
+        name: "a prefix that is withdrawn and announced in one message holds",
         first: &[(NEW_YEAR, Said::Renews(0, 65002))],
         second: &[],
         rows: &[RowsAsked(NEW_YEAR, Which::ByPrefix, None, "rows 0/0:65002")],
@@ -162,7 +162,7 @@ const EXAMPLES: [Example; 14] = [
         events: &[EventsAsked(0, 9, "events 5-all 5+0:1")],
     },
     Example {
-        name: "an end behind an announcement of the same time",
+        name: "an end after an announcement of the same time",
         first: &[(5, Said::Announces(0, 1))],
         second: &[(5, Said::Ends)],
         rows: &[RowsAsked(5, Which::Route, None, "rows")],
@@ -184,9 +184,9 @@ const EXAMPLES: [Example; 14] = [
     },
 ];
 
-fn list_of(rt: &impl Abort, alloc: Global, told: &[Told]) -> Vec<Admission> {
+fn list_of(rt: &impl Abort, alloc: Global, reported: &[Reported]) -> Vec<Admission> {
     let mut list = Vec::new(alloc);
-    for (seconds, said) in told {
+    for (seconds, said) in reported {
         list.push(admission_of(rt, alloc, 0, *seconds, &[*said]))
             .expect(rt, "memory");
     }
@@ -277,12 +277,12 @@ fn examples_are_answered(rt: HostRuntime) {
 
 // The rows up to 10.0.0.0/16 of a history with one more.
 fn ranged(rt: &impl Abort, alloc: Global) -> String {
-    let told = list_of(
+    let reported = list_of(
         rt,
         alloc,
         &[(7, Said::Announces(128, 3)), (7, Said::Announces(0, 2))],
     );
-    let list = merged(rt, alloc, &[told.as_slice()]);
+    let list = merged(rt, alloc, &[reported.as_slice()]);
     let range = RowsRange {
         select: Select::All,
         low: None,
@@ -329,7 +329,7 @@ fn placed_text(rt: &impl Abort, alloc: Global, list: &[PlacedAdmission<'_>]) -> 
 }
 
 #[test]
-fn placed_admissions_tell_whose_they_are(rt: HostRuntime) {
+fn placed_admissions_report_whose_they_are(rt: HostRuntime) {
     a_mark_holds_back_the_record_of_another_collector();
     let alloc = rt.alloc();
     let first = list_of(&rt, alloc, &[(5, Said::Ends), (6, Said::Withdraws(0))]);
@@ -350,7 +350,7 @@ fn one_more(rt: &impl Abort, alloc: Global) -> Admission {
     Admission::new(moment_of(7), changes).expect(rt, "an admission")
 }
 
-// The peer announces 256 prefixes at 7, and one more where that is wanted.
+// The peer announces 256 prefixes at 7, and one more where that is asked for.
 fn many(rt: &impl Abort, alloc: Global, more: bool) -> Vec<Admission> {
     let mut list = Vec::new(alloc);
     for second in 0..=255u8 {
@@ -366,8 +366,8 @@ fn many(rt: &impl Abort, alloc: Global, more: bool) -> Vec<Admission> {
 
 // Are 256 rows returned, and that more follow only where there is one more?
 fn is_cut(rt: &impl Abort, alloc: Global, more: bool) -> bool {
-    let told = many(rt, alloc, more);
-    let list = merged(rt, alloc, &[told.as_slice()]);
+    let reported = many(rt, alloc, more);
+    let list = merged(rt, alloc, &[reported.as_slice()]);
     let question = RowsQuestion {
         moment: moment_of(7),
         select: Select::All,
@@ -381,8 +381,8 @@ const ABOVE_254: RowsAsked = RowsAsked(7, Which::All, Some(254), "rows 0/255:1")
 
 // Does the last of 256 rows stand alone above the one before it?
 fn is_last(rt: &impl Abort, alloc: Global) -> bool {
-    let told = many(rt, alloc, false);
-    let list = merged(rt, alloc, &[told.as_slice()]);
+    let reported = many(rt, alloc, false);
+    let list = merged(rt, alloc, &[reported.as_slice()]);
     are_rows(rt, alloc, &list, &ABOVE_254)
 }
 
@@ -416,24 +416,24 @@ fn first_256(rt: &impl Abort, alloc: Global) -> String {
 
 // The text of the events of this number of withdrawals, without the first SKIP ones.
 fn withdrawn_text(rt: &impl Abort, alloc: Global, count: u32, skip: u64) -> String {
-    let told = withdrawals(rt, alloc, count);
-    let list = merged(rt, alloc, &[told.as_slice()]);
+    let reported = withdrawals(rt, alloc, count);
+    let list = merged(rt, alloc, &[reported.as_slice()]);
     events(rt, alloc, &list, 0, 300, skip)
 }
 
 #[test]
 fn events_are_cut_at_256_and_go_on_where_they_are_skipped(rt: HostRuntime) {
     let alloc = rt.alloc();
-    let mut wanted = first_256(&rt, alloc);
+    let mut expected = first_256(&rt, alloc);
     be(
         &rt,
-        withdrawn_text(&rt, alloc, 256, 0) == wanted,
+        withdrawn_text(&rt, alloc, 256, 0) == expected,
         "256 events are not cut",
     );
-    put(&rt, &mut wanted, " more");
+    put(&rt, &mut expected, " more");
     be(
         &rt,
-        withdrawn_text(&rt, alloc, 257, 0) == wanted,
+        withdrawn_text(&rt, alloc, 257, 0) == expected,
         "257 events are cut",
     );
     let last = withdrawn_text(&rt, alloc, 257, 256);

@@ -26,7 +26,7 @@ fn offer_many(
     Step::Admit(collector, vec![in alloc; many].expect(rt, "memory"))
 }
 
-/// Two questions, of the moments 7 and 8. 256 rows end no question; the 257th does, untold.
+/// Two questions, of the moments 7 and 8. 256 rows end no question; the 257th does, unreported.
 const ACTS: [Act; 8] = [
     Act::Mark(0, 10),
     Act::Mark(1, 10),

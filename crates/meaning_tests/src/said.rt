@@ -174,12 +174,12 @@ pub(crate) fn answer_text(rt: &impl Abort, alloc: Global, answer: &Answer) -> St
     }
 }
 
-fn put_batch(rt: &impl Abort, alloc: Global, text: &mut String, told: &BatchReply) {
-    put_number(rt, alloc, text, "", told.receipt.collector as u64);
-    put_number(rt, alloc, text, ": ", told.receipt.from);
-    put_number(rt, alloc, text, "..", told.receipt.to);
-    put_number(rt, alloc, text, " of ", told.offered);
-    for late in &told.late {
+fn put_batch(rt: &impl Abort, alloc: Global, text: &mut String, reported: &BatchReply) {
+    put_number(rt, alloc, text, "", reported.receipt.collector as u64);
+    put_number(rt, alloc, text, ": ", reported.receipt.from);
+    put_number(rt, alloc, text, "..", reported.receipt.to);
+    put_number(rt, alloc, text, " of ", reported.offered);
+    for late in &reported.late {
         put_number(rt, alloc, text, ", late ", late.index as u64);
         put_number(rt, alloc, text, " at ", late.time.seconds());
         put_number(rt, alloc, text, " below ", late.mark.seconds());
@@ -189,7 +189,7 @@ fn put_batch(rt: &impl Abort, alloc: Global, text: &mut String, told: &BatchRepl
 /// Puts a reply at a text's end.
 pub(crate) fn put_reply(rt: &impl Abort, alloc: Global, text: &mut String, reply: &Reply) {
     match reply {
-        Reply::Taken(told) => put_batch(rt, alloc, text, told),
+        Reply::Taken(reported) => put_batch(rt, alloc, text, reported),
         Reply::Marked => put(rt, text, "marked"),
         Reply::NoCollector => put(rt, text, "no collector"),
         Reply::MarkBack => put(rt, text, "mark back"),

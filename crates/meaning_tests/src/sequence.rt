@@ -213,21 +213,21 @@ const AHEAD: [Act; 4] = [
 /// Passes over three records, of the collectors 1, 0 and 1, and takes them. All waits until then.
 fn look_ahead(rt: &impl Abort, alloc: Global, two: &mut Sequencer, name: &str) {
     let mut ahead = two.ahead(alloc).expect(rt, "memory");
-    let Some(first) = two.next_behind(&ahead) else {
+    let Some(first) = two.next_after(&ahead) else {
         panic!(rt; "nothing is next");
     };
     two.pass(&mut ahead, first);
-    let Some(second) = two.next_behind(&ahead) else {
-        panic!(rt; "nothing is next behind one");
+    let Some(second) = two.next_after(&ahead) else {
+        panic!(rt; "nothing is next after one");
     };
     two.pass(&mut ahead, second);
-    let Some(third) = two.next_behind(&ahead) else {
-        panic!(rt; "nothing is next behind two");
+    let Some(third) = two.next_after(&ahead) else {
+        panic!(rt; "nothing is next after two");
     };
     two.pass(&mut ahead, third);
     be(rt, first == 1 && second == 0 && third == 1, name);
     // The moment 8 isn't below the mark of the collector 1.
-    be(rt, two.next_behind(&ahead) == None, name);
+    be(rt, two.next_after(&ahead) == None, name);
     be(rt, two.next() == Some(1), name);
     be(rt, settled(rt, two) == mark(5), name);
     two.take_passed(&ahead);

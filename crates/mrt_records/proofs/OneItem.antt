@@ -20,7 +20,7 @@ use Rattle.mrt_records.specs.Sessions.{family_code, IsAddressOf, IsSession, IsMe
 use Rattle.route_model.specs.Widths.{width_of}
 use Rattle.mrt_records.specs.PeerTables.{IsPeerField}
 use Rattle.mrt_records.specs.Ribs.{IsRib}
-use Rattle.mrt_records.specs.Values.{Reading, Message, StateChange, PeerTable, Rib, Told, Read, Skipped, Malformed}
+use Rattle.mrt_records.specs.Values.{Reading, Message, StateChange, PeerTable, Rib, Reported, Read, Skipped, Malformed}
 use Rattle.mrt_records.specs.Records.{timestamp, kind, subtype, body}
 use Rattle.mrt_records.specs.Bodies.{IsListedType, HasReading, Body}
 use Rattle.mrt_records.proofs.Peers.{made, address_one, peers_free}
@@ -61,7 +61,7 @@ session_one width bytes v w x y p q =
     let there = subst (λ (f : Family). IsAddressOf f (take (address_size f) (drop (2 * width_of width + 4) bytes)) v.address) family p.address in
     let addresses = address_one q.family (take (address_size q.family) (drop (2 * width_of width + 4) bytes)) v.address w.address there q.address in
     let numbers : v.as_number ≡ w.as_number = p.as_number ∙ sym q.as_number in
-    let rests : x ≡ y = p.behind ∙ ap (λ (f : Family). drop (2 * width_of width + 4 + 2 * address_size f) bytes) family ∙ sym q.behind in
+    let rests : x ≡ y = p.beyond ∙ ap (λ (f : Family). drop (2 * width_of width + 4 + 2 * address_size f) bytes) family ∙ sym q.beyond in
     (ap (λ (a : Address). made a v.as_number) addresses ∙ ap (λ (n : ℕ). made w.address n) numbers, rests)
 
 rib_one : (family : Family) (bytes : List ℕ) (v w : IpPrefix) (x y : List Entry) → IsRib family bytes v x → IsRib family bytes w y → (v ≡ w) × (x ≡ y)
@@ -110,14 +110,14 @@ reads_one form t bytes (Rib time prefix entries) (Rib time' prefix' entries') p 
 
 -- ---- a record is reported as one item only
 
-told_one : (k s t : ℕ) (b : List ℕ) (f g : Form) (v w : Reading) → IsListedType k s f → IsListedType k s g → HasReading f t b v → HasReading g t b w → v ≡ w
-told_one k s t b f g v w lf lg p q =
+reported_one : (k s t : ℕ) (b : List ℕ) (f g : Form) (v w : Reading) → IsListedType k s f → IsListedType k s g → HasReading f t b v → HasReading g t b w → v ≡ w
+reported_one k s t b f g v w lf lg p q =
     let same = form_one k s f g lf lg in
     reads_one g t b v w (subst (λ (x : Form). HasReading x t b v) same p) q
 
-pub item_one : (bytes : List ℕ) (v w : Told) → Body bytes v → Body bytes w → v ≡ w
+pub item_one : (bytes : List ℕ) (v w : Reported) → Body bytes v → Body bytes w → v ≡ w
 item_one bytes (Read v) (Read w) p q =
-    ap (λ (r : Reading). Read r) (told_one (kind bytes) (subtype bytes) (timestamp bytes) (body bytes) p.0 q.0 v w p.1 q.1 p.2 q.2)
+    ap (λ (r : Reading). Read r) (reported_one (kind bytes) (subtype bytes) (timestamp bytes) (body bytes) p.0 q.0 v w p.1 q.1 p.2 q.2)
 item_one bytes (Read v) (Skipped k s) p q = absurd (q.2 p.0 p.1)
 item_one bytes (Read v) (Malformed k s) p q =
     let same = form_one (kind bytes) (subtype bytes) p.0 q.2 p.1 q.3 in

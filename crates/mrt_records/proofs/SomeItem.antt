@@ -23,14 +23,14 @@ use Rattle.mrt_records.specs.Sessions.{family_code, IsAddressOf, IsSession, IsMe
 use Rattle.route_model.specs.Widths.{width_of}
 use Rattle.mrt_records.specs.PeerTables.{IsPeerField, IsPeerTable, family_of_type, width_of_type}
 use Rattle.mrt_records.specs.Ribs.{IsRib}
-use Rattle.mrt_records.specs.Values.{Reading, Message, StateChange, PeerTable, Rib, Told, Read, Skipped, Malformed}
+use Rattle.mrt_records.specs.Values.{Reading, Message, StateChange, PeerTable, Rib, Reported, Read, Skipped, Malformed}
 use Rattle.mrt_records.specs.Records.{timestamp, kind, subtype, body}
 use Rattle.mrt_records.specs.Bodies.{IsSessionKind, IsListedType, HasReading, Body}
 use Rattle.route_model.proofs.api.Fronts.{number_at-append, first_octet}
 use Rattle.mrt_records.proofs.Peers.{made, peers_free, peer_front}
 use Rattle.mrt_records.proofs.EntryFields.{entries_free, entry_front}
 use Rattle.route_model.proofs.api.PrefixFields.{prefixes_free}
-use Rattle.mrt_records.proofs.Bodies.{rib_parts, rib_begins, message_none, told_state_change, table_told_none, rib_told_none}
+use Rattle.mrt_records.proofs.Bodies.{rib_parts, rib_begins, message_none, reported_state_change, table_reported_none, rib_reported_none}
 use Rattle.mrt_records.proofs.OneItem.{family_one, session_one}
 
 same_or : (m n : ℕ) → (m ≡ n) ⊎ (m ≡ n → ⊥)
@@ -143,7 +143,7 @@ session_in width bytes f code = elim (cases_lt (length bytes) (2 * width_of widt
       inl (
         made there.0 (number_at (width_of width) 0 bytes),
         drop (2 * width_of width + 4 + 2 * address_size f) bytes,
-        record { family = f; code = code; room = room; as_number = refl; address = there.1; behind = refl },
+        record { family = f; code = code; room = room; as_number = refl; address = there.1; beyond = refl },
       )
 ]
 
@@ -373,18 +373,18 @@ reads_some (forms.Message width) t bytes = elim (message_some width bytes) [
 ]
 reads_some (forms.StateChange width) t bytes = elim (state_change_some width bytes) [
   | inl s ↦ inl (StateChange t s.0 s.1, (width, refl, refl, s.2))
-  | inr none ↦ inr (λ r q. told_state_change (forms.StateChange width) width t bytes (Read r) refl none q)
+  | inr none ↦ inr (λ r q. reported_state_change (forms.StateChange width) width t bytes (Read r) refl none q)
 ]
 reads_some forms.PeerTable t bytes = elim (peer_table_some bytes) [
   | inl p ↦ inl (PeerTable p.0, (refl, p.1))
-  | inr none ↦ inr (λ r q. table_told_none forms.PeerTable t bytes (Read r) refl none q)
+  | inr none ↦ inr (λ r q. table_reported_none forms.PeerTable t bytes (Read r) refl none q)
 ]
 reads_some (forms.Rib family) t bytes = elim (rib_some family bytes) [
   | inl b ↦ inl (Rib t b.0.0 b.0.1, (family, refl, refl, b.1))
-  | inr none ↦ inr (λ r q. rib_told_none (forms.Rib family) family t bytes (Read r) refl none q)
+  | inr none ↦ inr (λ r q. rib_reported_none (forms.Rib family) family t bytes (Read r) refl none q)
 ]
 
-pub item_some : (bytes : List ℕ) → (v : Told) × Body bytes v
+pub item_some : (bytes : List ℕ) → (v : Reported) × Body bytes v
 item_some bytes = elim (listing (kind bytes) (subtype bytes)) [
   | inr none ↦ (Skipped (kind bytes) (subtype bytes), (refl, refl, none))
   | inl f ↦ elim (reads_some f.0 (timestamp bytes) (body bytes)) [

@@ -1,7 +1,7 @@
 -- What a record is reported as.
 use Rattle.std.specs.Prelude.{◌≡◌, ℕ, ◌⊎◌, List}
 use Rattle.mrt_records.specs.Records.{timestamp, kind, subtype, body}
-use Rattle.mrt_records.specs.Values.{Reading, Message, StateChange, PeerTable, Rib, Told, Read, Skipped, Malformed}
+use Rattle.mrt_records.specs.Values.{Reading, Message, StateChange, PeerTable, Rib, Reported, Read, Skipped, Malformed}
 use Rattle.mrt_records.specs.Sessions.{IsMessageBody, IsStateChange}
 use Rattle.mrt_records.specs.PeerTables.{IsPeerTable}
 use Rattle.mrt_records.specs.Ribs.{IsRib}
@@ -34,7 +34,7 @@ HasReading form t bytes (PeerTable peers) = (form ≡ forms.PeerTable) × IsPeer
 HasReading form t bytes (Rib time prefix entries) = (family : Family) × (form ≡ forms.Rib family) × (time ≡ t) × IsRib family bytes prefix entries
 
 -- a listed record is what it reads as, or malformed where it has no reading; one that isn't listed is skipped
-abbrev pub Body : List ℕ → Told → Type 0
+abbrev pub Body : List ℕ → Reported → Type 0
 Body bytes (Read reading) = (form : Form) × IsListedType (kind bytes) (subtype bytes) form × HasReading form (timestamp bytes) (body bytes) reading
 Body bytes (Skipped k s) = (k ≡ kind bytes) × (s ≡ subtype bytes) × ((form : Form) → IsListedType (kind bytes) (subtype bytes) form → ⊥)
 Body bytes (Malformed k s) =
@@ -42,7 +42,7 @@ Body bytes (Malformed k s) =
     × ((reading : Reading) → HasReading form (timestamp bytes) (body bytes) reading → ⊥)
 
 -- what is reported is a reading of the form
-abbrev pub IsTold : Form → ℕ → List ℕ → Told → Type 0
-IsTold form t bytes (Read reading) = HasReading form t bytes reading
-IsTold form t bytes (Skipped k s) = ⊥
-IsTold form t bytes (Malformed k s) = ⊥
+abbrev pub IsReported : Form → ℕ → List ℕ → Reported → Type 0
+IsReported form t bytes (Read reading) = HasReading form t bytes reading
+IsReported form t bytes (Skipped k s) = ⊥
+IsReported form t bytes (Malformed k s) = ⊥

@@ -28,7 +28,7 @@ pub record IsSession (width : AsWidth) (bytes : List ℕ) (peer : Neighbor) (res
   pub room : 2 * width_of width + 4 + 2 * address_size family ≤ length bytes
   pub as_number : peer.as_number ≡ number_at (width_of width) 0 bytes
   pub address : IsAddressOf family (take (address_size family) (drop (2 * width_of width + 4) bytes)) peer.address
-  pub behind : rest ≡ drop (2 * width_of width + 4 + 2 * address_size family) bytes
+  pub beyond : rest ≡ drop (2 * width_of width + 4 + 2 * address_size family) bytes
 
 -- one whole message, whose own Length (RFC 4271 section 4.1) is exactly that of the octets
 pub record IsWholeMessage (bytes : List ℕ) : Type 0 where

@@ -2,13 +2,13 @@
 use Rattle.std.specs.Prelude.{◌≡◌, ℕ, List, ◌++◌}
 use Rattle.route_model.specs.Sequence.{Each}
 use Rattle.mrt_records.specs.Records.{Over, Frames}
-use Rattle.mrt_records.specs.Values.{told}
+use Rattle.mrt_records.specs.Values.{reported}
 use Rattle.mrt_records.specs.Bodies.{Body}
 use Rattle.mrt_records.specs.declared.item.Item.{Item}
 
 -- the item of a record
 abbrev pub IsItem : List ℕ → Item → Type 0
-IsItem bytes item = Body bytes (told item)
+IsItem bytes item = Body bytes (reported item)
 
 -- the list has gained the items of these records, one for each, in their order
 abbrev pub Gains : List Item → List Item → List (List ℕ) → Type 0

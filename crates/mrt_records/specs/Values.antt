@@ -15,16 +15,16 @@ pub data Reading : Type 0 where
   Rib : (time : ℕ) (prefix : IpPrefix) (entries : List Entry) → Reading
 
 -- what a record is reported as
-pub data Told : Type 0 where
-  Read : (reading : Reading) → Told
-  Skipped : (kind subtype : ℕ) → Told
-  Malformed : (kind subtype : ℕ) → Told
+pub data Reported : Type 0 where
+  Read : (reading : Reading) → Reported
+  Skipped : (kind subtype : ℕ) → Reported
+  Malformed : (kind subtype : ℕ) → Reported
 
 -- what an item reports
-abbrev pub told : Item → Told
-told (items.Message time peer width octets) = Read (Message time peer width octets.items)
-told (items.StateChange time peer state) = Read (StateChange time peer state)
-told (items.PeerTable peers) = Read (PeerTable peers.items)
-told (items.Rib time prefix entries) = Read (Rib time prefix entries)
-told (items.Skipped kind subtype) = Skipped kind subtype
-told (items.Malformed kind subtype) = Malformed kind subtype
+abbrev pub reported : Item → Reported
+reported (items.Message time peer width octets) = Read (Message time peer width octets.items)
+reported (items.StateChange time peer state) = Read (StateChange time peer state)
+reported (items.PeerTable peers) = Read (PeerTable peers.items)
+reported (items.Rib time prefix entries) = Read (Rib time prefix entries)
+reported (items.Skipped kind subtype) = Skipped kind subtype
+reported (items.Malformed kind subtype) = Malformed kind subtype

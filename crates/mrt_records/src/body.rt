@@ -3,8 +3,8 @@
 ghost use Rattle.std.specs.Prelude.{◌≡◌, ◌≤◌, ℕ, length, IfOk};
 ghost use Rattle.route_model.specs.Reading.{Exactly};
 ghost use Rattle.mrt_records.specs.Records.{IsRecord, body, kind as kind_of};
-ghost use Rattle.mrt_records.specs.Values.{told};
-ghost use Rattle.mrt_records.specs.Bodies.{Body, IsTold};
+ghost use Rattle.mrt_records.specs.Values.{reported};
+ghost use Rattle.mrt_records.specs.Bodies.{Body, IsReported};
 
 use crate::form::{Form, form_of};
 use crate::front::HEADER;
@@ -37,7 +37,7 @@ fn body_of(kind: u16, bytes: &[u8]) -> &[u8]
 /// The item of a body of this form.
 fn read_body(alloc: Global, form: Form, time: Moment, bytes: &[u8]) -> Result<Item, ReadFault>
     requires { length bytes.now ≤ 131072 }
-    ensures { Exactly told (IsTold form time bytes.now) result }
+    ensures { Exactly reported (IsReported form time bytes.now) result }
 {
     match form {
         Form::Message(width) => {
@@ -70,7 +70,7 @@ fn read_body(alloc: Global, form: Form, time: Moment, bytes: &[u8]) -> Result<It
 /// The item of a record.
 pub(crate) fn item_of(alloc: Global, bytes: &[u8]) -> Result<Item, AllocError>
     requires { IsRecord bytes.now }
-    ensures { IfOk result (λ item. Body bytes.now (told item)) }
+    ensures { IfOk result (λ item. Body bytes.now (reported item)) }
 {
     let kind = u16_at(bytes, 4);
     let subtype = u16_at(bytes, 6);

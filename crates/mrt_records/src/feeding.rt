@@ -48,12 +48,12 @@ fn push_items<'a>(
     Ok(rest)
 }
 
-/// Moves octets from the piece to the held ones until `want` are held, or the piece is used up. Returns how many it moved.
-fn top_up(held: &mut Vec<u8>, piece: &[u8], want: usize) -> Result<usize, AllocError>
-    ensures ok { IfOk result (λ n. IsToppedUp held.old.items held.new.items piece.now want n) }
+/// Moves octets from the piece to the held ones until `need` are held, or the piece is used up. Returns how many it moved.
+fn top_up(held: &mut Vec<u8>, piece: &[u8], need: usize) -> Result<usize, AllocError>
+    ensures ok { IfOk result (λ n. IsToppedUp held.old.items held.new.items piece.now need n) }
     ensures err { OnErr result (held.new.items ≡ held.old.items) }
 {
-    let more = min(want.saturating_sub(held.len()), piece.len());
+    let more = min(need.saturating_sub(held.len()), piece.len());
     held.extend_from_slice(&piece[..more])?;
     Ok(more)
 }

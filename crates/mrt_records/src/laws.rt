@@ -2,7 +2,7 @@
 
 ghost use Rattle.std.specs.Prelude.{◌≡◌, ℕ, List};
 ghost use Rattle.mrt_records.specs.Records.{Frames};
-ghost use Rattle.mrt_records.specs.Values.{Told};
+ghost use Rattle.mrt_records.specs.Values.{Reported};
 ghost use Rattle.mrt_records.specs.Bodies.{Body};
 
 /// Octets of a stream are one list of records and one rest.
@@ -12,6 +12,6 @@ pub fn frames_law()
 
 /// Each record is reported as an item, and as no other.
 pub fn body_law()
-    ensures some { (bytes : List ℕ) → (told : Told) × Body bytes told }
-    ensures one { (bytes : List ℕ) (a b : Told) → Body bytes a → Body bytes b → a ≡ b }
+    ensures some { (bytes : List ℕ) → (reported : Reported) × Body bytes reported }
+    ensures one { (bytes : List ℕ) (a b : Reported) → Body bytes a → Body bytes b → a ≡ b }
 {}

@@ -69,7 +69,14 @@ fn read_entries(alloc: Global, bytes: &[u8], count: usize) -> Result<RibEntries,
     Ok(RibEntries::new(octets, places))
 }
 
-/// The prefix and the entries of a RIB record's body.
+/// The prefix and the entries of a RIB record's body. Its fields are taken in this order:
+///
+/// 1. The sequence number, four octets, which isn't looked at (RFC 6396 section 4.3.2).
+/// 2. The prefix: its length in bits, one octet, and as many octets as hold these (section 4.3.2).
+/// 3. The count of entries, two octets (section 4.3.2).
+/// 4. Entries to the end: the peer index, two octets; the originated time, four, which isn't looked at; the length of the attributes,
+///    two; the attributes (section 4.3.4).
+/// 5. There must be as many entries as the count says.
 pub(crate) fn read_rib(
     alloc: Global,
     family: Family,
@@ -81,11 +88,11 @@ pub(crate) fn read_rib(
     if bytes.len() < 4 {
         return Err(ReadFault::Malformed);
     }
-    let behind = bytes.split_at(4).1;
-    let Some((prefix, size)) = prefix_at(family, behind) else {
+    let beyond = bytes.split_at(4).1;
+    let Some((prefix, size)) = prefix_at(family, beyond) else {
         return Err(ReadFault::Malformed);
     };
-    let rest = behind.split_at(size).1;
+    let rest = beyond.split_at(size).1;
     if rest.len() < 2 {
         return Err(ReadFault::Malformed);
     }

@@ -10,7 +10,7 @@ body_of block = take 16352 block
 abbrev pub digest_of : List ℕ → List ℕ
 digest_of block = drop 16352 block
 
--- the block carries the SHA-256 of its body
+-- the block represents the SHA-256 of its body
 abbrev pub IsWhole : List ℕ → Type 0
 IsWhole block = sha256 (body_of block) ≡ digest_of block
 

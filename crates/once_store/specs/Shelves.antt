@@ -54,8 +54,8 @@ pub record HasPassed (from to : ℕ) (old new : OnceState) : Type 0 where
   pub tried : AllTried old from to
 
 -- the number is the one after the first blank block from another number on, on a disk of `count` blocks
-pub record IsBehindBlank (o : OnceState) (count from to : ℕ) : Type 0 where
+pub record IsAfterBlank (o : OnceState) (count from to : ℕ) : Type 0 where
   pub block : ℕ
   pub blank : IsFirstBlank o count from block
   pub inside : block < count
-  pub behind : to ≡ suc block
+  pub beyond : to ≡ suc block

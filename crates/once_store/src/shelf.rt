@@ -41,7 +41,7 @@ fn skip_tried<O: OnceDisk>(disk: &O, pen: &mut O::Pen, next: &mut u64) -> Result
 }
 
 impl<O: OnceDisk + Drop> Shelf<O> {
-    ghost use Rattle.once_store.specs.Shelves.{HasPassed, IsBehindBlank, Spends, disk_after, disk_of, next_of, pen_after, pen_of};
+    ghost use Rattle.once_store.specs.Shelves.{HasPassed, IsAfterBlank, Spends, disk_after, disk_of, next_of, pen_after, pen_of};
     ghost use Rattle.once_store.specs.Readers.{IsKept, capacity_of, reader_disk};
 
     /// A shelf over a disk and its pen, which looks for the first blank block from `next` on.
@@ -89,7 +89,7 @@ impl<O: OnceDisk + Drop> Shelf<O> {
 
         // A disk doesn't distinguish a burn that failed without a trace from a look that failed. So where a call gives up a
         // block, the clause says that it is the first blank one, and not which call failed.
-        ensures failed { O.honest (disk_of self.old) (pen_of self.old) → IsErrOf result AppendError.Fault → HasPassed (next_of self.old) (next_of self.new) (O.model (pen_of self.old)) (O.model (pen_of self.new)) ⊎ IsBehindBlank (O.model (pen_of self.old)) (O.block_count (disk_of self.old)) (next_of self.old) (next_of self.new) }
+        ensures failed { O.honest (disk_of self.old) (pen_of self.old) → IsErrOf result AppendError.Fault → HasPassed (next_of self.old) (next_of self.new) (O.model (pen_of self.old)) (O.model (pen_of self.new)) ⊎ IsAfterBlank (O.model (pen_of self.old)) (O.block_count (disk_of self.old)) (next_of self.old) (next_of self.new) }
 
         // In every outcome: whatever a crash leaves of the disk then, it leaves all that was settled before.
         ensures earlier { O.honest (disk_of self.old) (pen_of self.old) → (left : Left) → HasSettled (O.model (pen_of self.new)) left → HasSettled (O.model (pen_of self.old)) left }

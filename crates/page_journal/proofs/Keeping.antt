@@ -9,7 +9,7 @@ use Rattle.disk_models.proofs.api.OctetLemmas.{octets_agree}
 use Rattle.disk_models.proofs.api.Moments.{leaves_then, leaves_weaker, may_leave_now, synced_leave}
 use Rattle.page_journal.specs.Layout.{Image, pages_of, gate_place, home_place, images, homes_from}
 use Rattle.page_journal.specs.inner.Writing.{ImagesStand}
-use Rattle.page_journal.specs.Recovers.{laid, IsListed, RecoversBy, Recovers, CarriesPages}
+use Rattle.page_journal.specs.Recovers.{laid, IsListed, RecoversBy, Recovers, RepresentsPages}
 use Rattle.page_journal.specs.Bookkeeping.{AreNumbered, IsImage, place_of, unhomed_numbers, open_slots}
 use Rattle.page_journal.specs.inner.Entering.{unhomed_after}
 use Rattle.page_journal.specs.inner.Laying.{StandsHome}
@@ -34,17 +34,17 @@ pub length_meant : (homes : ℕ) (note order : List ℕ) (f : ℕ → ℕ) (page
 length_meant homes note order f pages r = ap length r.meaning ∙ length-laid (flat_map (images f) order) (homes_from f 0 homes) ∙ length-homes_from f 0 homes
 
 -- what a read gives is something that a crash may leave
-pub now_means : (homes : ℕ) (note order : List ℕ) (s : DiskState) (pages : List (List ℕ)) → CarriesPages homes note order s pages → RecoversBy homes note order s.octet pages
-now_means homes note order s pages carries = carries s.octet (λ i settled. refl)
+pub now_means : (homes : ℕ) (note order : List ℕ) (s : DiskState) (pages : List (List ℕ)) → RepresentsPages homes note order s pages → RecoversBy homes note order s.octet pages
+now_means homes note order s pages represents = represents s.octet (λ i settled. refl)
 
 -- a home page is written that an open slot covers
 module _ (homes : ℕ) (note order : List ℕ) (n : ℕ) (s0 s1 : DiskState) (unhomed : List Unhomed) (pages : List (List ℕ)) (w : WritesWithin (home_place n) 16384 s0 s1)
-    (carries : CarriesPages homes note order s0 pages) (covered : CoveredIn order unhomed s0) (listed : IsListed n (unhomed_numbers unhomed)) where
-  pub home_carries : CarriesPages homes note order s1 pages
-  home_carries c may = (torn_home homes note order n s0 pages carries (covered n listed) c (may_leave_now (home_place n) 16384 s0 s1 c w may)).0
+    (represents : RepresentsPages homes note order s0 pages) (covered : CoveredIn order unhomed s0) (listed : IsListed n (unhomed_numbers unhomed)) where
+  pub home_represents : RepresentsPages homes note order s1 pages
+  home_represents c may = (torn_home homes note order n s0 pages represents (covered n listed) c (may_leave_now (home_place n) 16384 s0 s1 c w may)).0
 
   pub home_covered : CoveredIn order (others n unhomed) s1
-  home_covered m left c may = (torn_home homes note order n s0 pages carries (covered n listed) c (may_leave_now (home_place n) 16384 s0 s1 c w may)).1 m (covered m (listed_before unhomed n m left))
+  home_covered m left c may = (torn_home homes note order n s0 pages represents (covered n listed) c (may_leave_now (home_place n) 16384 s0 s1 c w may)).1 m (covered m (listed_before unhomed n m left))
 
   pub home_numbered : (opened : ℕ) → opened ≤ 8 → ((c : ℕ → ℕ) → MayLeave s0 c → AreNumbered opened c) → (c : ℕ → ℕ) → MayLeave s1 c → AreNumbered opened c
   home_numbered opened few numbered c may t lt =
@@ -71,8 +71,8 @@ module _ (homes : ℕ) (note order : List ℕ) (n : ℕ) (s0 s1 : DiskState) (un
 
 -- all is home and synced, and no slot is open
 module _ (homes : ℕ) (note : List ℕ) (s : DiskState) (pages : List (List ℕ)) (h : StandsHome homes note [] s pages) where
-  pub stands_carries : CarriesPages homes note [] s pages
-  stands_carries c may = subst (λ f. RecoversBy homes note [] f pages) (sym (synced_leave s c h.settled may)) h.home.means
+  pub stands_represents : RepresentsPages homes note [] s pages
+  stands_represents c may = subst (λ f. RecoversBy homes note [] f pages) (sym (synced_leave s c h.settled may)) h.home.means
 
   pub stands_shown : ShownAt homes [] s.octet pages
   stands_shown n lt =
@@ -81,9 +81,9 @@ module _ (homes : ℕ) (note : List ℕ) (s : DiskState) (pages : List (List ℕ
       ∙ ap (λ (p : List ℕ). Some p) (get_or-homes_from s.octet homes n lt)
 
 -- Where each page is shown home, the home pages are the map; a sync fixes that.
-pub shown_stands : (homes : ℕ) (note order : List ℕ) (s0 s1 : DiskState) (pages : List (List ℕ)) → CarriesPages homes note order s0 pages → ShownAt homes [] s0.octet pages → Syncs s0 s1 → StandsHome homes note order s1 pages
-shown_stands homes note order s0 s1 pages carries shown synced =
-    let means : RecoversBy homes note order s0.octet pages = now_means homes note order s0 pages carries in
+pub shown_stands : (homes : ℕ) (note order : List ℕ) (s0 s1 : DiskState) (pages : List (List ℕ)) → RepresentsPages homes note order s0 pages → ShownAt homes [] s0.octet pages → Syncs s0 s1 → StandsHome homes note order s1 pages
+shown_stands homes note order s0 s1 pages represents shown synced =
+    let means : RecoversBy homes note order s0.octet pages = now_means homes note order s0 pages represents in
     let home : pages ≡ homes_from s0.octet 0 homes =
     are_homes s0.octet homes pages (length_meant homes note order s0.octet pages means) (λ n lt. get_or_from_slice_get pages n (octets s0.octet (home_place n) 16384) [] (shown n lt)) in
     record {
@@ -105,13 +105,13 @@ place_stays opened n unhomed s0 s2 room all outside =
     (place_cases unhomed n opened all)))
 
 -- each page is shown after it
-pub post_shown : (homes : ℕ) (note : List ℕ) (opened : ℕ) → opened < 8 → (s0 s2 : DiskState) (pages : List (List ℕ)) → CarriesPages homes note (open_slots opened) s0 pages
+pub post_shown : (homes : ℕ) (note : List ℕ) (opened : ℕ) → opened < 8 → (s0 s2 : DiskState) (pages : List (List ℕ)) → RepresentsPages homes note (open_slots opened) s0 pages
     → (unhomed : List Unhomed) → AllByRecursion (IsImage opened) unhomed → ShownAt homes unhomed s0.octet pages
     → (named : List Image) → ((i : ℕ) → ¬ InSlot opened i → s2.octet i ≡ s0.octet i) → ImagesStand s2.octet opened 0 named
     → ShownAt homes (unhomed_after opened 0 named unhomed) s2.octet (laid named pages)
-post_shown homes note opened room s0 s2 pages carries unhomed all shown named outside stand n lt =
+post_shown homes note opened room s0 s2 pages represents unhomed all shown named outside stand n lt =
     posted_shown s2.octet opened named 0 unhomed pages n stand
-    (omega (arith, lt, length_meant homes note (open_slots opened) s0.octet pages (now_means homes note (open_slots opened) s0 pages carries)))
+    (omega (arith, lt, length_meant homes note (open_slots opened) s0.octet pages (now_means homes note (open_slots opened) s0 pages represents)))
     (shown n lt ∙ ap (λ (p : List ℕ). Some p) (sym (place_stays opened n unhomed s0 s2 room all outside)))
 
 pages-append : (first then : List Image) → pages_of (first ++ then) ≡ pages_of first ++ pages_of then
@@ -135,17 +135,17 @@ whole_page at m s0 s1 is w = subst (λ k. WritesWithin at k s0 s1) is w
 
 -- a crash while a covered page is written home
 pub home_crash : (homes : ℕ) (note order : List ℕ) (n : ℕ) (s0 s1 : DiskState) (unhomed : List Unhomed) (pages : List (List ℕ)) → WritesWithin (home_place n) 16384 s0 s1
-    → CarriesPages homes note order s0 pages → CoveredIn order unhomed s0 → IsListed n (unhomed_numbers unhomed) → Leaves s0 s1 (λ c. Recovers homes note c pages)
-home_crash homes note order n s0 s1 unhomed pages w carries covered listed =
-    leaves_weaker s0 s1 (MayLeaveBut (home_place n) 16384 s0) (λ c. Recovers homes note c pages) (λ c may. (order, (torn_home homes note order n s0 pages carries (covered n listed) c may).0)) w.crash
+    → RepresentsPages homes note order s0 pages → CoveredIn order unhomed s0 → IsListed n (unhomed_numbers unhomed) → Leaves s0 s1 (λ c. Recovers homes note c pages)
+home_crash homes note order n s0 s1 unhomed pages w represents covered listed =
+    leaves_weaker s0 s1 (MayLeaveBut (home_place n) 16384 s0) (λ c. Recovers homes note c pages) (λ c may. (order, (torn_home homes note order n s0 pages represents (covered n listed) c may).0)) w.crash
 
 -- a checkpoint: a sync, and then the gates
 module _ (homes : ℕ) (note : List ℕ) (opened : ℕ) (s0 s1 s2 : DiskState) (unhomed : List Unhomed) (all : unhomed_numbers unhomed ≡ []) (pages : List (List ℕ))
-    (carries : CarriesPages homes note (open_slots opened) s0 pages) (shown : ShownAt homes unhomed s0.octet pages) where
+    (represents : RepresentsPages homes note (open_slots opened) s0 pages) (shown : ShownAt homes unhomed s0.octet pages) where
   pub checkpoint_stands : Syncs s0 s1 → StandsHome homes note (open_slots opened) s1 pages
-  checkpoint_stands synced = shown_stands homes note (open_slots opened) s0 s1 pages carries
+  checkpoint_stands synced = shown_stands homes note (open_slots opened) s0 s1 pages represents
       (subst (λ (l : List Unhomed). ShownAt homes l s0.octet pages) (none_unhomed unhomed all) shown) synced
 
   pub checkpoint_crash : Leaves s0 s1 (MayLeave s0) → Leaves s1 s2 (λ c. Recovers homes note c pages) → Leaves s0 s2 (λ c. Recovers homes note c pages)
   checkpoint_crash one two = leaves_then s0 s1 s2 (λ c. Recovers homes note c pages)
-      (leaves_weaker s0 s1 (MayLeave s0) (λ c. Recovers homes note c pages) (λ c may. (open_slots opened, carries c may)) one) two
+      (leaves_weaker s0 s1 (MayLeave s0) (λ c. Recovers homes note c pages) (λ c may. (open_slots opened, represents c may)) one) two

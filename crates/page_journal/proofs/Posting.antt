@@ -10,7 +10,7 @@ use Rattle.disk_models.proofs.api.Moments.{leaves_then, leaves_weaker, synced_le
 use Rattle.page_journal.specs.Layout.{Image, gate_place, header_place, image_place, number_from, IsOpen, transaction, images, pages_of}
 use Rattle.page_journal.specs.inner.Writing.{header_octets, Fills, OpensGate, ImagesStand}
 use Rattle.page_journal.specs.Bookkeeping.{AreNumbered, open_slots}
-use Rattle.page_journal.specs.Recovers.{laid, AreDistinct, AreBelow, IsWhole, RecoversBy, RecoversEither, CarriesPages}
+use Rattle.page_journal.specs.Recovers.{laid, AreDistinct, AreBelow, IsWhole, RecoversBy, RecoversEither, RepresentsPages}
 use Rattle.page_journal.proofs.Staging.{ReadsAs, staged, length-header_octets}
 use Rattle.page_journal.proofs.Frame.{InBody, InSlot, SameSlot, same_open, same_reading, closed_same, each_same, contents_each}
 use Rattle.page_journal.proofs.Opening.{opened}
@@ -28,7 +28,7 @@ pub record IsFree (slot next : ℕ) (order : List ℕ) (f : ℕ → ℕ) : Type 
   pub closed : ¬ IsOpen f slot
   pub lower : AllByRecursion (λ t. transaction f t < next) order
 
-module _ (homes : ℕ) (note order : List ℕ) (slot next : ℕ) (below : slot < 8) (s0 : DiskState) (pages : List (List ℕ)) (carries : CarriesPages homes note order s0 pages) (free : (c : ℕ → ℕ) → MayLeave s0 c → IsFree slot next order c) where
+module _ (homes : ℕ) (note order : List ℕ) (slot next : ℕ) (below : slot < 8) (s0 : DiskState) (pages : List (List ℕ)) (represents : RepresentsPages homes note order s0 pages) (free : (c : ℕ → ℕ) → MayLeave s0 c → IsFree slot next order c) where
   lower_same : (c d : ℕ → ℕ) (o : List ℕ) → ((t : ℕ) → IsWhole homes d t → SameSlot c d t) → AllByRecursion (IsWhole homes d) o → AllByRecursion (λ t. transaction d t < next) o → AllByRecursion (λ t. transaction c t < next) o
   lower_same c d [] same w lower = tt
   lower_same c d (t ∷ o) same w lower = (omega (arith, (same t w.0).number, lower.0), lower_same c d o same w.1 lower.1)
@@ -43,7 +43,7 @@ module _ (homes : ℕ) (note order : List ℕ) (slot next : ℕ) (below : slot <
       let agree : (i : ℕ) → ¬ InSlot slot i → c i ≡ d i = λ i out. outside i (λ w. out (omega (arith, w.0), omega (arith, w.1))) in
       let gate : c (gate_place slot) ≡ d (gate_place slot) = outside (gate_place slot) (λ w. absurd (omega (arith, w.0))) in
       let shut : ¬ IsOpen c slot = λ is. f.closed (sym gate ∙ is) in
-      let means : RecoversBy homes note order d pages = carries d was in (
+      let means : RecoversBy homes note order d pages = represents d was in (
         closed_same homes c d slot below agree f.closed note order pages shut means,
         record {
           closed = shut;
@@ -90,7 +90,7 @@ module _ (homes : ℕ) (note order : List ℕ) (slot next : ℕ) (below : slot <
         (cases_eq (c (gate_place slot)) 165)
 
     -- once it is open for good, each crash leaves the new pages
-    pub posted : (s2 : DiskState) → OpensGate slot s1 s2 → CarriesPages homes note (order ++ slot ∷ []) s2 (laid named pages)
+    pub posted : (s2 : DiskState) → OpensGate slot s1 s2 → RepresentsPages homes note (order ++ slot ∷ []) s2 (laid named pages)
     posted s2 opens c may =
         let same : (i : ℕ) → c i ≡ s2.octet i = λ i. may i (opens.settled i) in
         gate_open c (λ i out. same i ∙ opens.outside i out) (same (gate_place slot) ∙ opens.is_open)
@@ -122,28 +122,28 @@ pub number_same : (c d : ℕ → ℕ) (slot : ℕ) → ((i : ℕ) → Within (he
 number_same c d slot agree = ap number_from (octets_agree c d (header_place slot) 8 agree)
 
 -- A whole post into the first closed slot.
-module _ (homes : ℕ) (note : List ℕ) (opened : ℕ) (room : opened < 8) (s0 s1 : DiskState) (pages : List (List ℕ)) (carries : CarriesPages homes note (open_slots opened) s0 pages)
+module _ (homes : ℕ) (note : List ℕ) (opened : ℕ) (room : opened < 8) (s0 s1 : DiskState) (pages : List (List ℕ)) (represents : RepresentsPages homes note (open_slots opened) s0 pages)
     (numbered : (c : ℕ → ℕ) → MayLeave s0 c → AreNumbered opened c) (named : List Image) (header : List ℕ) where
   free : (c : ℕ → ℕ) → MayLeave s0 c → IsFree opened (opened + 1) (open_slots opened) c
-  free c may = first_free homes note opened c pages room (carries c may) (numbered c may)
+  free c may = first_free homes note opened c pages room (represents c may) (numbered c may)
 
   pub fill_crash : Leaves s0 s1 (MayLeaveBut (header_place opened) 524288 s0) → Leaves s0 s1 (RecoversEither homes note pages (laid named pages))
   fill_crash l = leaves_weaker s0 s1 (MayLeaveBut (header_place opened) 524288 s0) (RecoversEither homes note pages (laid named pages))
-      (λ d may. inl (open_slots opened, (torn_fill homes note (open_slots opened) opened (opened + 1) room s0 pages carries free d may).0)) l
+      (λ d may. inl (open_slots opened, (torn_fill homes note (open_slots opened) opened (opened + 1) room s0 pages represents free d may).0)) l
 
   module _ (s2 : DiskState) (some : ¬ (length named ≡ 0)) (few : length named ≤ 31) (small : 265 + homes < 2 ^ 50) (below : AreBelow homes (pages_of named)) (distinct : AreDistinct (pages_of named))
       (is_header : header ≡ header_octets (opened + 1) named) (fills : Fills opened header named s0 s1) where
     pub gate_crash : Leaves s0 s1 (MayLeaveBut (header_place opened) 524288 s0) → Leaves s1 s2 (MayLeaveBut (gate_place opened) 1 s1) → Leaves s0 s2 (RecoversEither homes note pages (laid named pages))
     gate_crash one two = leaves_then s0 s1 s2 (RecoversEither homes note pages (laid named pages)) (fill_crash one)
         (leaves_weaker s1 s2 (MayLeaveBut (gate_place opened) 1 s1) (RecoversEither homes note pages (laid named pages))
-        (torn_gate homes note (open_slots opened) opened (opened + 1) room s0 pages carries free named header s1 (omega (arith, some)) few (omega (arith, room)) (omega (arith, small)) below distinct is_header fills) two)
+        (torn_gate homes note (open_slots opened) opened (opened + 1) room s0 pages represents free named header s1 (omega (arith, some)) few (omega (arith, room)) (omega (arith, small)) below distinct is_header fills) two)
 
-    pub post_carries : OpensGate opened s1 s2 → CarriesPages homes note (open_slots (opened + 1)) s2 (laid named pages)
-    post_carries opens = subst (λ (o : List ℕ). CarriesPages homes note o s2 (laid named pages)) (open_push opened)
-        (posted homes note (open_slots opened) opened (opened + 1) room s0 pages carries free named header s1 (omega (arith, some)) few (omega (arith, room)) (omega (arith, small)) below distinct is_header fills s2 opens)
+    pub post_represents : OpensGate opened s1 s2 → RepresentsPages homes note (open_slots (opened + 1)) s2 (laid named pages)
+    post_represents opens = subst (λ (o : List ℕ). RepresentsPages homes note o s2 (laid named pages)) (open_push opened)
+        (posted homes note (open_slots opened) opened (opened + 1) room s0 pages represents free named header s1 (omega (arith, some)) few (omega (arith, room)) (omega (arith, small)) below distinct is_header fills s2 opens)
 
     post_reads : OpensGate opened s1 s2 → ReadsAs s2.octet opened (opened + 1) named
-    post_reads opens = posted_images homes note (open_slots opened) opened (opened + 1) room s0 pages carries free named header s1 (omega (arith, some)) few (omega (arith, room)) (omega (arith, small)) below distinct is_header fills s2 opens
+    post_reads opens = posted_images homes note (open_slots opened) opened (opened + 1) room s0 pages represents free named header s1 (omega (arith, some)) few (omega (arith, room)) (omega (arith, small)) below distinct is_header fills s2 opens
 
     -- the images are read where they were written
     pub post_stand : OpensGate opened s1 s2 → ImagesStand s2.octet opened 0 named
@@ -166,7 +166,7 @@ module _ (homes : ℕ) (note : List ℕ) (opened : ℕ) (room : opened < 8) (s0 
     -- the images of all open slots
     pub post_all_images : OpensGate opened s1 s2 → flat_map (images s2.octet) (open_slots (opened + 1)) ≡ flat_map (images s0.octet) (open_slots opened) ++ named
     post_all_images opens =
-        let r : RecoversBy homes note (open_slots opened) s0.octet pages = carries s0.octet (λ i settled. refl) in
+        let r : RecoversBy homes note (open_slots opened) s0.octet pages = represents s0.octet (λ i settled. refl) in
         let shut : ¬ IsOpen s0.octet opened = (free s0.octet (λ i settled. refl)).closed in
         let same : flat_map (images s2.octet) (open_slots opened) ≡ flat_map (images s0.octet) (open_slots opened) =
         contents_each homes s2.octet s0.octet (open_slots opened) (each_same homes s2.octet s0.octet (open_slots opened)

@@ -40,7 +40,7 @@ pub struct Journal<D: EraseDisk + Drop> {
 
 impl<D: EraseDisk + Drop> Journal<D> {
     ghost use Rattle.page_journal.specs.Journal.{Keeps, closed_slots, opened_slots, disk_of, home_pages, needs_recovery, note_of, unhomed_pages};
-    ghost use Rattle.page_journal.specs.Refusals.{CreateRefusal, PostRefusal, PostsAt, UseRefusal, IsOpening, IsWant, OpenRefusal};
+    ghost use Rattle.page_journal.specs.Refusals.{CreateRefusal, PostRefusal, PostsAt, UseRefusal, IsOpening, IsFaultOrMemory, OpenRefusal};
     ghost use Rattle.page_journal.specs.Calls.{IsDown, IsIdle, SameButDisk, SameJournal, TakesSlot};
     ghost use Rattle.page_journal.specs.Outcome.{disk_after, outcome};
 
@@ -120,7 +120,7 @@ impl<D: EraseDisk + Drop> Journal<D> {
         ensures kinds { IfErr (outcome result) IsOpening }
         ensures refused { D.honest disk → IfErr (outcome result) (OpenRefusal (D.octet_count disk) (D.model disk).octet) }
         ensures undamaged { D.honest disk → (homes : ℕ) (note : List ℕ) (pages : List (List ℕ)) → Recovers homes note (D.model disk).octet pages
-            → home_place homes ≤ D.octet_count disk → IfErr (outcome result) IsWant }
+            → home_place homes ≤ D.octet_count disk → IfErr (outcome result) IsFaultOrMemory }
         ensures untouched { D.honest disk → IfErr result (λ refused. refused.error ≢ OpenError.Fault → (D.model refused.disk).octet ≡ (D.model disk).octet) }
         ensures unsynced { D.honest disk → IfErr result (λ refused. refused.error ≢ OpenError.Fault → (i : ℕ) → (D.model refused.disk).unsynced i → (D.model disk).unsynced i) }
 

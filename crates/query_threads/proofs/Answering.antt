@@ -9,29 +9,29 @@ use Rattle.route_meaning.proofs.api.Ranges.{rows-one, events-one}
 use Rattle.interleaving_core.specs.declared.query.Query.{Query}
 use Rattle.interleaving_core.specs.declared.query.Query.TheVariants.{Rows, Events}
 use Rattle.interleaving_core.specs.declared.query.Answer.{Answer}
-use Rattle.interleaving_core.specs.declared.query.Answer.TheVariants.{Rows as RowsTold, Events as EventsTold}
+use Rattle.interleaving_core.specs.declared.query.Answer.TheVariants.{Rows as RowsReported, Events as EventsReported}
 use Rattle.interleaving_core.specs.Does.{last_moment}
 use Rattle.interleaving_core.specs.Headline.{IsAnswered}
 use Rattle.board.specs.Views.{View, BeginsView, Within, with_number, with_seen}
 use Rattle.query_threads.specs.Asking.{IsSameAnswer}
 
 answered_later : (query : Query) (answer : Answer) (h g : History) → IsHistory h → Begins h g → last_moment query < settled h → IsAnswered (applied h) query answer → IsAnswered (applied g) query answer
-answered_later (Rows q) (RowsTold a) h g right begins low is =
+answered_later (Rows q) (RowsReported a) h g right begins low is =
     let e = until-later h g q.moment right begins low ∙ sym (until-applied g q.moment (settled_stays h g q.moment right begins low)) in
     IsAnswer-until (applied h) (applied g) q a.rows.items a.more e is
-answered_later (Rows q) (EventsTold a) h g right begins low is = absurd is
-answered_later (Events q) (RowsTold a) h g right begins low is = absurd is
-answered_later (Events q) (EventsTold a) h g right begins low is =
+answered_later (Rows q) (EventsReported a) h g right begins low is = absurd is
+answered_later (Events q) (RowsReported a) h g right begins low is = absurd is
+answered_later (Events q) (EventsReported a) h g right begins low is =
     let e = until-later h g q.to right begins low ∙ sym (until-applied g q.to (settled_stays h g q.to right begins low)) in
     IsEventsAnswer-until (applied h) (applied g) q a.events.items a.more e is
 
 one_answer : (g : History) (query : Query) (a b : Answer) → IsAnswered (applied g) query a → IsAnswered (applied g) query b → IsSameAnswer a b
-one_answer g (Rows q) (RowsTold a) (RowsTold b) is other = rows-one (applied g) q a.rows.items b.rows.items a.more b.more is other
-one_answer g (Rows q) (RowsTold a) (EventsTold b) is other = absurd other
-one_answer g (Rows q) (EventsTold a) b is other = absurd is
-one_answer g (Events q) (RowsTold a) b is other = absurd is
-one_answer g (Events q) (EventsTold a) (RowsTold b) is other = absurd other
-one_answer g (Events q) (EventsTold a) (EventsTold b) is other = events-one (applied g) q a.events.items b.events.items a.more b.more is other
+one_answer g (Rows q) (RowsReported a) (RowsReported b) is other = rows-one (applied g) q a.rows.items b.rows.items a.more b.more is other
+one_answer g (Rows q) (RowsReported a) (EventsReported b) is other = absurd other
+one_answer g (Rows q) (EventsReported a) b is other = absurd is
+one_answer g (Events q) (RowsReported a) b is other = absurd is
+one_answer g (Events q) (EventsReported a) (RowsReported b) is other = absurd other
+one_answer g (Events q) (EventsReported a) (EventsReported b) is other = events-one (applied g) q a.events.items b.events.items a.more b.more is other
 
 pub answer_stays : (v w : View) (query : Query) (answer : Answer) → BeginsView v w → last_moment query < settled v.past.history → IsAnswered (applied v.past.history) query answer → IsAnswered (applied w.past.history) query answer
 answer_stays v w query answer begins low is = answered_later query answer v.past.history w.past.history begins.past.right begins.past.begins low is

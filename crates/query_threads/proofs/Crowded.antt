@@ -7,7 +7,7 @@ use Rattle.query_threads.specs.declared.refusal.AdmitError.{AdmitError}
 use Rattle.query_threads.specs.declared.refusal.AdmitError.TheVariants.{IntakeFull}
 use Rattle.query_threads.specs.Steps.{DoesAdmit, IsCrowded}
 
-pub still_crowded : (pages c : ℕ) (batch : List Admitted) (told : Result BatchReply AdmitError) (h g : History) → DoesAdmit c batch told h g → told ≡ Err IntakeFull → IsCrowded pages h c batch → IsCrowded pages g c batch
-still_crowded pages c batch told h g does is crowded =
+pub still_crowded : (pages c : ℕ) (batch : List Admitted) (reported : Result BatchReply AdmitError) (h g : History) → DoesAdmit c batch reported h g → reported ≡ Err IntakeFull → IsCrowded pages h c batch → IsCrowded pages g c batch
+still_crowded pages c batch reported h g does is crowded =
     let refused = subst (λ (t : Result BatchReply AdmitError). DoesAdmit c batch t h g) is does in
     subst (λ (k : History). IsCrowded pages k c batch) (sym refused.0) crowded

@@ -1,7 +1,7 @@
 pub mod Catching
 mod Crowded
 pub mod Seen
-pub mod Telling
+pub mod Reporting
 pub mod Answering
 pub mod Looking
 mod Everything

@@ -20,14 +20,14 @@ abbrev pub Since : View → View → Type 0
 Since old new = (new ≡ old) ⊎ BeginsView old new
 
 -- What a call returned, or did, holds of an archive as it was and as the call left it. Where a disk is named, the archive was on it and
--- carried a past that the view before begins; it carries that of the view after, which goes on from there.
-pub record ComesOf {A D : Type 0} (disk : Option D) (disk_of : A → D) (carries : A → Past → Type 0) (does : A → A → Type 0) (old new : View) : Type 0 where
+-- represented a past that the view before begins; it represents that of the view after, which goes on from there.
+pub record ComesOf {A D : Type 0} (disk : Option D) (disk_of : A → D) (represents : A → Past → Type 0) (does : A → A → Type 0) (old new : View) : Type 0 where
   pub was : A
   pub is : A
   pub done : does was is
   pub on : IsSome disk → disk ≡ Some (disk_of was)
-  pub before : IsSome disk → (p : Past) × carries was p × IsFrontOf p old × GoesOnAs p new.past
-  pub after : IsSome disk → carries is new.past
+  pub before : IsSome disk → (p : Past) × represents was p × IsFrontOf p old × GoesOnAs p new.past
+  pub after : IsSome disk → represents is new.past
 
 -- Reading blocks with a look failed, by the look as it was and as it is then. Where a disk is named, the look was one at it, and found
 -- exactly these blocks settled before.

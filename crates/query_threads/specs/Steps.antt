@@ -76,7 +76,7 @@ DoesApply (Err trouble) h g = BlamesNone trouble × (g ≡ h)
 
 -- the history stays as it is, and the call fails only for a trouble from outside
 abbrev pub DoesFlush : Result Flush Trouble → History → History → Type 0
-DoesFlush told h g = IfErr told IsOutside × (g ≡ h)
+DoesFlush reported h g = IfErr reported IsOutside × (g ≡ h)
 
 -- What is found begins with the history of before, and may go on with what a call that failed was about; where the archive isn't opened
 -- again nothing changes.

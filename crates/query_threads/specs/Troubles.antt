@@ -1,4 +1,4 @@
--- Which troubles come to calls on an archive that carries a past, and what holds of the one that a call returns.
+-- Which troubles come to calls on an archive that represents a past, and what holds of the one that a call returns.
 use Rattle.std.specs.Prelude.{⊤}
 use Rattle.query_threads.specs.declared.refusal.Trouble.{Trouble}
 use Rattle.query_threads.specs.declared.refusal.Trouble.TheVariants.{Fault, NeedsRecovery, DamagedPage, DamagedBlock, CounterFull, TooHigh, PagesFull, OnceFull, OutOfMemory}

@@ -17,9 +17,9 @@ TurnGives historical again answered Again = again
 TurnGives historical again answered (Historical errand) = historical errand
 
 -- a question is refused as above the watermark only where it is, and the watermark is returned; else for a trouble from outside
-abbrev pub IsTold : AskError → History → Query → Type 0
-IsTold (AboveWatermark mark) h query = (mark ≡ settled h) × (settled h ≤ last_moment query)
-IsTold (Troubled trouble) h query = IsOutside trouble
+abbrev pub IsReported : AskError → History → Query → Type 0
+IsReported (AboveWatermark mark) h query = (mark ≡ settled h) × (settled h ≤ last_moment query)
+IsReported (Troubled trouble) h query = IsOutside trouble
 
 -- the question was refused as above the watermark
 abbrev pub IsAbove : AskError → Type 0

@@ -8,7 +8,7 @@ ghost use Rattle.board.specs.Past.{Past, GoesOnAs, reach};
 ghost use Rattle.board.specs.Views.{View, Within, Reached, IsCaughtUp, IsFrontOf, BeginsView};
 ghost use Rattle.query_threads.specs.Steps.{IsCrowded, DoesAdmit, DoesMark, DoesApply, DoesFlush, DoesReopen};
 ghost use Rattle.query_threads.specs.Looks.{IsErrandOn};
-ghost use Rattle.query_threads.specs.Turns.{TurnGives, IsTold};
+ghost use Rattle.query_threads.specs.Turns.{TurnGives, IsReported};
 ghost use Rattle.query_threads.specs.Seeing.{Sees, ComesOf};
 ghost use Rattle.query_threads.specs.Troubles.{OnAdmitTrouble, OnMarkTrouble, OnAskTrouble};
 ghost use Rattle.query_threads.specs.inner.Unpromised.{ReachesAll};
@@ -36,7 +36,7 @@ impl<A: Store, N: Named + OnDisk<A::Disk>> Model for Desk<A, N> {
 
     ghost view = { λ d. d.writer };
 
-    ghost invariant = { λ d. (N.table.words ≡ length d.writer.past.history.intakes + 1) × (IsSome N.disk → A.carries d.archive d.writer.past × IsCaughtUp d.writer × (N.disk ≡ Some (A.disk_of d.archive)) × (N.pages ≡ A.pages d.archive)) × (IsNone N.disk → ReachesAll d.writer.past.history) };
+    ghost invariant = { λ d. (N.table.words ≡ length d.writer.past.history.intakes + 1) × (IsSome N.disk → A.represents d.archive d.writer.past × IsCaughtUp d.writer × (N.disk ≡ Some (A.disk_of d.archive)) × (N.pages ≡ A.pages d.archive)) × (IsNone N.disk → ReachesAll d.writer.past.history) };
 }
 
 // Raises each word to what the archive returns, which the past of the writing seat reaches.
@@ -45,7 +45,7 @@ pub(crate) fn catch_up<A: Store, N: Named + OnDisk<A::Disk>>(
     writer: &mut Writer<N>,
     archive: &A,
 )
-    requires carried { IsSome N.disk → A.carries archive.now writer.old.past }
+    requires represented { IsSome N.disk → A.represents archive.now writer.old.past }
     requires all { IsNone N.disk → ReachesAll writer.old.past.history }
     requires words { N.table.words ≡ length writer.old.past.history.intakes + 1 }
     ensures past { writer.new.past ≡ writer.old.past }
@@ -58,7 +58,7 @@ pub(crate) fn catch_up<A: Store, N: Named + OnDisk<A::Disk>>(
     }
 }
 
-// The writing seat goes on to a past that fits, which the archive carries, and all words are raised to it. What it is
+// The writing seat goes on to a past that fits, which the archive represents, and all words are raised to it. What it is
 // about is for the caller's choice of `X`. Where nothing is promised of the archive, it stays at one that reaches all.
 fn follow<X: Target, A: Store, N: Named + OnDisk<A::Disk>, T>(
     board: &Board<N>,
@@ -66,12 +66,12 @@ fn follow<X: Target, A: Store, N: Named + OnDisk<A::Disk>, T>(
     archive: &A,
     _about: &T,
 )
-    requires past { IsSome N.disk → (q : Past) × GoesOnAs writer.old.past q × A.carries archive.now q × X.fits q }
+    requires past { IsSome N.disk → (q : Past) × GoesOnAs writer.old.past q × A.represents archive.now q × X.fits q }
     requires all { IsNone N.disk → ReachesAll writer.old.past.history }
     requires words { N.table.words ≡ length writer.old.past.history.intakes + 1 }
     ensures fits { IsSome N.disk → X.fits writer.new.past }
     ensures goes_on { GoesOnAs writer.old.past writer.new.past }
-    ensures carried { IsSome N.disk → A.carries archive.now writer.new.past }
+    ensures represented { IsSome N.disk → A.represents archive.now writer.new.past }
     ensures all { IsNone N.disk → ReachesAll writer.new.past.history }
     ensures words { N.table.words ≡ length writer.new.past.history.intakes + 1 }
     ensures caught_up { IsSome N.disk → IsCaughtUp writer.new }
@@ -85,7 +85,7 @@ impl<A: Store, N: Named + OnDisk<A::Disk>> Desk<A, N> {
     /// An archive with its writing seat, which knows its past and has raised all words.
     pub(crate) fn new(archive: A, writer: Writer<N>) -> Desk<A, N>
         requires words { N.table.words ≡ length writer.past.history.intakes + 1 }
-        requires carried { IsSome N.disk → A.carries archive writer.past × IsCaughtUp writer × (N.disk ≡ Some (A.disk_of archive)) × (N.pages ≡ A.pages archive) }
+        requires represented { IsSome N.disk → A.represents archive writer.past × IsCaughtUp writer × (N.disk ≡ Some (A.disk_of archive)) × (N.pages ≡ A.pages archive) }
         requires all { IsNone N.disk → ReachesAll writer.past.history }
         ensures { result ≡ writer }
     {
@@ -114,18 +114,18 @@ impl<A: Store, N: Named + OnDisk<A::Disk>> Desk<A, N> {
         ensures begins { BeginsView pass.old pass.new }
         ensures sees { IsSome N.disk → Sees (DoesAdmit collector batch.now result) pass.old pass.new }
         ensures full { IsSome N.disk → result ≡ Err AdmitError.IntakeFull → IsCrowded N.pages pass.new.past.history collector batch.now }
-        ensures trouble { IfErr result (OnAdmitTrouble (λ t. ComesOf N.disk A.disk_of A.carries (λ a b. A.tells a t b) pass.old pass.new)) }
+        ensures trouble { IfErr result (OnAdmitTrouble (λ t. ComesOf N.disk A.disk_of A.represents (λ a b. A.reports a t b) pass.old pass.new)) }
     {
         self.greet(board, pass);
-        let told = self.archive.admit(collector, batch);
+        let reported = self.archive.admit(collector, batch);
         follow::<Brand, A, N, (u8, &[Admission], &Result<BatchReply, AdmitError>)>(
             board,
             &mut self.writer,
             &self.archive,
-            &(collector, batch, &told),
+            &(collector, batch, &reported),
         );
         self.greet(board, pass);
-        told
+        reported
     }
 
     /// Raises the mark of a collector. The pass then knows the history after it.
@@ -138,50 +138,55 @@ impl<A: Store, N: Named + OnDisk<A::Disk>> Desk<A, N> {
     ) -> Result<(), MarkError>
         ensures begins { BeginsView pass.old pass.new }
         ensures sees { IsSome N.disk → Sees (DoesMark collector mark result) pass.old pass.new }
-        ensures trouble { IfErr result (OnMarkTrouble (λ t. ComesOf N.disk A.disk_of A.carries (λ a b. A.tells a t b) pass.old pass.new)) }
+        ensures trouble { IfErr result (OnMarkTrouble (λ t. ComesOf N.disk A.disk_of A.represents (λ a b. A.reports a t b) pass.old pass.new)) }
     {
         self.greet(board, pass);
-        let told = self.archive.mark(collector, mark);
+        let reported = self.archive.mark(collector, mark);
         follow::<Brand, A, N, (u8, Mark, &Result<(), MarkError>)>(
             board,
             &mut self.writer,
             &self.archive,
-            &(collector, mark, &told),
+            &(collector, mark, &reported),
         );
         self.greet(board, pass);
-        told
+        reported
     }
 
     /// Applies the next change, and perhaps some more. The pass then knows the history after it.
     pub fn apply(&mut self, board: &Board<N>, pass: &mut Pass<N>) -> Result<Step, Trouble>
         ensures begins { BeginsView pass.old pass.new }
         ensures sees { IsSome N.disk → Sees (DoesApply result) pass.old pass.new }
-        ensures trouble { IfErr result (λ t. ComesOf N.disk A.disk_of A.carries (λ a b. A.tells a t b) pass.old pass.new) }
+        ensures trouble { IfErr result (λ t. ComesOf N.disk A.disk_of A.represents (λ a b. A.reports a t b) pass.old pass.new) }
     {
         self.greet(board, pass);
-        let told = self.archive.apply_step();
-        follow::<Brand, A, N, Result<Step, Trouble>>(board, &mut self.writer, &self.archive, &told);
+        let reported = self.archive.apply_step();
+        follow::<Brand, A, N, Result<Step, Trouble>>(
+            board,
+            &mut self.writer,
+            &self.archive,
+            &reported,
+        );
         self.greet(board, pass);
-        told
+        reported
     }
 
     /// Writes a page home that waits. The pass then knows the history.
     pub fn flush(&mut self, board: &Board<N>, pass: &mut Pass<N>) -> Result<Flush, Trouble>
         ensures begins { BeginsView pass.old pass.new }
         ensures sees { IsSome N.disk → Sees (DoesFlush result) pass.old pass.new }
-        ensures flushes { IfOk result (λ step. ComesOf N.disk A.disk_of A.carries (λ a b. A.flushes a step b) pass.old pass.new) }
-        ensures trouble { IfErr result (λ t. ComesOf N.disk A.disk_of A.carries (λ a b. A.tells a t b) pass.old pass.new) }
+        ensures flushes { IfOk result (λ step. ComesOf N.disk A.disk_of A.represents (λ a b. A.flushes a step b) pass.old pass.new) }
+        ensures trouble { IfErr result (λ t. ComesOf N.disk A.disk_of A.represents (λ a b. A.reports a t b) pass.old pass.new) }
     {
         self.greet(board, pass);
-        let told = self.archive.flush_step();
+        let reported = self.archive.flush_step();
         follow::<Brand, A, N, Result<Flush, Trouble>>(
             board,
             &mut self.writer,
             &self.archive,
-            &told,
+            &reported,
         );
         self.greet(board, pass);
-        told
+        reported
     }
 
     /// Opens the archive again. The pass then knows the history that was found.
@@ -193,13 +198,18 @@ impl<A: Store, N: Named + OnDisk<A::Disk>> Desk<A, N> {
     ) -> Result<(), Trouble>
         ensures begins { BeginsView pass.old pass.new }
         ensures sees { IsSome N.disk → Sees (DoesReopen result) pass.old pass.new }
-        ensures opens { ComesOf N.disk A.disk_of A.carries (λ a b. A.reopens a result b) pass.old pass.new }
+        ensures opens { ComesOf N.disk A.disk_of A.represents (λ a b. A.reopens a result b) pass.old pass.new }
     {
         self.greet(board, pass);
-        let told = self.archive.reopen(alloc);
-        follow::<Brand, A, N, Result<(), Trouble>>(board, &mut self.writer, &self.archive, &told);
+        let reported = self.archive.reopen(alloc);
+        follow::<Brand, A, N, Result<(), Trouble>>(
+            board,
+            &mut self.writer,
+            &self.archive,
+            &reported,
+        );
         self.greet(board, pass);
-        told
+        reported
     }
 
     /// Which call on a device failed, and why, in words for a person; none where the archive has none.
@@ -221,9 +231,9 @@ impl<A: Store, N: Named + OnDisk<A::Disk>> Desk<A, N> {
         ensures caught_up { IsSome N.disk → IsCaughtUp pass.new }
         ensures right { IsSome N.disk → IsHistory pass.new.past.history }
         ensures settled { IsSome N.disk → OnOk result (last_moment (A.asks cursor.old) < settled pass.new.past.history) }
-        ensures gives { IsSome N.disk → A.gathered cursor.old pass.new.past.history → IfOk result (λ turn. TurnGives (λ e. IfSome N.disk (IsErrandOn (λ errand. A.lies errand cursor.new) A.honest A.block_count A.known pass.new.past e.0 e.1)) (A.gathered cursor.new pass.new.past.history) (λ answer. IsAnswered (applied pass.new.past.history) (A.asks cursor.old) answer) turn) }
-        ensures told { IsSome N.disk → IfErr result (λ e. IsTold e pass.new.past.history (A.asks cursor.old)) }
-        ensures trouble { IfErr result (OnAskTrouble (λ t. ComesOf N.disk A.disk_of A.carries (λ a b. A.tells a t b) pass.old pass.new)) }
+        ensures gives { IsSome N.disk → A.gathered cursor.old pass.new.past.history → IfOk result (λ turn. TurnGives (λ e. IfSome N.disk (IsErrandOn (λ errand. A.located errand cursor.new) A.honest A.block_count A.known pass.new.past e.0 e.1)) (A.gathered cursor.new pass.new.past.history) (λ answer. IsAnswered (applied pass.new.past.history) (A.asks cursor.old) answer) turn) }
+        ensures reported { IsSome N.disk → IfErr result (λ e. IsReported e pass.new.past.history (A.asks cursor.old)) }
+        ensures trouble { IfErr result (OnAskTrouble (λ t. ComesOf N.disk A.disk_of A.represents (λ a b. A.reports a t b) pass.old pass.new)) }
     {
         self.greet(board, pass);
         match self.archive.descend(cursor)? {
@@ -249,7 +259,7 @@ impl<A: Store, N: Named + OnDisk<A::Disk>> Desk<A, N> {
 
     /// The archive, once the threads are done. What each of these passes knew begins its past.
     pub fn close(mut self, board: &Board<N>, mut passes: Vec<Pass<N>>) -> A
-        ensures { IsSome N.disk → (p : Past) × A.carries result p × AllByRecursion (IsFrontOf p) passes.items }
+        ensures { IsSome N.disk → (p : Past) × A.represents result p × AllByRecursion (IsFrontOf p) passes.items }
     {
         while let Some(mut pass) = passes.pop() {
             self.greet(board, &mut pass);

@@ -7,7 +7,7 @@
 //!
 //!     ask   lock: a turn, and a look at the settled blocks     no lock: the blocks of the errand are read     lock: the next turn  ..
 //!
-//! What threads need of an archive is a trait ([`Store`]), so that their proofs wait for no archive. What it carries
+//! What threads need of an archive is a trait ([`Store`]), so that their proofs wait for no archive. What it represents
 //! is a relation with a past (a history, and the settled blocks), not its value. A call is a relation between the
 //! history before it and after it, with its answer; a trouble is one that a call on the archive returned, by a
 //! relation that each archive states itself, so threads can't make one up.

@@ -1,4 +1,4 @@
-//! An archive that threads share, behind one lock, with its board beside it.
+//! An archive that threads share, under one lock, with its board beside it.
 ghost use Rattle.std.specs.Prelude.{◌≡◌, ◌⊎◌, ◌<◌, ◌≤◌, ℕ, suc, List, [], length, Some, OnOk, IfOk, IfErr, IfSome, IsSome, Err, ⊤};
 ghost use Rattle.std.specs.List.{AllByRecursion};
 ghost use Rattle.route_meaning.specs.History.{IsHistory, applied, settled};
@@ -9,7 +9,7 @@ ghost use Rattle.board.specs.Views.{View, Reached, IsCaughtUp, IsFrontOf, Begins
 ghost use Rattle.board.specs.Opened.{name_of};
 ghost use Rattle.query_threads.specs.Steps.{IsCrowded, DoesAdmit, DoesMark, DoesApply, DoesFlush, DoesReopen};
 ghost use Rattle.query_threads.specs.Looks.{IsErrandOn};
-ghost use Rattle.query_threads.specs.Turns.{TurnGives, IsTold, IsAbove};
+ghost use Rattle.query_threads.specs.Turns.{TurnGives, IsReported, IsAbove};
 ghost use Rattle.query_threads.specs.Seeing.{Sees, ComesOf, IsMissed};
 ghost use Rattle.query_threads.specs.Troubles.{IsOutside, OnAdmitTrouble, OnMarkTrouble, OnAskTrouble};
 
@@ -91,11 +91,11 @@ impl<A: Store, N: Named + OnDisk<A::Disk>> Reader<A, N> {
         cursor: &mut A::Cursor,
     ) -> Result<(), Trouble>
         requires fits { A.fits errand cursor.old }
-        ensures kept { IsSome N.disk → (p : Past) → IfSome N.disk (IsErrandOn (λ e. A.lies e cursor.old) A.honest A.block_count A.known p errand seen.old) → Among self.old p.blocks → Among self.new p.blocks }
-        ensures sound { IsSome N.disk → (p : Past) → IfSome N.disk (IsErrandOn (λ e. A.lies e cursor.old) A.honest A.block_count A.known p errand seen.old) → Among self.old p.blocks → IfErr result IsOutside }
+        ensures kept { IsSome N.disk → (p : Past) → IfSome N.disk (IsErrandOn (λ e. A.located e cursor.old) A.honest A.block_count A.known p errand seen.old) → Among self.old p.blocks → Among self.new p.blocks }
+        ensures sound { IsSome N.disk → (p : Past) → IfSome N.disk (IsErrandOn (λ e. A.located e cursor.old) A.honest A.block_count A.known p errand seen.old) → Among self.old p.blocks → IfErr result IsOutside }
         ensures asks { A.asks cursor.new ≡ A.asks cursor.old }
         ensures trouble { IfErr result (λ t. A.misses seen.old t seen.new) }
-        ensures gathered { IsSome N.disk → OnOk result ((p : Past) → IfSome N.disk (IsErrandOn (λ e. A.lies e cursor.old) A.honest A.block_count A.known p errand seen.old) → Among self.old p.blocks → A.gathered cursor.new p.history) }
+        ensures gathered { IsSome N.disk → OnOk result ((p : Past) → IfSome N.disk (IsErrandOn (λ e. A.located e cursor.old) A.honest A.block_count A.known p errand seen.old) → Among self.old p.blocks → A.gathered cursor.new p.history) }
     {
         A::finish(&mut self.blocks, seen, self.alloc, errand, cursor)
     }
@@ -109,8 +109,8 @@ impl<A: Store, N: Named + OnDisk<A::Disk>, G: Gate + Drop> Shared<A, N, G> {
         requires some { 1 ≤ opened.collectors }
         requires disk { IsSome N.disk → N.disk ≡ Some (A.disk_of archive) }
         requires pages { IsSome N.disk → N.pages ≡ A.pages archive }
-        requires carried { IsSome N.disk → (p : Past) × A.carries archive p × (length p.history.intakes ≡ opened.collectors) }
-        ensures carried { IsSome N.disk → A.carries archive result.1.past }
+        requires represented { IsSome N.disk → (p : Past) × A.represents archive p × (length p.history.intakes ≡ opened.collectors) }
+        ensures represented { IsSome N.disk → A.represents archive result.1.past }
         ensures caught_up { IsSome N.disk → IsCaughtUp result.1 }
         ensures collectors { result.0.collectors ≡ opened.collectors }
         ensures ring { result.0.ring ≡ A.pages archive }
@@ -182,7 +182,7 @@ impl<A: Store, N: Named + OnDisk<A::Disk>, G: Gate + Drop> Shared<A, N, G> {
         ensures begins { BeginsView pass.old pass.new }
         ensures sees { IsSome N.disk → Sees (DoesAdmit collector batch.now result) pass.old pass.new }
         ensures full { IsSome N.disk → result ≡ Err AdmitError.IntakeFull → IsCrowded self.now.ring pass.new.past.history collector batch.now }
-        ensures trouble { IfErr result (OnAdmitTrouble (λ t. ComesOf N.disk A.disk_of A.carries (λ a b. A.tells a t b) pass.old pass.new)) }
+        ensures trouble { IfErr result (OnAdmitTrouble (λ t. ComesOf N.disk A.disk_of A.represents (λ a b. A.reports a t b) pass.old pass.new)) }
     {
         self.desk
             .lock(rt)
@@ -199,7 +199,7 @@ impl<A: Store, N: Named + OnDisk<A::Disk>, G: Gate + Drop> Shared<A, N, G> {
     ) -> Result<(), MarkError>
         ensures begins { BeginsView pass.old pass.new }
         ensures sees { IsSome N.disk → Sees (DoesMark collector mark result) pass.old pass.new }
-        ensures trouble { IfErr result (OnMarkTrouble (λ t. ComesOf N.disk A.disk_of A.carries (λ a b. A.tells a t b) pass.old pass.new)) }
+        ensures trouble { IfErr result (OnMarkTrouble (λ t. ComesOf N.disk A.disk_of A.represents (λ a b. A.reports a t b) pass.old pass.new)) }
     {
         self.desk.lock(rt).mark(&self.board, pass, collector, mark)
     }
@@ -208,7 +208,7 @@ impl<A: Store, N: Named + OnDisk<A::Disk>, G: Gate + Drop> Shared<A, N, G> {
     pub fn apply(&self, rt: &impl Wait, pass: &mut Pass<N>) -> Result<Step, Trouble>
         ensures begins { BeginsView pass.old pass.new }
         ensures sees { IsSome N.disk → Sees (DoesApply result) pass.old pass.new }
-        ensures trouble { IfErr result (λ t. ComesOf N.disk A.disk_of A.carries (λ a b. A.tells a t b) pass.old pass.new) }
+        ensures trouble { IfErr result (λ t. ComesOf N.disk A.disk_of A.represents (λ a b. A.reports a t b) pass.old pass.new) }
     {
         self.desk.lock(rt).apply(&self.board, pass)
     }
@@ -217,8 +217,8 @@ impl<A: Store, N: Named + OnDisk<A::Disk>, G: Gate + Drop> Shared<A, N, G> {
     pub fn flush(&self, rt: &impl Wait, pass: &mut Pass<N>) -> Result<Flush, Trouble>
         ensures begins { BeginsView pass.old pass.new }
         ensures sees { IsSome N.disk → Sees (DoesFlush result) pass.old pass.new }
-        ensures flushes { IfOk result (λ step. ComesOf N.disk A.disk_of A.carries (λ a b. A.flushes a step b) pass.old pass.new) }
-        ensures trouble { IfErr result (λ t. ComesOf N.disk A.disk_of A.carries (λ a b. A.tells a t b) pass.old pass.new) }
+        ensures flushes { IfOk result (λ step. ComesOf N.disk A.disk_of A.represents (λ a b. A.flushes a step b) pass.old pass.new) }
+        ensures trouble { IfErr result (λ t. ComesOf N.disk A.disk_of A.represents (λ a b. A.reports a t b) pass.old pass.new) }
     {
         self.desk.lock(rt).flush(&self.board, pass)
     }
@@ -227,7 +227,7 @@ impl<A: Store, N: Named + OnDisk<A::Disk>, G: Gate + Drop> Shared<A, N, G> {
     pub fn reopen(&self, rt: &impl Wait, pass: &mut Pass<N>, alloc: Global) -> Result<(), Trouble>
         ensures begins { BeginsView pass.old pass.new }
         ensures sees { IsSome N.disk → Sees (DoesReopen result) pass.old pass.new }
-        ensures opens { ComesOf N.disk A.disk_of A.carries (λ a b. A.reopens a result b) pass.old pass.new }
+        ensures opens { ComesOf N.disk A.disk_of A.represents (λ a b. A.reopens a result b) pass.old pass.new }
     {
         self.desk.lock(rt).reopen(&self.board, pass, alloc)
     }
@@ -238,8 +238,8 @@ impl<A: Store, N: Named + OnDisk<A::Disk>, G: Gate + Drop> Shared<A, N, G> {
     }
 
     // Reports to the gate once that a request has descended.
-    fn descended(&self, untold: &mut Option<u64>) {
-        if let Some(request) = untold.take() {
+    fn descended(&self, unreported: &mut Option<u64>) {
+        if let Some(request) = unreported.take() {
             self.gate.descended(request);
         }
     }
@@ -251,7 +251,7 @@ impl<A: Store, N: Named + OnDisk<A::Disk>, G: Gate + Drop> Shared<A, N, G> {
         pass: &mut Pass<N>,
         cursor: &mut A::Cursor,
         query: &Query,
-        untold: &mut Option<u64>,
+        unreported: &mut Option<u64>,
     ) -> Result<Turn<(A::Errand, A::Seen)>, AskError>
         requires asks { A.asks cursor.old ≡ query.now }
         ensures begins { BeginsView pass.old pass.new }
@@ -259,14 +259,14 @@ impl<A: Store, N: Named + OnDisk<A::Disk>, G: Gate + Drop> Shared<A, N, G> {
         ensures fits { IfOk result (λ turn. TurnGives (λ e. A.fits e.0 cursor.new) ⊤ (λ _. ⊤) turn) }
         ensures right { IsSome N.disk → IsHistory pass.new.past.history }
         ensures settled { IsSome N.disk → OnOk result (last_moment query.now < settled pass.new.past.history) }
-        ensures gives { IsSome N.disk → A.gathered cursor.old pass.new.past.history → IfOk result (λ turn. TurnGives (λ e. IfSome N.disk (IsErrandOn (λ errand. A.lies errand cursor.new) A.honest A.block_count A.known pass.new.past e.0 e.1)) (A.gathered cursor.new pass.new.past.history) (λ answer. IsAnswered (applied pass.new.past.history) query.now answer) turn) }
-        ensures told { IsSome N.disk → IfErr result (λ e. IsTold e pass.new.past.history query.now) }
-        ensures trouble { IfErr result (OnAskTrouble (λ t. ComesOf N.disk A.disk_of A.carries (λ a b. A.tells a t b) pass.old pass.new)) }
+        ensures gives { IsSome N.disk → A.gathered cursor.old pass.new.past.history → IfOk result (λ turn. TurnGives (λ e. IfSome N.disk (IsErrandOn (λ errand. A.located errand cursor.new) A.honest A.block_count A.known pass.new.past e.0 e.1)) (A.gathered cursor.new pass.new.past.history) (λ answer. IsAnswered (applied pass.new.past.history) query.now answer) turn) }
+        ensures reported { IsSome N.disk → IfErr result (λ e. IsReported e pass.new.past.history query.now) }
+        ensures trouble { IfErr result (OnAskTrouble (λ t. ComesOf N.disk A.disk_of A.represents (λ a b. A.reports a t b) pass.old pass.new)) }
         ensures not_refused { IsSome N.disk → IfErr result (λ e. IsAbove e → watermark_of pass.old ≤ last_moment query.now) }
     {
-        let told = self.desk.lock(rt).turn(&self.board, pass, cursor);
-        self.descended(untold);
-        told
+        let reported = self.desk.lock(rt).turn(&self.board, pass, cursor);
+        self.descended(unreported);
+        reported
     }
 
     // The turns of a question, to their end.
@@ -283,14 +283,14 @@ impl<A: Store, N: Named + OnDisk<A::Disk>, G: Gate + Drop> Shared<A, N, G> {
         ensures reader { IsSome N.disk → Among reader.new pass.new.past.blocks }
         ensures answer { IsSome N.disk → IfOk result (λ answer. IsAnswered (applied pass.new.past.history) query answer) }
         ensures settled { IsSome N.disk → OnOk result (last_moment query < settled pass.new.past.history) }
-        ensures told { IsSome N.disk → IfErr result (λ e. IsTold e pass.new.past.history query) }
-        ensures trouble { IfErr result (OnAskTrouble (λ t. ComesOf N.disk A.disk_of A.carries (λ a b. A.tells a t b) pass.old pass.new ⊎ IsMissed N.disk A.honest A.block_count A.known pass.new.past.blocks (λ a b. A.misses a t b))) }
+        ensures reported { IsSome N.disk → IfErr result (λ e. IsReported e pass.new.past.history query) }
+        ensures trouble { IfErr result (OnAskTrouble (λ t. ComesOf N.disk A.disk_of A.represents (λ a b. A.reports a t b) pass.old pass.new ⊎ IsMissed N.disk A.honest A.block_count A.known pass.new.past.blocks (λ a b. A.misses a t b))) }
         ensures not_refused { IsSome N.disk → IfErr result (λ e. IsAbove e → watermark_of pass.old ≤ last_moment query) }
     {
         let mut cursor = A::start(reader.alloc, &query);
-        let mut untold = Some(request);
+        let mut unreported = Some(request);
         for _ in rt.forever() {
-            let turn = self.turn(rt, pass, &mut cursor, &query, &mut untold)?;
+            let turn = self.turn(rt, pass, &mut cursor, &query, &mut unreported)?;
             match turn {
                 Turn::Done(answer) => {
                     return Ok(answer);
@@ -320,18 +320,18 @@ impl<A: Store, N: Named + OnDisk<A::Disk>, G: Gate + Drop> Shared<A, N, G> {
         ensures reader { IsSome N.disk → Among reader.new pass.new.past.blocks }
         ensures answer { IsSome N.disk → IfOk result (λ answer. IsAnswered (applied pass.new.past.history) query answer) }
         ensures settled { IsSome N.disk → OnOk result (last_moment query < settled pass.new.past.history) }
-        ensures told { IsSome N.disk → IfErr result (λ e. IsTold e pass.new.past.history query) }
-        ensures trouble { IfErr result (OnAskTrouble (λ t. ComesOf N.disk A.disk_of A.carries (λ a b. A.tells a t b) pass.old pass.new ⊎ IsMissed N.disk A.honest A.block_count A.known pass.new.past.blocks (λ a b. A.misses a t b))) }
+        ensures reported { IsSome N.disk → IfErr result (λ e. IsReported e pass.new.past.history query) }
+        ensures trouble { IfErr result (OnAskTrouble (λ t. ComesOf N.disk A.disk_of A.represents (λ a b. A.reports a t b) pass.old pass.new ⊎ IsMissed N.disk A.honest A.block_count A.known pass.new.past.blocks (λ a b. A.misses a t b))) }
         ensures not_refused { IsSome N.disk → IfErr result (λ e. IsAbove e → watermark_of pass.old ≤ last_moment query) }
     {
-        let told = self.answer_of(rt, pass, reader, request, query);
+        let reported = self.answer_of(rt, pass, reader, request, query);
         self.gate.answered(request);
-        told
+        reported
     }
 
     /// The archive, once the threads are done. What each of these passes knew begins its past.
     pub fn close(self, passes: Vec<Pass<N>>) -> A
-        ensures { IsSome N.disk → (p : Past) × A.carries result p × AllByRecursion (IsFrontOf p) passes.items }
+        ensures { IsSome N.disk → (p : Past) × A.represents result p × AllByRecursion (IsFrontOf p) passes.items }
     {
         let Shared {
             desk,

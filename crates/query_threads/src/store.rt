@@ -10,7 +10,7 @@ ghost use Rattle.board.specs.Past.{Past, GoesOnAs, count_of};
 ghost use Rattle.query_threads.specs.declared.refusal.Trouble.{Trouble};
 ghost use Rattle.query_threads.specs.declared.refusal.Flush.{Flush};
 ghost use Rattle.query_threads.specs.Steps.{IsCrowded, DoesAdmit, DoesMark, DoesApply, DoesFlush, DoesReopen};
-ghost use Rattle.query_threads.specs.Turns.{TurnGives, IsTold};
+ghost use Rattle.query_threads.specs.Turns.{TurnGives, IsReported};
 ghost use Rattle.query_threads.specs.Looks.{AreSettled, AreTheSettled, IsErrandOn};
 ghost use Rattle.query_threads.specs.Troubles.{IsOutside, OnAdmitTrouble, OnMarkTrouble, OnAskTrouble};
 
@@ -21,7 +21,7 @@ use route_model::{Admission, Mark};
 use std::alloc::Global;
 use std::marker::{Brand, PhantomData};
 
-/// What is promised of a shared archive: that it carries a past, with its blocks on this disk, and that each of its rings has `pages`
+/// What is promised of a shared archive: that it represents a past, with its blocks on this disk, and that each of its rings has `pages`
 /// pages. With no disk nothing is promised of it, as where its devices aren't known to follow their models. Each call of a program picks
 /// it.
 pub trait OnDisk<D> {
@@ -76,7 +76,7 @@ pub trait Store {
 
     /// What is stored stands for this past; after a failed write or sync, what is found when it is opened again stands
     /// for one that this begins.
-    ghost carries: { Self → Past → Type 0 };
+    ghost represents: { Self → Past → Type 0 };
 
     /// The pages of each ring.
     ghost pages: { Self → ℕ };
@@ -109,10 +109,10 @@ pub trait Store {
     ghost fits: { Self.Errand → Self.Cursor → Type 0 };
 
     /// With the blocks of this past, on this disk, finishing the errand gathers what comes next.
-    ghost lies: { Self.Errand → Self.Cursor → Self.Disk → Past → Type 0 };
+    ghost located: { Self.Errand → Self.Cursor → Self.Disk → Past → Type 0 };
 
     /// A call returned this trouble: the archive before the call and after it.
-    ghost tells: { Self → Trouble → Self → Type 0 };
+    ghost reports: { Self → Trouble → Self → Type 0 };
 
     /// An opening returned this: the archive before the call and after it.
     ghost reopens: { Self → Result (Unit {0}) Trouble → Self → Type 0 };
@@ -125,7 +125,7 @@ pub trait Store {
 
     /// How many collectors there are.
     fn collectors(&self) -> u8
-        ensures collectors { (p : Past) → carries self.now p → result ≡ length p.history.intakes };
+        ensures collectors { (p : Past) → represents self.now p → result ≡ length p.history.intakes };
 
     /// How many pages each ring has.
     fn ring(&self) -> u16
@@ -133,46 +133,46 @@ pub trait Store {
 
     /// The settled watermark.
     fn settled(&self) -> Mark
-        ensures settled { (p : Past) → carries self.now p → result ≡ settled p.history };
+        ensures settled { (p : Past) → represents self.now p → result ≡ settled p.history };
 
     /// How many admissions of a collector there are, 0 of one that there isn't.
     fn admitted(&self, collector: u8) -> u64
-        ensures count { (p : Past) → carries self.now p → result ≡ count_of p.history collector };
+        ensures count { (p : Past) → represents self.now p → result ≡ count_of p.history collector };
 
     /// Admits a batch.
     fn admit(&mut self, collector: u8, batch: &[Admission]) -> Result<BatchReply, AdmitError>
-        ensures done { (p : Past) → carries self.old p → (q : Past) × GoesOnAs p q × carries self.new q × DoesAdmit collector batch.now result p.history q.history }
-        ensures full { (p : Past) → carries self.old p → result ≡ Err AdmitError.IntakeFull → IsCrowded (pages self.old) p.history collector batch.now }
-        ensures trouble { IfErr result (OnAdmitTrouble (λ t. tells self.old t self.new)) }
+        ensures done { (p : Past) → represents self.old p → (q : Past) × GoesOnAs p q × represents self.new q × DoesAdmit collector batch.now result p.history q.history }
+        ensures full { (p : Past) → represents self.old p → result ≡ Err AdmitError.IntakeFull → IsCrowded (pages self.old) p.history collector batch.now }
+        ensures trouble { IfErr result (OnAdmitTrouble (λ t. reports self.old t self.new)) }
         ensures disk { disk_of self.new ≡ disk_of self.old }
         ensures pages { pages self.new ≡ pages self.old };
 
     /// Raises the mark of a collector.
     fn mark(&mut self, collector: u8, mark: Mark) -> Result<(), MarkError>
-        ensures done { (p : Past) → carries self.old p → (q : Past) × GoesOnAs p q × carries self.new q × DoesMark collector mark result p.history q.history }
-        ensures trouble { IfErr result (OnMarkTrouble (λ t. tells self.old t self.new)) }
+        ensures done { (p : Past) → represents self.old p → (q : Past) × GoesOnAs p q × represents self.new q × DoesMark collector mark result p.history q.history }
+        ensures trouble { IfErr result (OnMarkTrouble (λ t. reports self.old t self.new)) }
         ensures disk { disk_of self.new ≡ disk_of self.old }
         ensures pages { pages self.new ≡ pages self.old };
 
     /// Applies the next change, and perhaps some more.
     fn apply_step(&mut self) -> Result<Step, Trouble>
-        ensures done { (p : Past) → carries self.old p → (q : Past) × GoesOnAs p q × carries self.new q × DoesApply result p.history q.history }
-        ensures trouble { IfErr result (λ t. tells self.old t self.new) }
+        ensures done { (p : Past) → represents self.old p → (q : Past) × GoesOnAs p q × represents self.new q × DoesApply result p.history q.history }
+        ensures trouble { IfErr result (λ t. reports self.old t self.new) }
         ensures disk { disk_of self.new ≡ disk_of self.old }
         ensures pages { pages self.new ≡ pages self.old };
 
     /// Writes a page home that waits.
     fn flush_step(&mut self) -> Result<Flush, Trouble>
-        ensures done { (p : Past) → carries self.old p → (q : Past) × GoesOnAs p q × carries self.new q × DoesFlush result p.history q.history }
+        ensures done { (p : Past) → represents self.old p → (q : Past) × GoesOnAs p q × represents self.new q × DoesFlush result p.history q.history }
         ensures flushes { IfOk result (λ step. flushes self.old step self.new) }
-        ensures trouble { IfErr result (λ t. tells self.old t self.new) }
+        ensures trouble { IfErr result (λ t. reports self.old t self.new) }
         ensures disk { disk_of self.new ≡ disk_of self.old }
         ensures pages { pages self.new ≡ pages self.old };
 
     /// Opens the archive again on its disks, as after a write or a sync that failed. Until that is done, each call that asks
     /// its disks fails.
     fn reopen(&mut self, alloc: Global) -> Result<(), Trouble>
-        ensures done { (p : Past) → carries self.old p → (q : Past) × GoesOnAs p q × carries self.new q × DoesReopen result p.history q.history }
+        ensures done { (p : Past) → represents self.old p → (q : Past) × GoesOnAs p q × represents self.new q × DoesReopen result p.history q.history }
         ensures opens { reopens self.old result self.new }
         ensures disk { disk_of self.new ≡ disk_of self.old }
         ensures pages { pages self.new ≡ pages self.old };
@@ -189,23 +189,23 @@ pub trait Store {
 
     /// A turn of a question.
     fn descend(&mut self, cursor: &mut Self::Cursor) -> Result<Turn<Self::Errand>, AskError>
-        ensures carries { (p : Past) → carries self.old p → carries self.new p }
+        ensures represents { (p : Past) → represents self.old p → represents self.new p }
         ensures asks { asks cursor.new ≡ asks cursor.old }
         ensures fits { IfOk result (λ turn. TurnGives (λ errand. fits errand cursor.new) ⊤ (λ _. ⊤) turn) }
-        ensures settled { (p : Past) → carries self.old p → OnOk result (last_moment (asks cursor.old) < settled p.history) }
-        ensures gives { (p : Past) → carries self.old p → gathered cursor.old p.history → IfOk result (λ turn. TurnGives (λ errand. lies errand cursor.new (disk_of self.old) p) (gathered cursor.new p.history) (λ answer. IsAnswered (applied p.history) (asks cursor.old) answer) turn) }
-        ensures told { (p : Past) → carries self.old p → IfErr result (λ e. IsTold e p.history (asks cursor.old)) }
-        ensures trouble { IfErr result (OnAskTrouble (λ t. tells self.old t self.new)) }
+        ensures settled { (p : Past) → represents self.old p → OnOk result (last_moment (asks cursor.old) < settled p.history) }
+        ensures gives { (p : Past) → represents self.old p → gathered cursor.old p.history → IfOk result (λ turn. TurnGives (λ errand. located errand cursor.new (disk_of self.old) p) (gathered cursor.new p.history) (λ answer. IsAnswered (applied p.history) (asks cursor.old) answer) turn) }
+        ensures reported { (p : Past) → represents self.old p → IfErr result (λ e. IsReported e p.history (asks cursor.old)) }
+        ensures trouble { IfErr result (OnAskTrouble (λ t. reports self.old t self.new)) }
         ensures disk { disk_of self.new ≡ disk_of self.old }
         ensures pages { pages self.new ≡ pages self.old };
 
     /// A look at which blocks are settled.
     fn seen(&mut self) -> Result<Self::Seen, Trouble>
-        ensures carries { (p : Past) → carries self.old p → carries self.new p }
-        ensures honest { (p : Past) → carries self.old p → IfOk result (λ s. honest (disk_of self.old) s) }
-        ensures known { (p : Past) → carries self.old p → IfOk result (λ s. AreTheSettled (block_count (disk_of self.old)) (known s) p.blocks) }
-        ensures sound { (p : Past) → carries self.old p → IfErr result IsOutside }
-        ensures trouble { IfErr result (λ t. tells self.old t self.new) }
+        ensures represents { (p : Past) → represents self.old p → represents self.new p }
+        ensures honest { (p : Past) → represents self.old p → IfOk result (λ s. honest (disk_of self.old) s) }
+        ensures known { (p : Past) → represents self.old p → IfOk result (λ s. AreTheSettled (block_count (disk_of self.old)) (known s) p.blocks) }
+        ensures sound { (p : Past) → represents self.old p → IfErr result IsOutside }
+        ensures trouble { IfErr result (λ t. reports self.old t self.new) }
         ensures disk { disk_of self.new ≡ disk_of self.old }
         ensures pages { pages self.new ≡ pages self.old };
 
@@ -226,15 +226,15 @@ pub trait Store {
         cursor: &mut Self::Cursor,
     ) -> Result<(), Trouble>
         requires fits { fits errand cursor.old }
-        ensures kept { (p : Past) → IsErrandOn (λ e. lies e cursor.old) honest block_count known p errand seen.old (reads reader.old) → AreSettled (block_count (reads reader.old)) (known seen.old) (kept reader.old) → AreSettled (block_count (reads reader.old)) (known seen.old) (kept reader.new) }
-        ensures sound { (p : Past) → IsErrandOn (λ e. lies e cursor.old) honest block_count known p errand seen.old (reads reader.old) → AreSettled (block_count (reads reader.old)) (known seen.old) (kept reader.old) → IfErr result IsOutside }
+        ensures kept { (p : Past) → IsErrandOn (λ e. located e cursor.old) honest block_count known p errand seen.old (reads reader.old) → AreSettled (block_count (reads reader.old)) (known seen.old) (kept reader.old) → AreSettled (block_count (reads reader.old)) (known seen.old) (kept reader.new) }
+        ensures sound { (p : Past) → IsErrandOn (λ e. located e cursor.old) honest block_count known p errand seen.old (reads reader.old) → AreSettled (block_count (reads reader.old)) (known seen.old) (kept reader.old) → IfErr result IsOutside }
         ensures trouble { IfErr result (λ t. misses seen.old t seen.new) }
         ensures disk { reads reader.new ≡ reads reader.old }
         ensures asks { asks cursor.new ≡ asks cursor.old }
-        ensures gathered { OnOk result ((p : Past) → IsErrandOn (λ e. lies e cursor.old) honest block_count known p errand seen.old (reads reader.old) → AreSettled (block_count (reads reader.old)) (known seen.old) (kept reader.old) → gathered cursor.new p.history) };
+        ensures gathered { OnOk result ((p : Past) → IsErrandOn (λ e. located e cursor.old) honest block_count known p errand seen.old (reads reader.old) → AreSettled (block_count (reads reader.old)) (known seen.old) (kept reader.old) → gathered cursor.new p.history) };
 
     /// A past that is stored is right.
-    ghost right: { (store : Self) (p : Past) → carries store p → IsHistory p.history };
+    ghost right: { (store : Self) (p : Past) → represents store p → IsHistory p.history };
 
     /// What was gathered of a settled moment holds over later histories too.
     ghost stays: { (cursor : Self.Cursor) (h g : History) → IsHistory h → Begins h g → last_moment (asks cursor) < settled h → gathered cursor h → gathered cursor g };

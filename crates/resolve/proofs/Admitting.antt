@@ -5,7 +5,7 @@ use Rattle.route_model.specs.Admission.{Admitted, IsTooLarge, admission_octets}
 use Rattle.route_model.specs.Admission as admissions
 use Rattle.route_model.specs.Prefix.{IpPrefix}
 use Rattle.route_model.specs.Sequence.{Each}
-use Rattle.route_model.specs.Spelling.{route_octets}
+use Rattle.route_model.specs.Encoding.{route_octets}
 use Rattle.route_model.specs.declared.admission.AdmissionError.{AdmissionError}
 use Rattle.route_model.specs.declared.admission.AdmissionError.TheVariants as errors
 use Rattle.route_model.specs.declared.change.Change.{Change}
@@ -15,7 +15,7 @@ use Rattle.route_model.specs.declared.route.Route.{Route}
 use Rattle.route_model.specs.declared.wire.AsWidth.{AsWidth}
 use Rattle.mrt_records.specs.Entries.{Entry}
 use Rattle.mrt_records.specs.declared.neighbor.Neighbor.{Neighbor}
-use Rattle.bgp_update.specs.Messages.{Announced, Told, Update, Notification, Other, IsMessage, IsLarge, HasLarge}
+use Rattle.bgp_update.specs.Messages.{Announced, Reported, Update, Notification, Other, IsMessage, IsLarge, HasLarge}
 use Rattle.resolve.specs.Changes.{withdrawals, announcements, message_changes, is_among}
 use Rattle.resolve.specs.Entries.{IsChangeOf}
 use Rattle.resolve.specs.Faults.{of_admission}
@@ -56,7 +56,7 @@ large_announced : (peer : Peer) (a : Option Announced) → Has admissions.IsLarg
 large_announced peer None h = h
 large_announced peer (Some a) h = any_announced peer a.route a.prefixes h
 
-large_of : (peer : Peer) (m : Told) → Has admissions.IsLarge (message_changes peer m) → HasLarge m
+large_of : (peer : Peer) (m : Reported) → Has admissions.IsLarge (message_changes peer m) → HasLarge m
 large_of peer (Update u) h =
     let withdrawn = withdrawals peer (filter (λ x. not (is_among u.announced x)) u.withdrawn) in
     let unreachable = withdrawals peer u.unreachable in
@@ -75,7 +75,7 @@ large_of peer Notification (inl h) = absurd h
 large_of peer Notification (inr h) = absurd h
 large_of peer (Other kind) h = absurd h
 
-pub message_refused : (peer : Peer) (time : ℕ) (width : AsWidth) (octets : List ℕ) (m : Told) (list : List Change) (e : AdmissionError)
+pub message_refused : (peer : Peer) (time : ℕ) (width : AsWidth) (octets : List ℕ) (m : Reported) (list : List Change) (e : AdmissionError)
     → IsMessage width octets m → (HasLarge m → ⊥) → list ≡ message_changes peer m → IsRefused time list e → MessageGives peer time width octets (Err (of_admission e))
 message_refused peer time width octets m list errors.RouteTooLarge is fits same r =
     (m, is, large_of peer m (any_has admissions.IsLarge (message_changes peer m) (subst (λ (t : List Change). Any admissions.IsLarge t) same (r.route refl))))

@@ -5,7 +5,7 @@ use Rattle.std.specs.List.{slice_get}
 use Rattle.route_model.specs.Admission.{Admitted}
 use Rattle.route_model.specs.Prefix.{IpPrefix}
 use Rattle.route_model.specs.Sequence.{Each}
-use Rattle.route_model.specs.Spelling.{route_octets}
+use Rattle.route_model.specs.Encoding.{route_octets}
 use Rattle.route_model.specs.declared.change.Change.{Change}
 use Rattle.route_model.specs.declared.change.Change.TheVariants as changes
 use Rattle.route_model.specs.declared.peer.Peer.{Peer}
@@ -18,12 +18,12 @@ use Rattle.mrt_records.specs.Entries.{Entry}
 use Rattle.mrt_records.specs.Values as records
 use Rattle.mrt_records.specs.declared.neighbor.Neighbor.{Neighbor}
 use Rattle.bgp_update.specs.Entries.{IsEntryRoute}
-use Rattle.bgp_update.specs.Messages.{Told, IsMessage, HasLarge}
+use Rattle.bgp_update.specs.Messages.{Reported, IsMessage, HasLarge}
 use Rattle.bgp_update.specs.Routes.{four_hop, entry_hop, entry_route_of}
 use Rattle.bgp_update.specs.declared.reading.PathAttributes.{PathAttributes}
 use Rattle.bgp_update.proofs.api.OneReading.{attributes_one}
 use Rattle.bgp_update.proofs.api.Reached.{entry_reach_one}
-use Rattle.bgp_update.proofs.api.Told.{message_one}
+use Rattle.bgp_update.proofs.api.Reported.{message_one}
 use Rattle.resolve.specs.Changes.{peer_of_neighbor, message_changes}
 use Rattle.resolve.specs.Entries.{family_of, IsRouteOf, IsChangeOf, IsFaultOf, IsLeftOut, AreOthers, AreChangesOf, IsFirstFault}
 use Rattle.resolve.specs.Meanings.{IsMeaning, Means}
@@ -53,18 +53,18 @@ fits time list a same short = inl (subst (λ (t : Admitted). IsLong t → ⊥) s
 
 -- messages
 
-abbrev OfTold : Peer → ℕ → Told → Meaning → Type 0
-OfTold peer time m x = (HasLarge m × (x ≡ Err faults.RouteTooLarge)) ⊎ ((HasLarge m → ⊥) × Fits time (message_changes peer m) x)
+abbrev OfReported : Peer → ℕ → Reported → Meaning → Type 0
+OfReported peer time m x = (HasLarge m × (x ≡ Err faults.RouteTooLarge)) ⊎ ((HasLarge m → ⊥) × Fits time (message_changes peer m) x)
 
-told_one : (peer : Peer) (time : ℕ) (m : Told) (x y : Meaning) → OfTold peer time m x → OfTold peer time m y → x ≡ y
-told_one peer time m x y (inl a) (inl b) = a.1 ∙ sym b.1
-told_one peer time m x y (inl a) (inr b) = absurd (b.0 a.0)
-told_one peer time m x y (inr a) (inl b) = absurd (a.0 b.0)
-told_one peer time m x y (inr a) (inr b) = fits_one time (message_changes peer m) x y a.1 b.1
+reported_one : (peer : Peer) (time : ℕ) (m : Reported) (x y : Meaning) → OfReported peer time m x → OfReported peer time m y → x ≡ y
+reported_one peer time m x y (inl a) (inl b) = a.1 ∙ sym b.1
+reported_one peer time m x y (inl a) (inr b) = absurd (b.0 a.0)
+reported_one peer time m x y (inr a) (inl b) = absurd (a.0 b.0)
+reported_one peer time m x y (inr a) (inr b) = fits_one time (message_changes peer m) x y a.1 b.1
 
 abbrev OfMessage : Peer → ℕ → AsWidth → List ℕ → Meaning → Type 0
 OfMessage peer time width octets x =
-    (((m : Told) → IsMessage width octets m → ⊥) × (x ≡ Err faults.Malformed)) ⊎ ((m : Told) × IsMessage width octets m × OfTold peer time m x)
+    (((m : Reported) → IsMessage width octets m → ⊥) × (x ≡ Err faults.Malformed)) ⊎ ((m : Reported) × IsMessage width octets m × OfReported peer time m x)
 
 of_message : (peer : Peer) (time : ℕ) (width : AsWidth) (octets : List ℕ) (x : Meaning) → MessageGives peer time width octets x → (x ≡ Err faults.OutOfMemory → ⊥) → OfMessage peer time width octets x
 of_message peer time width octets (Ok None) g enough = absurd g
@@ -82,7 +82,7 @@ of_message_one peer time width octets x y (inl a) (inr b) = absurd (a.0 b.0 b.1)
 of_message_one peer time width octets x y (inr a) (inl b) = absurd (b.0 a.0 a.1)
 of_message_one peer time width octets x y (inr a) (inr b) =
     let same = message_one width octets b.0 a.0 b.1 a.1 in
-    told_one peer time a.0 x y a.2 (subst (λ (t : Told). OfTold peer time t y) same b.2)
+    reported_one peer time a.0 x y a.2 (subst (λ (t : Reported). OfReported peer time t y) same b.2)
 
 -- state changes
 
@@ -209,7 +209,7 @@ opened_fine : (rule : WithoutHop) (c : ℕ) (peers : List Neighbor) (prefix : Ip
 opened_fine rule c peers prefix entry rest fault (inl l, more) f enough = left_not_faulty rule peers prefix entry fault l f enough
 opened_fine rule c peers prefix entry rest fault (inr p, more) f enough = not_faulty rule c peers prefix entry p.0 fault p.1 f enough
 
--- the first fault of entries that are told as two lists, each with an entry that has a fault behind entries that have none
+-- the first fault of entries that are given as two lists, each with an entry that has a fault after entries that have none
 first_one : (rule : WithoutHop) (c : ℕ) (peers : List Neighbor) (prefix : IpPrefix) (before after other_before other_after : List Entry) (entry other : Entry) (xs ys : List Change) (f g : ResolveFault)
     → before ++ entry ∷ after ≡ other_before ++ other ∷ other_after → AreChangesOf rule c peers prefix before xs → AreChangesOf rule c peers prefix other_before ys
     → IsFaultOf rule peers prefix entry f → IsFaultOf rule peers prefix other g → (f ≡ faults.OutOfMemory → ⊥) → (g ≡ faults.OutOfMemory → ⊥) → f ≡ g
@@ -294,7 +294,7 @@ table_result : (x : Meaning) → (x ≡ Ok None) ⊎ (x ≡ Err faults.OutOfMemo
 table_result x (inl e) n = e
 table_result x (inr e) n = absurd (n e)
 
-gives_one : (rule : WithoutHop) (c : ℕ) (table : Option (List Neighbor)) (r : records.Told) (x y : Meaning) → Gives rule c table r x → Gives rule c table r y → (x ≡ Err faults.OutOfMemory → ⊥) → (y ≡ Err faults.OutOfMemory → ⊥) → x ≡ y
+gives_one : (rule : WithoutHop) (c : ℕ) (table : Option (List Neighbor)) (r : records.Reported) (x y : Meaning) → Gives rule c table r x → Gives rule c table r y → (x ≡ Err faults.OutOfMemory → ⊥) → (y ≡ Err faults.OutOfMemory → ⊥) → x ≡ y
 gives_one rule c table (records.Read (records.Message time peer width octets)) x y p q n m =
     of_message_one (peer_of_neighbor c peer) time width octets x y (of_message (peer_of_neighbor c peer) time width octets x p n) (of_message (peer_of_neighbor c peer) time width octets y q m)
 gives_one rule c table (records.Read (records.StateChange time peer state)) x y p q n m =
@@ -304,10 +304,10 @@ gives_one rule c table (records.Read (records.PeerTable peers)) x y p q n m = ta
 gives_one rule c table (records.Skipped kind subtype) x y p q n m = p ∙ sym q
 gives_one rule c table (records.Malformed kind subtype) x y p q n m = p ∙ sym q
 
-meaning_one : (rule : WithoutHop) (c : ℕ) (before : List records.Told) (r : records.Told) (x y : Meaning) → IsMeaning rule c before r x → IsMeaning rule c before r y → x ≡ y
+meaning_one : (rule : WithoutHop) (c : ℕ) (before : List records.Reported) (r : records.Reported) (x y : Meaning) → IsMeaning rule c before r x → IsMeaning rule c before r y → x ≡ y
 meaning_one rule c before r x y p q =
     let same = one_table before q.table p.table q.last p.last in
-    gives_one rule c p.table r x y p.gives (subst (λ (t : Option (List Neighbor)). Gives rule c t r y) same q.gives) p.wanting q.wanting
+    gives_one rule c p.table r x y p.gives (subst (λ (t : Option (List Neighbor)). Gives rule c t r y) same q.gives) p.lacking q.lacking
 
 -- lists
 
@@ -325,7 +325,7 @@ lists_one (x ∷ xs) (y ∷ ys) same at =
     let rest : xs ≡ ys = lists_one xs ys (omega (arith, same)) (λ n a b e f. at (suc n) a b e f) in
     ap (λ t. t ∷ xs) first ∙ ap (λ t. y ∷ t) rest
 
-pub one_meaning : (rule : WithoutHop) (c : ℕ) (list : List records.Told) (x y : List Meaning) → Means rule c list x → Means rule c list y → x ≡ y
+pub one_meaning : (rule : WithoutHop) (c : ℕ) (list : List records.Reported) (x y : List Meaning) → Means rule c list x → Means rule c list y → x ≡ y
 one_meaning rule c list x y p q =
     lists_one x y (p.count ∙ sym q.count)
     (λ n a b e f.

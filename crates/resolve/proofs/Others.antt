@@ -27,7 +27,7 @@ pub others_all : {X : Type 0} (P : X → Type 0) (xs : List X) → ((x : X) → 
 others_all P [] none = refl
 others_all P (x ∷ xs) none = inr (none x, xs, refl, others_all P xs none)
 
--- an element that is kept stands among the others, behind those of the elements before it
+-- an element that is kept stands among the others, after those of the elements before it
 pub others_parts : {X : Type 0} (P : X → Type 0) (before : List X) (x : X) (after others : List X) → (P x → ⊥) → AreOthers P (before ++ x ∷ after) others
     → (front back : List X) × (others ≡ front ++ x ∷ back) × AreOthers P before front
 others_parts P [] x after others n (inl o) = absurd (n o.0)

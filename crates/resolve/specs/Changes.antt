@@ -7,7 +7,7 @@ use Rattle.route_model.specs.declared.change.Change.{Change}
 use Rattle.route_model.specs.declared.change.Change.TheVariants as changes
 use Rattle.route_meaning.specs.Holds.{same_prefix}
 use Rattle.mrt_records.specs.declared.neighbor.Neighbor.{Neighbor}
-use Rattle.bgp_update.specs.Messages.{Announced, Changes, Told, Update, Notification, Other}
+use Rattle.bgp_update.specs.Messages.{Announced, Changes, Reported, Update, Notification, Other}
 
 -- the neighbor as a peer of the collector
 abbrev pub peer_of_neighbor : ℕ → Neighbor → Peer
@@ -34,7 +34,7 @@ update_changes peer u =
     ++ (withdrawals peer u.unreachable ++ (announcements peer u.announced ++ announcements peer u.reachable))
 
 -- a NOTIFICATION ends the peer's routes; messages of other types change nothing
-abbrev pub message_changes : Peer → Told → List Change
+abbrev pub message_changes : Peer → Reported → List Change
 message_changes peer (Update u) = update_changes peer u
 message_changes peer Notification = changes.Down peer ∷ []
 message_changes peer (Other kind) = []

@@ -2,7 +2,7 @@
 use Rattle.std.specs.Prelude.{◌≡◌, ◌⊎◌, ℕ, ◌<◌, ◌≤◌, List, [], ◌∷◌, ◌++◌, length, Option, Some, None, slice_get, Result, Ok, Err, Vec}
 use Rattle.std.specs.declared.alloc.Global.{Global}
 use Rattle.route_model.specs.Sequence.{Each}
-use Rattle.route_model.specs.Spelling.{route_octets}
+use Rattle.route_model.specs.Encoding.{route_octets}
 use Rattle.route_model.specs.Prefix.{IpPrefix}
 use Rattle.route_model.specs.declared.address.Address.{Address}
 use Rattle.route_model.specs.declared.address.Address.TheVariants.{V4, V6}
@@ -62,7 +62,7 @@ LeavesOut rule octets = (a : PathAttributes) × AreAttributes widths.Four octets
 abbrev pub IsLeftOut : WithoutHop → List Neighbor → Entry → Type 0
 IsLeftOut rule peers entry = (entry.peer_index < length peers) × LeavesOut rule entry.attributes
 
--- why an entry announces nothing: the peer is looked at first, then the attributes; memory may be wanting at any entry
+-- why an entry announces nothing: the peer is looked at first, then the attributes; memory may run out at any entry
 abbrev pub IsFaultOf : WithoutHop → List Neighbor → IpPrefix → Entry → ResolveFault → Type 0
 IsFaultOf rule peers prefix entry faults.BadPeerIndex = length peers ≤ entry.peer_index
 IsFaultOf rule peers prefix entry faults.Malformed = (entry.peer_index < length peers) × (LeavesOut rule entry.attributes → ⊥) × ((route : Route) → IsRouteOf prefix entry route → ⊥)

@@ -17,6 +17,6 @@ abbrev pub of_admission : AdmissionError → ResolveFault
 of_admission admissions.RouteTooLarge = faults.RouteTooLarge
 of_admission admissions.AdmissionTooLarge = faults.AdmissionTooLarge
 
--- want of memory
+-- out of memory
 abbrev pub of_memory : ResolveFault
 of_memory = faults.OutOfMemory

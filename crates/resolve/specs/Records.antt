@@ -9,7 +9,7 @@ use Rattle.route_model.specs.declared.wire.AsWidth.{AsWidth}
 use Rattle.mrt_records.specs.Entries.{Entry}
 use Rattle.mrt_records.specs.Values as records
 use Rattle.mrt_records.specs.declared.neighbor.Neighbor.{Neighbor}
-use Rattle.bgp_update.specs.Messages.{Told, IsMessage, HasLarge}
+use Rattle.bgp_update.specs.Messages.{Reported, IsMessage, HasLarge}
 use Rattle.resolve.specs.Changes.{peer_of_neighbor, message_changes}
 use Rattle.resolve.specs.Entries.{AreChangesOf, IsFirstFault}
 use Rattle.resolve.specs.declared.fault.ResolveFault.{ResolveFault}
@@ -27,10 +27,10 @@ IsLong a = 131072 < length (admission_octets a)
 -- the changes of a message, at the time of its record
 abbrev pub MessageGives : Peer → ℕ → AsWidth → List ℕ → Result (Option Admitted) ResolveFault → Type 0
 MessageGives peer time width octets (Ok None) = ⊥
-MessageGives peer time width octets (Ok (Some a)) = (m : Told) × IsMessage width octets m × (HasLarge m → ⊥) × (a ≡ admitted time (message_changes peer m)) × (IsLong a → ⊥)
-MessageGives peer time width octets (Err faults.Malformed) = (m : Told) → IsMessage width octets m → ⊥
-MessageGives peer time width octets (Err faults.RouteTooLarge) = (m : Told) × IsMessage width octets m × HasLarge m
-MessageGives peer time width octets (Err faults.AdmissionTooLarge) = (m : Told) × IsMessage width octets m × (HasLarge m → ⊥) × IsLong (admitted time (message_changes peer m))
+MessageGives peer time width octets (Ok (Some a)) = (m : Reported) × IsMessage width octets m × (HasLarge m → ⊥) × (a ≡ admitted time (message_changes peer m)) × (IsLong a → ⊥)
+MessageGives peer time width octets (Err faults.Malformed) = (m : Reported) → IsMessage width octets m → ⊥
+MessageGives peer time width octets (Err faults.RouteTooLarge) = (m : Reported) × IsMessage width octets m × HasLarge m
+MessageGives peer time width octets (Err faults.AdmissionTooLarge) = (m : Reported) × IsMessage width octets m × (HasLarge m → ⊥) × IsLong (admitted time (message_changes peer m))
 MessageGives peer time width octets (Err faults.NoPeerTable) = ⊥
 MessageGives peer time width octets (Err faults.BadPeerIndex) = ⊥
 MessageGives peer time width octets (Err faults.OutOfMemory) = Unit {0}
@@ -71,7 +71,7 @@ RibGivesUnder rule c None time prefix entries result = result ≡ Err faults.NoP
 RibGivesUnder rule c (Some peers) time prefix entries result = RibGives rule c peers time prefix entries result
 
 -- what a record gives, for the collector c, in a feed with this peer table, where entries without a next hop are taken so
-abbrev pub Gives : WithoutHop → ℕ → Option (List Neighbor) → records.Told → Result (Option Admitted) ResolveFault → Type 0
+abbrev pub Gives : WithoutHop → ℕ → Option (List Neighbor) → records.Reported → Result (Option Admitted) ResolveFault → Type 0
 Gives rule c table (records.Read (records.Message time peer width octets)) result = MessageGives (peer_of_neighbor c peer) time width octets result
 Gives rule c table (records.Read (records.StateChange time peer state)) result = StateGives (peer_of_neighbor c peer) time state result
 Gives rule c table (records.Read (records.Rib time prefix entries)) result = RibGivesUnder rule c table time prefix entries result
@@ -80,7 +80,7 @@ Gives rule c table (records.Skipped kind subtype) result = result ≡ Ok None
 Gives rule c table (records.Malformed kind subtype) result = result ≡ Err faults.Malformed
 
 -- how many entries a record has beyond what it announces, where it isn't refused: those that are left out
-abbrev pub left_out : records.Told → Result (Option Admitted) ResolveFault → ℕ
+abbrev pub left_out : records.Reported → Result (Option Admitted) ResolveFault → ℕ
 left_out (records.Read (records.Rib time prefix entries)) (Ok (Some a)) = length entries - length a.changes
 left_out (records.Read (records.Rib time prefix entries)) (Ok None) = length entries
 left_out (records.Read (records.Rib time prefix entries)) (Err fault) = 0

@@ -15,7 +15,7 @@ pub enum ResolveFault {
     /// The record, or a message or attributes in it, has no reading.
     #[error("the record is malformed")]
     Malformed,
-    /// A route that it announces has a spelling of more than 3,072 octets.
+    /// A route that it announces has an encoding of more than 3,072 octets.
     #[error("a route has more than 3072 octets")]
     RouteTooLarge,
     /// A RIB record came, and the feed has no peer table.
@@ -24,7 +24,7 @@ pub enum ResolveFault {
     /// An entry names a peer that the peer table doesn't have.
     #[error("an entry names no peer of the peer table")]
     BadPeerIndex,
-    /// The admission has a spelling of more than 131,072 octets.
+    /// The admission has an encoding of more than 131,072 octets.
     #[error("the admission has more than 131072 octets")]
     AdmissionTooLarge,
     /// A growth of memory was refused.

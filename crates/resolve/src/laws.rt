@@ -4,7 +4,7 @@ ghost use Rattle.std.specs.Prelude.{◌≡◌, ◌⊎◌, ◌-◌, length, ℕ, 
 ghost use Rattle.route_model.specs.Admission.{Admitted};
 ghost use Rattle.route_model.specs.Prefix.{IpPrefix};
 ghost use Rattle.mrt_records.specs.Entries.{Entry};
-ghost use Rattle.mrt_records.specs.Values.{Told, Read, Rib};
+ghost use Rattle.mrt_records.specs.Values.{Reported, Read, Rib};
 ghost use Rattle.mrt_records.specs.declared.neighbor.Neighbor.{Neighbor};
 ghost use Rattle.resolve.specs.declared.fault.ResolveFault.{ResolveFault};
 ghost use Rattle.resolve.specs.declared.without_hop.WithoutHop.{WithoutHop};
@@ -15,9 +15,9 @@ ghost use Rattle.resolve.specs.Meanings.{Means};
 
 /// After any records a feed has one peer table, and the records of a feed mean one list of results, however entries without a next hop are taken.
 pub fn feeds_have_one_meaning()
-    ensures some { (records : List Told) → (table : Option (List Neighbor)) × LastTable records table }
-    ensures one { (records : List Told) (x y : Option (List Neighbor)) → LastTable records x → LastTable records y → x ≡ y }
-    ensures meaning { (rule : WithoutHop) (c : ℕ) (records : List Told) (x y : List (Result (Option Admitted) ResolveFault)) → Means rule c records x → Means rule c records y → x ≡ y }
+    ensures some { (records : List Reported) → (table : Option (List Neighbor)) × LastTable records table }
+    ensures one { (records : List Reported) (x y : Option (List Neighbor)) → LastTable records x → LastTable records y → x ≡ y }
+    ensures meaning { (rule : WithoutHop) (c : ℕ) (records : List Reported) (x y : List (Result (Option Admitted) ResolveFault)) → Means rule c records x → Means rule c records y → x ≡ y }
 {}
 
 /// Where entries without a next hop are left out, a RIB record means what the record of its other entries means where they are refused; one

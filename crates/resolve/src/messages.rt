@@ -4,7 +4,7 @@ ghost use Rattle.std.specs.Prelude.{◌≡◌, ◌∷◌, ◌++◌, [], not, map
 ghost use Rattle.std.specs.BTreeSet.{contains, IsFromIterResult};
 ghost use Rattle.route_model.specs.Prefix.{IpPrefix};
 ghost use Rattle.route_model.specs.contracts.prefix.PrefixOrd.TheImpl as prefix_ord;
-ghost use Rattle.bgp_update.specs.Messages.{option_told, changes_told, told};
+ghost use Rattle.bgp_update.specs.Messages.{option_reported, changes_reported, reported};
 ghost use Rattle.resolve.specs.Changes.{is_among, withdrawals, announcements, update_changes, message_changes};
 
 use bgp_update::{Announcement, Message, Update};
@@ -24,7 +24,7 @@ fn prefixes_of(
     alloc: Global,
     announced: &Option<Announcement>,
 ) -> Result<BTreeSet<Prefix>, AllocError>
-    ensures { IfOk result (λ set. (x : IpPrefix) → contains (prefix_ord.cmp-value).it set x ≡ is_among (option_told announced.now) x) }
+    ensures { IfOk result (λ set. (x : IpPrefix) → contains (prefix_ord.cmp-value).it set x ≡ is_among (option_reported announced.now) x) }
 {
     match announced {
         None => Ok(BTreeSet::new(alloc)),
@@ -58,7 +58,7 @@ fn withdraw_others(
     prefixes: &[Prefix],
     announced: &Option<Announcement>,
 ) -> Result<(), AllocError>
-    ensures { OnOk result (changes.new.items ≡ changes.old.items ++ withdrawals peer.now (filter (λ x. not (is_among (option_told announced.now) x)) prefixes.now)) }
+    ensures { OnOk result (changes.new.items ≡ changes.old.items ++ withdrawals peer.now (filter (λ x. not (is_among (option_reported announced.now) x)) prefixes.now)) }
 {
     if prefixes.is_empty() {
         return Ok(());
@@ -93,7 +93,7 @@ fn announce(
     peer: &Peer,
     announced: Option<Announcement>,
 ) -> Result<(), AllocError>
-    ensures { OnOk result (changes.new.items ≡ changes.old.items ++ announcements peer.now (option_told announced)) }
+    ensures { OnOk result (changes.new.items ≡ changes.old.items ++ announcements peer.now (option_reported announced)) }
 {
     let Some(announcement) = announced else {
         return Ok(());
@@ -102,9 +102,14 @@ fn announce(
     announce_all(changes, peer, &announcement.prefixes, &route)
 }
 
-/// The changes of an UPDATE, in the order of its parts.
+/// The changes of an UPDATE, in this order:
+///
+/// 1. The withdrawn routes, but for prefixes that NLRI announces: these count as not withdrawn (RFC 4271 section 4.3).
+/// 2. The withdrawals of MP_UNREACH_NLRI (RFC 4760 section 4).
+/// 3. The announcements of NLRI (RFC 4271 section 4.3).
+/// 4. The announcements of MP_REACH_NLRI (RFC 4760 section 3).
 fn update_changes(alloc: Global, peer: &Peer, update: Update) -> Result<Vec<Change>, AllocError>
-    ensures { IfOk result (λ v. v.items ≡ update_changes peer.now (changes_told update)) }
+    ensures { IfOk result (λ v. v.items ≡ update_changes peer.now (changes_reported update)) }
 {
     let mut changes = Vec::new(alloc);
     withdraw_others(
@@ -126,7 +131,7 @@ pub(crate) fn message_changes(
     peer: &Peer,
     message: Message,
 ) -> Result<Vec<Change>, AllocError>
-    ensures { IfOk result (λ v. v.items ≡ message_changes peer.now (told message)) }
+    ensures { IfOk result (λ v. v.items ≡ message_changes peer.now (reported message)) }
 {
     let mut changes = Vec::new(alloc);
     match message {

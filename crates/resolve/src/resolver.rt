@@ -1,7 +1,7 @@
 //! The meaning of each record of a feed.
 
 ghost use Rattle.std.specs.Prelude.{◌≡◌, ◌∷◌, ◌++◌, [], List, Some, None, Err, IfOk, OnOk, OnErr, IsTrue, ◌↔◌};
-ghost use Rattle.mrt_records.specs.Values.{Told, told};
+ghost use Rattle.mrt_records.specs.Values.{Reported, reported};
 ghost use Rattle.resolve.specs.Tables.{LastTable};
 ghost use Rattle.resolve.specs.Records.{MessageGives, StateGives, RibGives, RibGivesUnder, Gives, state_changes, left_out, counted};
 
@@ -105,7 +105,7 @@ fn of_rib(
 
 /// How many entries of a record that means this are left out.
 fn left_out_of(item: &Item, meaning: &Result<Option<Admission>, ResolveFault>) -> u64
-    ensures { result ≡ left_out (told item.now) meaning.now }
+    ensures { result ≡ left_out (reported item.now) meaning.now }
 {
     match item {
         Item::Rib { entries, .. } => match meaning {
@@ -122,11 +122,11 @@ fn left_out_of(item: &Item, meaning: &Result<Option<Admission>, ResolveFault>) -
 }
 
 impl Model for Resolver {
-    ghost use Rattle.resolve.specs.Tables.{Feed, table_told};
+    ghost use Rattle.resolve.specs.Tables.{Feed, table_reported};
 
     ghost Value = { Feed };
 
-    ghost view = { λ r. record { collector = r.collector; table = table_told r.peers; left_out = r.left_out } };
+    ghost view = { λ r. record { collector = r.collector; table = table_reported r.peers; left_out = r.left_out } };
 }
 
 impl Resolver {
@@ -167,7 +167,7 @@ impl Resolver {
         of_rib(alloc, rule, self.collector, peers, time, prefix, entries)
     }
 
-    /// Keeps a copy of a peer table for the records behind it.
+    /// Keeps a copy of a peer table for the records after it.
     fn keep(&mut self, alloc: Global, peers: &[Neighbor]) -> Result<(), AllocError>
         ensures collector { self.new.collector ≡ self.old.collector }
         ensures kept { OnOk result (self.new.table ≡ Some peers.now) }
@@ -188,8 +188,8 @@ impl Resolver {
         item: &Item,
     ) -> Result<Option<Admission>, ResolveFault>
         ensures collector { self.new.collector ≡ self.old.collector }
-        ensures gives { Gives rule self.old.collector self.old.table (told item.now) result }
-        ensures table { (result ≡ Err ResolveFault.OutOfMemory → ⊥) → (before : List Told) → LastTable before self.old.table → LastTable (before ++ told item.now ∷ []) self.new.table }
+        ensures gives { Gives rule self.old.collector self.old.table (reported item.now) result }
+        ensures table { (result ≡ Err ResolveFault.OutOfMemory → ⊥) → (before : List Reported) → LastTable before self.old.table → LastTable (before ++ reported item.now ∷ []) self.new.table }
         ensures kept { result ≡ Err ResolveFault.OutOfMemory → self.new.table ≡ self.old.table }
         ensures left_out { self.new.left_out ≡ self.old.left_out }
     {
@@ -245,10 +245,10 @@ impl Resolver {
         item: &Item,
     ) -> Result<Option<Admission>, ResolveFault>
         ensures collector { self.new.collector ≡ self.old.collector }
-        ensures gives { Gives rule self.old.collector self.old.table (told item.now) result }
-        ensures table { (result ≡ Err ResolveFault.OutOfMemory → ⊥) → (before : List Told) → LastTable before self.old.table → LastTable (before ++ told item.now ∷ []) self.new.table }
+        ensures gives { Gives rule self.old.collector self.old.table (reported item.now) result }
+        ensures table { (result ≡ Err ResolveFault.OutOfMemory → ⊥) → (before : List Reported) → LastTable before self.old.table → LastTable (before ++ reported item.now ∷ []) self.new.table }
         ensures kept { result ≡ Err ResolveFault.OutOfMemory → self.new.table ≡ self.old.table }
-        ensures counted { self.new.left_out ≡ counted self.old.left_out (left_out (told item.now) result) }
+        ensures counted { self.new.left_out ≡ counted self.old.left_out (left_out (reported item.now) result) }
     {
         let meaning = self.meaning(alloc, rule, item);
         let more = left_out_of(item, &meaning);

@@ -6,14 +6,14 @@ ghost use Rattle.archive_pages.specs.Places.{AreSettings};
 ghost use Rattle.rha.specs.inner.Made.{settings_for};
 
 use crate::opening::{First, open_to_read};
-use crate::refusals::{tell_unanswered, tell_unmade};
+use crate::refusals::{report_unanswered, report_unmade};
 use advice::{LimitAdvice, advise, advise_question};
 use archive_pages::Settings;
 use disk_archive::CreateError;
 use disk_files::{Call, FileError};
 use file_archive::CreateFault;
 use service::{
-    Checking, Creation, Output, Question, check_archive, tell_created, tell_out_of_memory,
+    Checking, Creation, Output, Question, check_archive, report_created, report_out_of_memory,
 };
 use std::alloc::Global;
 use std::io::{BufWriter, IsTerminal, Write};
@@ -44,7 +44,7 @@ pub(crate) fn create<E: Write>(rt: &HostRuntime, asked: &Creation<'_>, err: &mut
 {
     let alloc = rt.alloc();
     let Ok(buffer) = BufWriter::new(alloc, rt.stdout()) else {
-        return tell_out_of_memory(err);
+        return report_out_of_memory(err);
     };
     let settings = Settings {
         collectors: asked.collectors,
@@ -54,10 +54,10 @@ pub(crate) fn create<E: Write>(rt: &HostRuntime, asked: &Creation<'_>, err: &mut
     match file_archive::create(alloc, rt, folder, settings, pages, blocks) {
         Ok(_) => {
             let mut out = Output::new(buffer);
-            tell_created(alloc, asked, &mut out, err)
+            report_created(alloc, asked, &mut out, err)
         }
         Err(fault) => {
-            let code = tell_unmade(alloc, folder, &fault, err);
+            let code = report_unmade(alloc, folder, &fault, err);
             advise_unmade(alloc, asked, &fault, err);
             code
         }
@@ -72,12 +72,12 @@ pub(crate) fn ask<E: Write>(rt: &HostRuntime, asked: &Question<'_>, err: &mut Ou
     };
     let is_seen = rt.stdout().is_terminal();
     let Ok(buffer) = BufWriter::new(alloc, rt.stdout()) else {
-        return tell_out_of_memory(err);
+        return report_out_of_memory(err);
     };
     let mut out = Output::new(buffer);
     let code = tables::ask(alloc, &mut archive, asked, is_seen, &mut out, err);
     if code != 0 {
-        tell_unanswered(alloc, &archive, err);
+        report_unanswered(alloc, &archive, err);
         advise_question(alloc, &archive, asked.line.as_str(), err);
     }
     code
@@ -90,7 +90,7 @@ pub(crate) fn check<E: Write>(rt: &HostRuntime, asked: &Checking<'_>, err: &mut 
         return 1;
     };
     let Ok(buffer) = BufWriter::new(alloc, rt.stdout()) else {
-        return tell_out_of_memory(err);
+        return report_out_of_memory(err);
     };
     let mut out = Output::new(buffer);
     check_archive(alloc, &mut archive, &mut out, err)

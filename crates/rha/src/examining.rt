@@ -10,8 +10,8 @@ use archive_head::Head;
 use disk_models::Page;
 use file_archive::FileArchive;
 use service::{
-    Examining, Output, Refusal, Status, VERSION, finish, tell_out_of_memory, tell_outside,
-    tell_refusal,
+    Examining, Output, Refusal, Status, VERSION, finish, report_out_of_memory, report_outside,
+    report_refusal,
 };
 use std::alloc::Global;
 use std::fs::File;
@@ -111,7 +111,7 @@ fn text_of(alloc: Global, facts: &Facts, json: bool) -> Option<String> {
 /// Prints the facts about an archive, and writes them out.
 fn show<E: Write>(rt: &HostRuntime, facts: &Facts, json: bool, err: &mut Output<E>) -> u8 {
     let Some(text) = text_of(rt.alloc(), facts, json) else {
-        return tell_out_of_memory(err);
+        return report_out_of_memory(err);
     };
     let mut out = Output::new(rt.stdout());
     out.text(text.as_str());
@@ -123,7 +123,7 @@ fn open_file<E: Write>(rt: &HostRuntime, path: &str, err: &mut Output<E>) -> Opt
     match File::open(rt, path) {
         Ok(file) => Some(file),
         Err(why) => {
-            tell_outside(rt.alloc(), err, path, "open", &why);
+            report_outside(rt.alloc(), err, path, "open", &why);
             None
         }
     }
@@ -134,10 +134,10 @@ fn open_file<E: Write>(rt: &HostRuntime, path: &str, err: &mut Output<E>) -> Opt
 pub(crate) fn info<E: Write>(rt: &HostRuntime, asked: &Examining<'_>, err: &mut Output<E>) -> u8 {
     let alloc = rt.alloc();
     let Ok(path) = format!(in alloc; "{}/pages.rha", asked.folder) else {
-        return tell_out_of_memory(err);
+        return report_out_of_memory(err);
     };
     let Ok(once_path) = format!(in alloc; "{}/once.rha", asked.folder) else {
-        return tell_out_of_memory(err);
+        return report_out_of_memory(err);
     };
     let before = File::open(rt, path.as_str());
     let slots = before.as_ref().ok().and_then(|it| open_slots(it).ok());
@@ -152,7 +152,7 @@ pub(crate) fn info<E: Write>(rt: &HostRuntime, asked: &Examining<'_>, err: &mut 
     };
     match facts_in(alloc, &file, &once, &archive, slots.unwrap_or(0)) {
         Ok(facts) => show(rt, &facts, asked.json, err),
-        Err(Unshown::Failed(why)) => tell_outside(alloc, err, asked.folder, "read", &why),
-        Err(Unshown::Refused(refusal)) => tell_refusal(&refusal, err),
+        Err(Unshown::Failed(why)) => report_outside(alloc, err, asked.folder, "read", &why),
+        Err(Unshown::Refused(refusal)) => report_refusal(&refusal, err),
     }
 }

@@ -1,7 +1,7 @@
 //! The command `load`: files are loaded into the archive of a folder, one after another.
 
 use crate::opening::open_disks;
-use crate::refusals::tell_unopened;
+use crate::refusals::report_unopened;
 use crate::sizes::sizes_of;
 use crate::sources::Source;
 use advice::{FirstOctets, Loaded, NotedReader, Unread, advise, advise_load};
@@ -9,7 +9,7 @@ use archive_calls::RouteArchive;
 use file_archive::FileArchive;
 use load_progress::{ClearedWriter, Meter, WatchedArchive, WatchedReader};
 use service::{
-    FileLoad, Input, Loading, Output, load_files, tell_lost, tell_out_of_memory, tell_outside,
+    FileLoad, Input, Loading, Output, load_files, report_lost, report_out_of_memory, report_outside,
 };
 use std::cell::Cell;
 use std::io::{BufWriter, IsTerminal, Read, Write};
@@ -65,26 +65,26 @@ pub(crate) fn load<'a, E: Write>(
         return 1;
     };
     let Some(noted) = noted_of(rt, names.len()) else {
-        return tell_out_of_memory(err);
+        return report_out_of_memory(err);
     };
     let Some(mut sources) = sources_of(rt, names, &noted) else {
-        return tell_out_of_memory(err);
+        return report_out_of_memory(err);
     };
     if let (Some(first), Some(name)) = (sources.first_mut(), names.first()) {
         if let Err(why) = first.open() {
-            let code = tell_outside(alloc, err, name, "open", &why);
+            let code = report_outside(alloc, err, name, "open", &why);
             advise_unread(rt, names.get(1..).unwrap_or(&[]), err);
             return code;
         }
     }
     match disks.into_archive(alloc) {
         Ok(archive) => load_into(rt, archive, asked, sources, &noted, err),
-        Err(fault) => tell_unopened(rt, asked.folder, fault, err),
+        Err(fault) => report_unopened(rt, asked.folder, fault, err),
     }
 }
 
 /// Prints why a file couldn't be opened or read, if it couldn't.
-fn tell_failed<R: Read, E: Write>(
+fn report_failed<R: Read, E: Write>(
     rt: &HostRuntime,
     name: &str,
     is_open: bool,
@@ -92,10 +92,10 @@ fn tell_failed<R: Read, E: Write>(
     err: &mut Output<E>,
 ) {
     if is_open {
-        return tell_lost(rt.alloc(), name, input, err);
+        return report_lost(rt.alloc(), name, input, err);
     }
     if let Some(why) = input.failure() {
-        tell_outside(rt.alloc(), err, name, "open", why);
+        report_outside(rt.alloc(), err, name, "open", why);
     }
 }
 
@@ -122,7 +122,7 @@ fn advise_loaded<A: RouteArchive, R: Read, E: Write>(
             break;
         }
         begun = begun.saturating_add(1);
-        tell_failed(rt, name, it.is_open.get(), &file.input, err);
+        report_failed(rt, name, it.is_open.get(), &file.input, err);
         let mark = if begun == names.len() {
             asked.mark
         } else {
@@ -156,25 +156,25 @@ fn load_into<'a, 'o, E: Write>(
     let terminal = rt.stderr().is_terminal().then_some(rt);
     let meter = Meter::new(terminal);
     let Ok(buffer) = BufWriter::new(alloc, ClearedWriter::new(rt.stdout(), &meter)) else {
-        return tell_out_of_memory(err);
+        return report_out_of_memory(err);
     };
     let mut files = Vec::new(alloc);
     for (source, it) in sources.into_iter().zip(noted) {
         let reader = NotedReader::new(WatchedReader::new(source, &meter), &it.first);
         if files.push(FileLoad::new(reader)).is_err() {
-            return tell_out_of_memory(err);
+            return report_out_of_memory(err);
         }
     }
     let mut archive = WatchedArchive::new(archive, &meter);
     let mut out = Output::new(buffer);
-    let mut told = Output::new(ClearedWriter::new(rt.stderr(), &meter));
+    let mut reported = Output::new(ClearedWriter::new(rt.stderr(), &meter));
     let code = load_files(
         alloc,
         &mut archive,
         asked,
         files.as_mut_slice(),
         &mut out,
-        &mut told,
+        &mut reported,
     );
     meter.clear();
     advise_loaded(rt, &archive, asked, files.as_slice(), noted, err);

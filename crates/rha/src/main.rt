@@ -41,7 +41,7 @@ use crate::served::serve;
 use crate::streams::{DEV_NULL, open_closed_streams};
 use crate::table_reading::{diff, dump, peers};
 use advice::advise_text;
-use service::{Invocation, Output, command, tell_out_of_memory, tell_outside, tell_usage};
+use service::{Invocation, Output, command, report_out_of_memory, report_outside, report_usage};
 use std::alloc::{AllocError, Global};
 use std::env;
 use std::fs::Files;
@@ -75,13 +75,13 @@ fn run<
     let alloc = rt.alloc();
     let words = match env::args(rt) {
         Ok(words) => words,
-        Err(why) => return tell_outside(alloc, err, "the command line", "read", &why),
+        Err(why) => return report_outside(alloc, err, "the command line", "read", &why),
     };
     let Ok(mut words): Result<Vec<String>, _> = words.collect(alloc) else {
-        return tell_out_of_memory(err);
+        return report_out_of_memory(err);
     };
     if put_help_last(alloc, &mut words).is_err() {
-        return tell_out_of_memory(err);
+        return report_out_of_memory(err);
     }
     match command(alloc, words.as_slice()) {
         Ok(Invocation::Create(asked)) => create(rt, &asked, err),
@@ -94,7 +94,7 @@ fn run<
         Ok(Invocation::Peers(asked)) => peers(rt, &asked, err),
         Ok(Invocation::Diff(asked)) => diff(rt, &asked, err),
         Err(error) => {
-            let code = tell_usage(alloc, rt, &error, err);
+            let code = report_usage(alloc, rt, &error, err);
             advise_text(alloc, &error, err);
             code
         }
@@ -105,7 +105,7 @@ fn main(rt: HostRuntime) -> ExitCode {
     let mut err = Output::new(rt.stderr());
     let code = match open_closed_streams(&rt) {
         Ok(()) => run(&rt, &rt, &mut err),
-        Err(why) => tell_outside(rt.alloc(), &mut err, DEV_NULL, "open", &why),
+        Err(why) => report_outside(rt.alloc(), &mut err, DEV_NULL, "open", &why),
     };
     ExitCode::from(code)
 }

@@ -1,7 +1,7 @@
 //! The archive of a folder is opened for a command. If it is in use, the command may wait for it.
 
 use crate::holder::advise_holder;
-use crate::refusals::tell_unopened;
+use crate::refusals::report_unopened;
 use advice::advise;
 use disk_files::{Access, FileError};
 use file_archive::{FileArchive, FileDisks, OpenFault};
@@ -41,7 +41,7 @@ fn within<T: Drop, F: Fn() -> Result<T, OpenFault>>(
 }
 
 /// What was opened. If nothing was, the reason is printed, and which process has the archive if it is in use; the exit status is 1.
-fn tell_closed<T, E: Write>(
+fn report_closed<T, E: Write>(
     rt: &HostRuntime,
     folder: &str,
     opened: Result<T, OpenFault>,
@@ -50,7 +50,7 @@ fn tell_closed<T, E: Write>(
     match opened {
         Ok(opened) => Some(opened),
         Err(fault) => {
-            tell_unopened(rt, folder, fault, err);
+            report_unopened(rt, folder, fault, err);
             if let OpenFault::File(FileError::InUse(_)) = fault {
                 advise_holder(rt, folder, err);
             }
@@ -75,7 +75,7 @@ pub(crate) fn open_disks<E: Write>(
             Err(why) => Err(OpenFault::File(why)),
         },
     );
-    tell_closed(rt, folder, opened, err)
+    report_closed(rt, folder, opened, err)
 }
 
 /// The archive of a folder, for this command alone, within `wait` seconds. If it isn't opened, the reason is printed, and the exit
@@ -87,7 +87,7 @@ pub(crate) fn open<E: Write>(
     err: &mut Output<E>,
 ) -> Option<FileArchive> {
     let opened = within(rt, wait, || file_archive::open(rt.alloc(), rt, folder));
-    tell_closed(rt, folder, opened, err)
+    report_closed(rt, folder, opened, err)
 }
 
 /// What is looked at before an archive is opened.
@@ -133,7 +133,7 @@ pub(crate) fn open_to_read<E: Write>(
 ) -> Option<FileArchive> {
     let opened = within(rt, wait, || open_shared(rt, folder, first));
     let is_refused = matches!(&opened, Err(OpenFault::File(FileError::Failed(_))));
-    let archive = tell_closed(rt, folder, opened, err);
+    let archive = report_closed(rt, folder, opened, err);
     if is_refused && FileDisks::open(rt.alloc(), rt, folder, Access::Shared).is_ok() {
         advise(rt.alloc(), &UNENDED, err);
     }

@@ -3,7 +3,7 @@
 
 use advice::advise;
 use libc::net::listen;
-use service::{Output, tell_outside};
+use service::{Output, report_outside};
 use std::alloc::Global;
 use std::fs::{Files, Permissions};
 use std::io::{ErrorKind, Write};
@@ -81,7 +81,7 @@ pub(crate) fn open<H: Files + Net, E: Write>(
     match bind(host, path) {
         Ok(listener) => Ok(Some(listener)),
         Err(why) => {
-            let code = tell_outside(alloc, err, path, "listen", &why);
+            let code = report_outside(alloc, err, path, "listen", &why);
             if why.kind() == ErrorKind::AddrInUse {
                 advise(alloc, &TAKEN, err);
             }
@@ -103,7 +103,7 @@ pub(crate) fn remove<H: Files, E: Write>(
     };
     match fs::remove_file(host, path) {
         Err(why) if why.kind() != ErrorKind::NotFound => {
-            tell_outside(alloc, err, path, "remove", &why)
+            report_outside(alloc, err, path, "remove", &why)
         }
         _ => 0,
     }

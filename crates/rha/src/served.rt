@@ -6,11 +6,11 @@ ghost use Rattle.board.specs.Opened.{name_of};
 
 use crate::opening::open;
 use crate::operator;
-use crate::refusals::tell_unserved;
+use crate::refusals::report_unserved;
 use board::{Named, Opened};
 use query_threads::{NoGate, Store, Unpromised};
 use server::Port;
-use service::{Output, Serving, tell_listening, tell_out_of_memory, tell_outside};
+use service::{Output, Serving, report_listening, report_out_of_memory, report_outside};
 use serving::{Doors, serve as serve_store};
 use shared_archive::FileStore;
 use std::alloc::Global;
@@ -51,13 +51,13 @@ fn listen<H: Net<Listener = TcpListener, Stream = TcpStream>, E: Write>(
     err: &mut Output<E>,
 ) -> Option<Bound> {
     let Ok(what) = format!(in alloc; "{address}") else {
-        tell_out_of_memory(err);
+        report_out_of_memory(err);
         return None;
     };
     match bind(host, address) {
         Ok(bound) => Some(bound),
         Err(why) => {
-            tell_outside(alloc, err, what.as_str(), "listen", &why);
+            report_outside(alloc, err, what.as_str(), "listen", &why);
             None
         }
     }
@@ -88,7 +88,7 @@ fn announce<E: Write>(
 ) -> u8 {
     let mut out = Output::new(rt.stdout());
     let http = web.as_ref().map(|it| it.place);
-    tell_listening(rt.alloc(), &bound.place, http, &mut out, err)
+    report_listening(rt.alloc(), &bound.place, http, &mut out, err)
 }
 
 /// Serves an archive at its doors, until a client stops the server. Where connections are taken is printed once they are. The socket of
@@ -130,7 +130,7 @@ fn serve_on<
     );
     let code = match ended {
         Ok(()) => code,
-        Err(why) => tell_unserved(why, store.failure(alloc), err),
+        Err(why) => report_unserved(why, store.failure(alloc), err),
     };
     code.max(operator::remove(alloc, host, asked.admin, err))
 }
@@ -154,7 +154,7 @@ fn doors_of<'a>(
     }
 }
 
-/// Serves an archive of so many collectors at the addresses that are asked for, and at the socket of `--admin`.
+/// Serves an archive of this many collectors at the addresses that are asked for, and at the socket of `--admin`.
 fn serve_at<
     H: Threads + Wait + Clock + Files + Net<Listener = TcpListener, Stream = TcpStream> + Sync,
     E: Write,
@@ -180,7 +180,7 @@ fn serve_at<
         Err(code) => return code,
     };
     let Ok(opened) = Opened::new(rt.alloc(), collectors) else {
-        let code = tell_out_of_memory(err);
+        let code = report_out_of_memory(err);
         return code.max(operator::remove(rt.alloc(), host, asked.admin, err));
     };
     let doors = doors_of(&bound, &web, &admin, asked);
@@ -196,7 +196,7 @@ pub(crate) fn serve<
         return 1;
     };
     let Ok(failures) = archive.reasons().failures.clone() else {
-        return tell_out_of_memory(err);
+        return report_out_of_memory(err);
     };
     let archive = archive.into_archive();
     let collectors = archive.collectors();

@@ -1,12 +1,12 @@
 //! The commands that read whole tables. What they are asked for is read before the archive is opened.
 
 use crate::opening::{First, open_to_read};
-use crate::refusals::tell_unanswered;
+use crate::refusals::report_unanswered;
 use advice::{MarkAdvice, advise};
 use archive_calls::RouteArchive;
 use file_archive::FileArchive;
 use route_model::Moment;
-use service::{Comparing, Dumping, Listing, Output, Refusal, tell_out_of_memory, tell_refusal};
+use service::{Comparing, Dumping, Listing, Output, Refusal, report_out_of_memory, report_refusal};
 use std::alloc::Global;
 use std::io::{BufWriter, IsTerminal, Write};
 use tables::{BadArgument, TROUBLE, moment_of, read_comparison, read_listing, read_table};
@@ -24,20 +24,20 @@ fn expected(argument: BadArgument) -> &'static str {
 }
 
 /// Prints that an argument isn't valid, and what is expected. The exit status is 1.
-fn tell_bad<E: Write>(alloc: Global, argument: BadArgument, err: &mut Output<E>) -> u8 {
-    let code = tell_refusal(&Refusal::BadText, err);
+fn report_bad<E: Write>(alloc: Global, argument: BadArgument, err: &mut Output<E>) -> u8 {
+    let code = report_refusal(&Refusal::BadText, err);
     advise(alloc, &expected(argument), err);
     code
 }
 
 /// Prints why a table wasn't read: which call on a file failed, or until when it is settled.
-fn tell_unread<E: Write>(
+fn report_unread<E: Write>(
     alloc: Global,
     archive: &FileArchive,
     moment: Moment,
     err: &mut Output<E>,
 ) {
-    tell_unanswered(alloc, archive, err);
+    report_unanswered(alloc, archive, err);
     let settled = archive.settled();
     if settled.seconds() <= moment.seconds() {
         advise(alloc, &MarkAdvice::Settled(settled), err);
@@ -49,19 +49,19 @@ pub(crate) fn dump<E: Write>(rt: &HostRuntime, asked: &Dumping<'_>, err: &mut Ou
     let alloc = rt.alloc();
     let table = match read_table(asked) {
         Ok(table) => table,
-        Err(argument) => return tell_bad(alloc, argument, err),
+        Err(argument) => return report_bad(alloc, argument, err),
     };
     let Some(mut archive) = open_to_read(rt, asked.folder, asked.wait, First::Nothing, err) else {
         return 1;
     };
     let is_seen = rt.stdout().is_terminal();
     let Ok(buffer) = BufWriter::new(alloc, rt.stdout()) else {
-        return tell_out_of_memory(err);
+        return report_out_of_memory(err);
     };
     let mut out = Output::new(buffer);
     let code = tables::dump(alloc, &mut archive, &table, is_seen, &mut out, err);
     if code != 0 {
-        tell_unread(alloc, &archive, moment_of(&archive, table.at), err);
+        report_unread(alloc, &archive, moment_of(&archive, table.at), err);
     }
     code
 }
@@ -71,20 +71,20 @@ pub(crate) fn peers<E: Write>(rt: &HostRuntime, asked: &Listing<'_>, err: &mut O
     let alloc = rt.alloc();
     let at = match read_listing(asked) {
         Ok(at) => at,
-        Err(argument) => return tell_bad(alloc, argument, err),
+        Err(argument) => return report_bad(alloc, argument, err),
     };
     let Some(mut archive) = open_to_read(rt, asked.folder, asked.wait, First::Nothing, err) else {
         return 1;
     };
     let is_seen = rt.stdout().is_terminal();
     let Ok(buffer) = BufWriter::new(alloc, rt.stdout()) else {
-        return tell_out_of_memory(err);
+        return report_out_of_memory(err);
     };
     let mut out = Output::new(buffer);
     let moment = moment_of(&archive, at);
     let code = tables::peers(alloc, &mut archive, Some(moment), is_seen, &mut out, err);
     if code != 0 {
-        tell_unread(alloc, &archive, moment, err);
+        report_unread(alloc, &archive, moment, err);
     }
     code
 }
@@ -95,7 +95,7 @@ pub(crate) fn diff<E: Write>(rt: &HostRuntime, asked: &Comparing<'_>, err: &mut 
     let comparison = match read_comparison(asked) {
         Ok(comparison) => comparison,
         Err(argument) => {
-            tell_bad(alloc, argument, err);
+            report_bad(alloc, argument, err);
             return TROUBLE;
         }
     };
@@ -104,13 +104,13 @@ pub(crate) fn diff<E: Write>(rt: &HostRuntime, asked: &Comparing<'_>, err: &mut 
     };
     let is_seen = rt.stdout().is_terminal();
     let Ok(buffer) = BufWriter::new(alloc, rt.stdout()) else {
-        tell_out_of_memory(err);
+        report_out_of_memory(err);
         return TROUBLE;
     };
     let mut out = Output::new(buffer);
     let code = tables::diff(alloc, &mut archive, &comparison, is_seen, &mut out, err);
     if code == TROUBLE {
-        tell_unread(alloc, &archive, comparison.from.max(comparison.to), err);
+        report_unread(alloc, &archive, comparison.from.max(comparison.to), err);
     }
     code
 }

@@ -10,7 +10,7 @@ use Rattle.route_meaning.specs.declared.question.EventsQuestion.{EventsQuestion}
 use Rattle.route_meaning.specs.Merged.{Placed}
 use Rattle.version_model.specs.Versions.{Version}
 use Rattle.route_history.specs.Stamps.{last_stamp}
-use Rattle.route_history.specs.Spans.{is_of_two, span_start, span_end, asked, IsEventOf, HasTold, HasToldSo, EventsGoOn}
+use Rattle.route_history.specs.Spans.{is_of_two, span_start, span_end, asked, IsEventOf, HasReported, HasReportedSo, EventsGoOn}
 use Rattle.route_history.specs.declared.events.EventsCursor.{EventsCursor}
 
 none_later : (a b from at last : ℕ) (more : List Version) → at ≤ suc last → AllByRecursion (λ v. last < v.stamp) more → filter (is_of_two a b from at) more ≡ []
@@ -25,9 +25,9 @@ none_later a b from at last (v ∷ more) le all =
     and_out true false = refl
     and_out false d = refl
 
-told_stays : (all new : List Version) (ps qs : List (Placed Admitted)) (q : EventsQuestion) (at : Option ℕ) (left : ℕ) (told : List Event) (more : Bool) → EventsGoOn all new ps qs q → HasTold all ps q at left told more → HasTold new qs q at left told more
-told_stays all new ps qs q None left told more g h = record { first = h.first ∙ ap (take Rattle.route_meaning.specs.Rows.most_rows) g.told; rest = h.rest ∙ ap (λ (l : List Event). Rattle.std.proofs.Common.ltb Rattle.route_meaning.specs.Rows.most_rows (length l)) g.told }
-told_stays all new ps qs q (Some at) left told more g h =
+reported_stays : (all new : List Version) (ps qs : List (Placed Admitted)) (q : EventsQuestion) (at : Option ℕ) (left : ℕ) (reported : List Event) (more : Bool) → EventsGoOn all new ps qs q → HasReported all ps q at left reported more → HasReported new qs q at left reported more
+reported_stays all new ps qs q None left reported more g h = record { first = h.first ∙ ap (take Rattle.route_meaning.specs.Rows.most_rows) g.reported; rest = h.rest ∙ ap (λ (l : List Event). Rattle.std.proofs.Common.ltb Rattle.route_meaning.specs.Rows.most_rows (length l)) g.reported }
+reported_stays all new ps qs q (Some at) left reported more g h =
     let a : ℕ = key_number q.peer q.prefix in
     let b : ℕ = session_number q.peer in
     let high : at < span_end q = h.high in
@@ -35,11 +35,11 @@ told_stays all new ps qs q (Some at) left told more g h =
     record {
       low = h.low;
       high = h.high;
-      are = subst (λ (vs : List Version). AllZip (IsEventOf q.peer q.prefix) (drop q.skip vs) told) (sym same) h.are;
+      are = subst (λ (vs : List Version). AllZip (IsEventOf q.peer q.prefix) (drop q.skip vs) reported) (sym same) h.are;
       left_is = h.left_is ∙ ap (λ (vs : List Version). Rattle.std.proofs.Common.◌-◌ q.skip (length vs)) (sym same);
       few = h.few;
       alone = h.alone;
     }
 
-pub told_goes_on : (all new : List Version) (ps qs : List (Placed Admitted)) (c : EventsCursor) → EventsGoOn all new ps qs c.question → HasToldSo all ps c → HasToldSo new qs c
-told_goes_on all new ps qs c g h = told_stays all new ps qs c.question c.at c.left c.told.items c.more g h
+pub reported_goes_on : (all new : List Version) (ps qs : List (Placed Admitted)) (c : EventsCursor) → EventsGoOn all new ps qs c.question → HasReportedSo all ps c → HasReportedSo new qs c
+reported_goes_on all new ps qs c g h = reported_stays all new ps qs c.question c.at c.left c.reported.items c.more g h

@@ -10,34 +10,34 @@ use Rattle.route_model.specs.declared.change.Change.{Change}
 use Rattle.route_model.specs.declared.change.Change.TheVariants.{Announce, Withdraw, Down}
 use Rattle.route_model.specs.Admission.{Admitted}
 use Rattle.route_model.specs.Prefix.{IpPrefix}
-use Rattle.route_model.specs.Spelling.{SpellsRoute}
+use Rattle.route_model.specs.Encoding.{EncodesRoute}
 use Rattle.route_model.specs.Keys.{key_number, session_number}
 use Rattle.route_model.proofs.Fields.{some_is}
-use Rattle.route_model.proofs.Decoding.{route_spelled}
+use Rattle.route_model.proofs.Decoding.{route_encoded}
 use Rattle.route_meaning.specs.declared.question.Event.{Event}
 use Rattle.route_meaning.specs.declared.question.EventsQuestion.{EventsQuestion}
 use Rattle.route_meaning.specs.Merged.{Placed}
 use Rattle.route_meaning.specs.Rows.{most_rows}
 use Rattle.route_meaning.specs.Events.{all_events, between, events, IsEventsAnswer}
 use Rattle.version_model.specs.Versions.{Version}
-use Rattle.route_history.specs.Spans.{is_of_two, IsChangeOf, IsEventOf, span_start, span_end, asked, TellsEvents, IsTelling, before, stamp_in, AreStamped, event_in}
+use Rattle.route_history.specs.Spans.{is_of_two, IsChangeOf, IsEventOf, span_start, span_end, asked, ReportsEvents, IsReporting, before, stamp_in, AreStamped, event_in}
 use Rattle.version_model.specs.Looks.{IsPart, is_of}
 use Rattle.version_model.specs.Ranges.{end_or}
 use Rattle.route_history.specs.declared.events.Stamped.{Stamped}
 use Rattle.route_meaning.specs.Merged.{by_time}
-use Rattle.route_history.proofs.Stamps.{stamped_told}
+use Rattle.route_history.proofs.Stamps.{stamped_reported}
 use Rattle.route_history.proofs.Parts.{asked_further, parts_merged}
 
 -- ---- a version stands for one event
 
-routes_one : (r s : Route) (octets : List ℕ) → SpellsRoute r octets → SpellsRoute s octets → r ≡ s
-routes_one r s octets ir is = some_is r s (sym (route_spelled r octets ir) ∙ route_spelled s octets is)
+routes_one : (r s : Route) (octets : List ℕ) → EncodesRoute r octets → EncodesRoute s octets → r ≡ s
+routes_one r s octets ir is = some_is r s (sym (route_encoded r octets ir) ∙ route_encoded s octets is)
 
 changes_one : (p : Peer) (x : IpPrefix) (v : Version) (c d : Change) → (key_number p x ≡ session_number p → ⊥) → IsChangeOf p x v c → IsChangeOf p x v d → c ≡ d
 changes_one p x v (Announce q y r) (Announce q' y' r') ne a b =
     let o = a.3 in let o' = b.3 in
     let same : o.0 ≡ o'.0 = same_Some _ _ (sym o.1 ∙ o'.1) in
-    let routes : r ≡ r' = routes_one r r' o'.0 (subst (λ (l : List ℕ). SpellsRoute r l) same o.2) o'.2 in
+    let routes : r ≡ r' = routes_one r r' o'.0 (subst (λ (l : List ℕ). EncodesRoute r l) same o.2) o'.2 in
     λ i. Announce ((a.0 ∙ sym b.0) i) ((a.1 ∙ sym b.1) i) (routes i)
 changes_one p x v (Announce q y r) (Withdraw q' y') ne a b = let o = a.3 in absurd (none-some o.0 (sym b.3 ∙ o.1))
 changes_one p x v (Announce q y r) (Down q') ne a b = absurd (ne (sym a.2 ∙ b.1))
@@ -109,58 +109,58 @@ take_front zero es fs le = refl
 take_front (suc n) [] fs le = absurd (omega arith)
 take_front (suc n) (e ∷ es) fs le = ap (λ l. e ∷ l) (take_front n es fs (omega arith))
 
-module _ (all : List Version) (ps : List (Placed Admitted)) (q : EventsQuestion) (t : TellsEvents all ps q) (ne : key_number q.peer q.prefix ≡ session_number q.peer → ⊥) where
+module _ (all : List Version) (ps : List (Placed Admitted)) (q : EventsQuestion) (t : ReportsEvents all ps q) (ne : key_number q.peer q.prefix ≡ session_number q.peer → ⊥) where
   -- the versions of the two keys from a stamp on and before another
   abbrev pub news_of : ℕ → ℕ → List Version
   news_of at to = filter (is_of_two (key_number q.peer q.prefix) (session_number q.peer) at to) all
 
   -- a round: what is gathered before `at`, and what is new before `to`
-  pub round : (at to left : ℕ) (told news : List Event) (more : Bool) → IsTelling all q at left told more → span_start q ≤ at → at ≤ to → Zips q.peer q.prefix (news_of at to) news
-      → Zips q.peer q.prefix (drop q.skip (asked all q to)) (told ++ drop left news) × (left - length news ≡ q.skip - length (asked all q to))
-  round at to left told news more u low high zips =
+  pub round : (at to left : ℕ) (reported news : List Event) (more : Bool) → IsReporting all q at left reported more → span_start q ≤ at → at ≤ to → Zips q.peer q.prefix (news_of at to) news
+      → Zips q.peer q.prefix (drop q.skip (asked all q to)) (reported ++ drop left news) × (left - length news ≡ q.skip - length (asked all q to))
+  round at to left reported news more u low high zips =
       let further : asked all q to ≡ asked all q at ++ news_of at to = asked_further all (key_number q.peer q.prefix) (session_number q.peer) (span_start q) at to t.rising low high in
       let cut : drop q.skip (asked all q to) ≡ drop q.skip (asked all q at) ++ drop left (news_of at to) = ap (drop q.skip) further ∙ drop_append q.skip (asked all q at) (news_of at to) ∙ ap (λ (n : ℕ). drop q.skip (asked all q at) ++ drop n (news_of at to)) (sym u.left_is) in (
-        subst (λ (vs : List Version). Zips q.peer q.prefix vs (told ++ drop left news)) (sym cut)
-            (zips_append q.peer q.prefix (drop q.skip (asked all q at)) (drop left (news_of at to)) told (drop left news) u.are (zips_drop q.peer q.prefix left (news_of at to) news zips)),
+        subst (λ (vs : List Version). Zips q.peer q.prefix vs (reported ++ drop left news)) (sym cut)
+            (zips_append q.peer q.prefix (drop q.skip (asked all q at)) (drop left (news_of at to)) reported (drop left news) u.are (zips_drop q.peer q.prefix left (news_of at to) news zips)),
         (let e = zips_length q.peer q.prefix (news_of at to) news zips in let f = ap length further ∙ length-append (asked all q at) (news_of at to) in omega (arith, e, f, u.left_is)),
       )
 
   -- the walk goes on
-  pub tells_on : (to left : ℕ) (told : List Event) → span_start q ≤ to → to < span_end q → Zips q.peer q.prefix (drop q.skip (asked all q to)) told → left ≡ q.skip - length (asked all q to) → length told ≤ most_rows → IsTelling all q to left told false
-  tells_on to left told low high zips left_is few = record { low = low; high = high; are = zips; left_is = left_is; few = few; alone = refl }
+  pub reports_on : (to left : ℕ) (reported : List Event) → span_start q ≤ to → to < span_end q → Zips q.peer q.prefix (drop q.skip (asked all q to)) reported → left ≡ q.skip - length (asked all q to) → length reported ≤ most_rows → IsReporting all q to left reported false
+  reports_on to left reported low high zips left_is few = record { low = low; high = high; are = zips; left_is = left_is; few = few; alone = refl }
 
   -- all is gathered
-  pub tells_all : (told : List Event) → Zips q.peer q.prefix (drop q.skip (asked all q (span_end q))) told → length told ≤ most_rows → IsEventsAnswer ps q told false
-  tells_all told zips few =
-      let same : told ≡ events ps q = zips_one q.peer q.prefix ne (drop q.skip (asked all q (span_end q))) told (events ps q) zips (zips_drop q.peer q.prefix q.skip (asked all q (span_end q)) (all_events q.peer q.prefix (between q.from q.to ps)) t.told) in
+  pub reports_all : (reported : List Event) → Zips q.peer q.prefix (drop q.skip (asked all q (span_end q))) reported → length reported ≤ most_rows → IsEventsAnswer ps q reported false
+  reports_all reported zips few =
+      let same : reported ≡ events ps q = zips_one q.peer q.prefix ne (drop q.skip (asked all q (span_end q))) reported (events ps q) zips (zips_drop q.peer q.prefix q.skip (asked all q (span_end q)) (all_events q.peer q.prefix (between q.from q.to ps)) t.reported) in
       record {
-        first = sym (take_whole most_rows told few) ∙ ap (take most_rows) same;
-        rest = sym (le-ltb most_rows (length told) few) ∙ ap (λ (l : List Event). Rattle.std.proofs.Common.ltb most_rows (length l)) same;
+        first = sym (take_whole most_rows reported few) ∙ ap (take most_rows) same;
+        rest = sym (le-ltb most_rows (length reported) few) ∙ ap (λ (l : List Event). Rattle.std.proofs.Common.ltb most_rows (length l)) same;
       }
 
   -- more is gathered than an answer has
-  pub tells_more : (to : ℕ) (told : List Event) → span_start q ≤ to → to ≤ span_end q → Zips q.peer q.prefix (drop q.skip (asked all q to)) told → most_rows < length told → IsEventsAnswer ps q (take most_rows told) true
-  tells_more to told low within zips many =
+  pub reports_more : (to : ℕ) (reported : List Event) → span_start q ≤ to → to ≤ span_end q → Zips q.peer q.prefix (drop q.skip (asked all q to)) reported → most_rows < length reported → IsEventsAnswer ps q (take most_rows reported) true
+  reports_more to reported low within zips many =
       let whole : List Event = all_events q.peer q.prefix (between q.from q.to ps) in
       let further : asked all q (span_end q) ≡ asked all q to ++ news_of to (span_end q) = asked_further all (key_number q.peer q.prefix) (session_number q.peer) (span_start q) to (span_end q) t.rising low within in
-      let parts = zips_split q.peer q.prefix (asked all q to) (news_of to (span_end q)) whole (subst (λ (vs : List Version). Zips q.peer q.prefix vs whole) further t.told) in
-      let same : told ≡ drop q.skip parts.0 = zips_one q.peer q.prefix ne (drop q.skip (asked all q to)) told (drop q.skip parts.0) zips (zips_drop q.peer q.prefix q.skip (asked all q to) parts.0 parts.3) in
+      let parts = zips_split q.peer q.prefix (asked all q to) (news_of to (span_end q)) whole (subst (λ (vs : List Version). Zips q.peer q.prefix vs whole) further t.reported) in
+      let same : reported ≡ drop q.skip parts.0 = zips_one q.peer q.prefix ne (drop q.skip (asked all q to)) reported (drop q.skip parts.0) zips (zips_drop q.peer q.prefix q.skip (asked all q to) parts.0 parts.3) in
       let later : List Event = drop (q.skip - length parts.0) parts.1 in
-      let are : events ps q ≡ told ++ later = ap (drop q.skip) parts.2 ∙ drop_append q.skip parts.0 parts.1 ∙ ap (λ (l : List Event). l ++ later) (sym same) in
+      let are : events ps q ≡ reported ++ later = ap (drop q.skip) parts.2 ∙ drop_append q.skip parts.0 parts.1 ∙ ap (λ (l : List Event). l ++ later) (sym same) in
       record {
-        first = sym (ap (take most_rows) are ∙ take_front most_rows told later (omega (arith, many)));
-        rest = sym (ap (λ (l : List Event). Rattle.std.proofs.Common.ltb most_rows (length l)) are ∙ lt-ltb most_rows (length (told ++ later)) (let e = length-append told later in omega (arith, e, many)));
+        first = sym (ap (take most_rows) are ∙ take_front most_rows reported later (omega (arith, many)));
+        rest = sym (ap (λ (l : List Event). Rattle.std.proofs.Common.ltb most_rows (length l)) are ∙ lt-ltb most_rows (length (reported ++ later)) (let e = length-append reported later in omega (arith, e, many)));
       }
 
   -- what is new, by the parts of both keys
-  pub news_by_parts : (at to : ℕ) (told_a told_b : Option ℕ) (va vb : List Version) (news : List Stamped) → IsPart all (key_number q.peer q.prefix) at va told_a → IsPart all (session_number q.peer) at vb told_b → to ≤ end_or told_a → to ≤ end_or told_b
+  pub news_by_parts : (at to : ℕ) (reported_a reported_b : Option ℕ) (va vb : List Version) (news : List Stamped) → IsPart all (key_number q.peer q.prefix) at va reported_a → IsPart all (session_number q.peer) at vb reported_b → to ≤ end_or reported_a → to ≤ end_or reported_b
       → AreStamped q (by_time stamp_in (filter (before to) va ++ filter (before to) vb)) news → Zips q.peer q.prefix (news_of at to) (map event_in news)
-  news_by_parts at to told_a told_b va vb news a b la lb zips =
+  news_by_parts at to reported_a reported_b va vb news a b la lb zips =
       let e : by_time stamp_in (filter (before to) va ++ filter (before to) vb) ≡ news_of at to =
       ap (λ (l : List Version). by_time stamp_in (filter (before to) l ++ filter (before to) vb)) a.are
-      ∙ ap (λ (l : List Version). by_time stamp_in (filter (before to) (filter (is_of (key_number q.peer q.prefix) at (end_or told_a)) all) ++ filter (before to) l)) b.are
-      ∙ parts_merged all (key_number q.peer q.prefix) (session_number q.peer) at (end_or told_a) (end_or told_b) to t.rising ne la lb in
-      stamped_told q (news_of at to) news (subst (λ (l : List Version). AreStamped q l news) e zips)
+      ∙ ap (λ (l : List Version). by_time stamp_in (filter (before to) (filter (is_of (key_number q.peer q.prefix) at (end_or reported_a)) all) ++ filter (before to) l)) b.are
+      ∙ parts_merged all (key_number q.peer q.prefix) (session_number q.peer) at (end_or reported_a) (end_or reported_b) to t.rising ne la lb in
+      stamped_reported q (news_of at to) news (subst (λ (l : List Version). AreStamped q l news) e zips)
 
   -- before the first stamp of the span there is nothing
   none_before : (at : ℕ) → at ≤ span_start q → asked all q at ≡ []
@@ -190,10 +190,10 @@ module _ (all : List Version) (ps : List (Placed Admitted)) (q : EventsQuestion)
   drop_none (suc n) = refl
 
   -- a walk begins
-  pub begins : (told : List Event) → told ≡ [] → span_start q < span_end q → IsTelling all q (span_start q) q.skip told false
-  begins told e lt =
+  pub begins : (reported : List Event) → reported ≡ [] → span_start q < span_end q → IsReporting all q (span_start q) q.skip reported false
+  begins reported e lt =
       let none = none_before (span_start q) (omega arith) in
-      subst (λ (l : List Event). IsTelling all q (span_start q) q.skip l false) (sym e) (record {
+      subst (λ (l : List Event). IsReporting all q (span_start q) q.skip l false) (sym e) (record {
         low = omega arith;
         high = lt;
         are = subst (λ (vs : List Version). Zips q.peer q.prefix vs []) (sym (ap (drop q.skip) none ∙ drop_none q.skip)) tt;
@@ -203,5 +203,5 @@ module _ (all : List Version) (ps : List (Placed Admitted)) (q : EventsQuestion)
       })
 
   -- a span that is empty
-  pub nothing : (told : List Event) → told ≡ [] → span_end q ≤ span_start q → IsEventsAnswer ps q told false
-  nothing told e le = subst (λ (l : List Event). IsEventsAnswer ps q l false) (sym e) (tells_all [] (subst (λ (vs : List Version). Zips q.peer q.prefix vs []) (sym (ap (drop q.skip) (none_before (span_end q) le) ∙ drop_none q.skip)) tt) (omega arith))
+  pub nothing : (reported : List Event) → reported ≡ [] → span_end q ≤ span_start q → IsEventsAnswer ps q reported false
+  nothing reported e le = subst (λ (l : List Event). IsEventsAnswer ps q l false) (sym e) (reports_all [] (subst (λ (vs : List Version). Zips q.peer q.prefix vs []) (sym (ap (drop q.skip) (none_before (span_end q) le) ∙ drop_none q.skip)) tt) (omega arith))

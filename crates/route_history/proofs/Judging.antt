@@ -10,10 +10,10 @@ use Rattle.route_model.specs.declared.change.Change.{Change}
 use Rattle.route_model.specs.declared.change.Change.TheVariants.{Announce, Withdraw, Down}
 use Rattle.route_model.specs.Admission.{Admitted, IsChange}
 use Rattle.route_model.specs.Prefix.{IpPrefix, IsPrefix}
-use Rattle.route_model.specs.Spelling.{IsPeer, SpellsRoute}
+use Rattle.route_model.specs.Encoding.{IsPeer, EncodesRoute}
 use Rattle.route_model.specs.Keys.{key_number, session_number}
 use Rattle.route_model.proofs.Fields.{some_is}
-use Rattle.route_model.proofs.Decoding.{route_spelled}
+use Rattle.route_model.proofs.Decoding.{route_encoded}
 use Rattle.route_meaning.specs.Merged.{Placed, IsRising}
 use Rattle.route_meaning.specs.Holds.{time_of, same_peer, same_prefix, until, changes_of, Holds}
 use Rattle.route_meaning.specs.inner.Replay.{after_change, route_after}
@@ -22,13 +22,13 @@ use Rattle.route_meaning.proofs.api.There.{rows_there}
 use Rattle.version_model.specs.Versions.{Version, Found, found_version, Answers}
 use Rattle.route_history.specs.Stamps.{stamp_of, last_stamp}
 use Rattle.route_history.specs.Kept.{Timed, at_time, timed, key_of, HasValue, IsVersion, AreVersions, Kept}
-use Rattle.route_history.specs.Walks.{counts, stamp_of_found, Tells}
+use Rattle.route_history.specs.Walks.{counts, stamp_of_found, Reports}
 use Rattle.route_history.proofs.KeysApart.{prefix-prefix, session-session, session-prefix, prefix-session}
 use Rattle.route_history.proofs.Latest.{RisesFrom, stamp-leb, times_timed, rises_from, counts_at, latest, as_of_latest, latest_as_of}
 
 -- one encoding is of one route
-pub routes_one : (r s : Route) (octets : List ℕ) → SpellsRoute r octets → SpellsRoute s octets → r ≡ s
-routes_one r s octets ir is = some_is r s (sym (route_spelled r octets ir) ∙ route_spelled s octets is)
+pub routes_one : (r s : Route) (octets : List ℕ) → EncodesRoute r octets → EncodesRoute s octets → r ≡ s
+routes_one r s octets ir is = some_is r s (sym (route_encoded r octets ir) ∙ route_encoded s octets is)
 
 -- ---- two walks and the changes
 
@@ -51,7 +51,7 @@ abbrev Says : Option Route → Option (List ℕ) → Type 0
 Says None None = Unit {0}
 Says None (Some octets) = ⊥
 Says (Some route) None = ⊥
-Says (Some route) (Some octets) = SpellsRoute route octets
+Says (Some route) (Some octets) = EncodesRoute route octets
 
 -- a version that is later than both decides
 decided_new : (v : Version) (d : Option Version) → IsOlder v.stamp d → decided (Some v) d ≡ v.value
@@ -137,14 +137,14 @@ module _ (peer : Peer) (prefix : IpPrefix) (moment : ℕ) (hp : IsPeer peer) (hx
   abbrev pub in_time_of : List Timed → List Change
   in_time_of xs = map (λ x. x.change) (filter (λ x. leb x.time moment) xs)
 
-  pub walks_tell : (n m : ℕ) (xs : List Timed) (vs : List Version) (r : Option Route) (a b : Option Version) → AreVersions n xs vs → RisesFrom m vs → IsOlder m a → IsOlder m b → Says r (decided a b) → Says (route_after peer prefix r (in_time_of xs)) (decided (route_walk a vs) (session_walk b vs))
-  walks_tell n m [] [] r a b k rises older_a older_b e = e
-  walks_tell n m [] (v ∷ vs) r a b k rises older_a older_b e = absurd k
-  walks_tell n m (x ∷ xs) [] r a b k rises older_a older_b e = absurd k
-  walks_tell n m (x ∷ xs) (v ∷ vs) r a b k rises older_a older_b e =
+  pub walks_report : (n m : ℕ) (xs : List Timed) (vs : List Version) (r : Option Route) (a b : Option Version) → AreVersions n xs vs → RisesFrom m vs → IsOlder m a → IsOlder m b → Says r (decided a b) → Says (route_after peer prefix r (in_time_of xs)) (decided (route_walk a vs) (session_walk b vs))
+  walks_report n m [] [] r a b k rises older_a older_b e = e
+  walks_report n m [] (v ∷ vs) r a b k rises older_a older_b e = absurd k
+  walks_report n m (x ∷ xs) [] r a b k rises older_a older_b e = absurd k
+  walks_report n m (x ∷ xs) (v ∷ vs) r a b k rises older_a older_b e =
       let le : m ≤ v.stamp = rises.0 in
       subst (λ (o : Option Route). Says o (decided (route_walk a (v ∷ vs)) (session_walk b (v ∷ vs)))) (sym (step_on (leb x.time moment) refl))
-      (walks_tell (suc n) (suc v.stamp) xs vs (cond (leb x.time moment) (after_change peer prefix r x.change) r) (taken_in (key_number peer prefix) v a) (taken_in (session_number peer) v b) k.1 rises.1
+      (walks_report (suc n) (suc v.stamp) xs vs (cond (leb x.time moment) (after_change peer prefix r x.change) r) (taken_in (key_number peer prefix) v a) (taken_in (session_number peer) v b) k.1 rises.1
       (older_taken (key_number peer prefix) m v a le older_a) (older_taken (session_number peer) m v b le older_b)
       (one n x v r a b k.0 (older_more m v.stamp a le older_a) (older_more m v.stamp b le older_b) e))
     where
@@ -229,8 +229,8 @@ module _ (ps : List (Placed Admitted)) (versions : List Version) (moment : ℕ) 
   abbrev R : Option Route
   R = route_after peer prefix None (changes_of (until moment ps))
 
-  told : Says R (decided A B)
-  told = subst (λ (l : List Change). Says (route_after peer prefix None l) (decided A B)) (timely_timed moment ps) (walks_tell peer prefix moment hp hx 0 (stamp_of 0 0) (timed ps) versions None None None kept rises tt tt tt)
+  reported : Says R (decided A B)
+  reported = subst (λ (l : List Change). Says (route_after peer prefix None l) (decided A B)) (timely_timed moment ps) (walks_report peer prefix moment hp hx 0 (stamp_of 0 0) (timed ps) versions None None None kept rises tt tt tt)
 
   walk_none : (key : ℕ) → Answers versions key (last_stamp moment) None → (v : Version) → latest key (last_stamp moment) None versions ≡ Some v → v.value ≡ None
   walk_none key a v e = a v (latest_as_of key (last_stamp moment) (stamp_of 0 0) v versions rises e)
@@ -248,28 +248,28 @@ module _ (ps : List (Placed Admitted)) (versions : List Version) (moment : ℕ) 
   judges f None a b = rw (walk_some (key_number peer prefix) f a, session_none b) refl
   judges f (Some d) a b = rw (walk_some (key_number peer prefix) f a, walk_some (session_number peer) d b) refl
 
-  says_route : (o : Option Route) (route : Route) (octets : List ℕ) → Says o (Some octets) → SpellsRoute route octets → o ≡ Some route
-  says_route None route octets s spells = absurd s
-  says_route (Some r) route octets s spells = ap Some (routes_one r route octets s spells)
+  says_route : (o : Option Route) (route : Route) (octets : List ℕ) → Says o (Some octets) → EncodesRoute route octets → o ≡ Some route
+  says_route None route octets s encodes = absurd s
+  says_route (Some r) route octets s encodes = ap Some (routes_one r route octets s encodes)
 
-  by_counting : (c : Bool) (found : Found) (route : Route) → Says (Some route) (cond c (Some found.value) None) → (c ≡ true) × SpellsRoute route found.value
+  by_counting : (c : Bool) (found : Found) (route : Route) → Says (Some route) (cond c (Some found.value) None) → (c ≡ true) × EncodesRoute route found.value
   by_counting true found route s = (refl, s)
   by_counting false found route s = absurd s
 
-  pub tells : (found : Found) (ended : Option Found) (route : Route) → Answers versions (key_number peer prefix) (last_stamp moment) (Some found) → Answers versions (session_number peer) (last_stamp moment) ended → Holds ps moment peer prefix route ↔ ((counts (stamp_of_found ended) found.stamp ≡ true) × SpellsRoute route found.value)
-  tells found ended route a b = (
+  pub reports : (found : Found) (ended : Option Found) (route : Route) → Answers versions (key_number peer prefix) (last_stamp moment) (Some found) → Answers versions (session_number peer) (last_stamp moment) ended → Holds ps moment peer prefix route ↔ ((counts (stamp_of_found ended) found.stamp ≡ true) × EncodesRoute route found.value)
+  reports found ended route a b = (
     λ h. by_counting (counts (stamp_of_found ended) found.stamp) found route
-        (subst (Says (Some route)) (judges found ended a b) (subst (λ (o : Option Route). Says o (decided A B)) (Holds-after ps moment peer prefix route h) told)),
+        (subst (Says (Some route)) (judges found ended a b) (subst (λ (o : Option Route). Says o (decided A B)) (Holds-after ps moment peer prefix route h) reported)),
     λ e. (
         let is : decided A B ≡ Some found.value = judges found ended a b ∙ ap (λ (c : Bool). cond {A = Option (List ℕ)} c (Some found.value) None) e.0 in
-        after-Holds ps moment peer prefix route (says_route R route found.value (subst (Says R) is told) e.1)),
+        after-Holds ps moment peer prefix route (says_route R route found.value (subst (Says R) is reported) e.1)),
   )
 
   -- a route that holds has a value at its key
   pub holds_has_value : (route : Route) → Holds ps moment peer prefix route → Answers versions (key_number peer prefix) (last_stamp moment) None → ⊥
   holds_has_value route h a =
       let nothing : decided A B ≡ None = decided_nothing A B (walk_none (key_number peer prefix) a) in
-      subst (Says (Some route)) nothing (subst (λ (o : Option Route). Says o (decided A B)) (Holds-after ps moment peer prefix route h) told)
+      subst (Says (Some route)) nothing (subst (λ (o : Option Route). Says o (decided A B)) (Holds-after ps moment peer prefix route h) reported)
 
 -- ---- what is applied fits its keys
 
@@ -307,10 +307,10 @@ holds_fits ps versions moment peer prefix route kept h =
     (is.0, is.1)
 
 -- what follows of each moment
-pub kept_tells : (ps : List (Placed Admitted)) (versions : List Version) (moment : ℕ) → IsRising time_of ps → Kept ps versions → Tells versions ps moment
-kept_tells ps versions moment timely kept = record {
+pub kept_reports : (ps : List (Placed Admitted)) (versions : List Version) (moment : ℕ) → IsRising time_of ps → Kept ps versions → Reports versions ps moment
+kept_reports ps versions moment timely kept = record {
   fits = λ p x route h. holds_fits ps versions moment p x route kept h;
   listed = λ select low. rows_there ps moment select low None (kept_valid ps versions kept);
   has_value = λ p x route h a. (let fits = holds_fits ps versions moment p x route kept h in holds_has_value ps versions moment p x timely kept fits.0 fits.1 route h a);
-  law = λ p x found ended route hp hx a b. tells ps versions moment p x timely kept hp hx found ended route a b;
+  law = λ p x found ended route hp hx a b. reports ps versions moment p x timely kept hp hx found ended route a b;
 }

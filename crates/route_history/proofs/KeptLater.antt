@@ -10,7 +10,7 @@ use Rattle.route_model.specs.declared.change.Change.{Change}
 use Rattle.route_model.specs.declared.change.Change.TheVariants.{Announce, Withdraw, Down}
 use Rattle.route_model.specs.Admission.{Admitted, IsChange}
 use Rattle.route_model.specs.Prefix.{IpPrefix, IsPrefix}
-use Rattle.route_model.specs.Spelling.{IsPeer}
+use Rattle.route_model.specs.Encoding.{IsPeer}
 use Rattle.route_model.specs.Keys.{key_number, session_number}
 use Rattle.route_meaning.specs.declared.question.Event.{Event}
 use Rattle.route_meaning.specs.declared.question.EventsQuestion.{EventsQuestion}
@@ -23,13 +23,13 @@ use Rattle.version_model.specs.Versions.{Version}
 use Rattle.route_history.specs.Stamps.{orders, stamp_of, last_stamp}
 use Rattle.route_history.specs.Kept.{Timed, timed, key_of, HasValue, IsVersion, AreVersions, Kept}
 use Rattle.route_history.specs.Walks.{Gathered, IsSameVersion}
-use Rattle.route_history.specs.Spans.{is_of_two, span_start, asked, IsChangeOf, IsEventOf, HasTold, HasToldSo}
+use Rattle.route_history.specs.Spans.{is_of_two, span_start, asked, IsChangeOf, IsEventOf, HasReported, HasReportedSo}
 use Rattle.route_history.specs.declared.rows.RowsCursor.{RowsCursor}
 use Rattle.route_history.specs.declared.events.EventsCursor.{EventsCursor}
 use Rattle.route_history.proofs.KeysApart.{prefix-session}
 use Rattle.route_history.proofs.SameStamps.{gathered_alike}
 use Rattle.route_history.proofs.Starting.{gathered_goes_on}
-use Rattle.route_history.proofs.GoingOn.{told_goes_on}
+use Rattle.route_history.proofs.GoingOn.{reported_goes_on}
 use Rattle.route_history.proofs.AppliedLater.{timed_grows, until-applied, later_times}
 
 -- ---- the versions of some changes and of later ones
@@ -105,7 +105,7 @@ module _ (p : Peer) (x : IpPrefix) (hp : IsPeer p) (hx : IsPrefix x) where
   no_down q hq e = false≢true (sym (prefix-session p q x hp hq hx) ∙ eq-eqb _ _ e)
 
   same_value : (c : Change) (v w : Option (List ℕ)) → IsChange c → key_of c ≡ key_number p x → HasValue c v → HasValue c w → w ≡ v
-  same_value (Announce q y r) v w is k hv hw = hw.1 ∙ (ap (λ (o : List ℕ). Some o) (hw.2.spelled ∙ sym hv.2.spelled) ∙ sym hv.1)
+  same_value (Announce q y r) v w is k hv hw = hw.1 ∙ (ap (λ (o : List ℕ). Some o) (hw.2.encoded ∙ sym hv.2.encoded) ∙ sym hv.1)
   same_value (Withdraw q y) v w is k hv hw = hw ∙ sym hv
   same_value (Down q) v w is k hv hw = absurd (no_down q is (sym k))
 
@@ -121,10 +121,10 @@ module _ (p : Peer) (x : IpPrefix) (hp : IsPeer p) (hx : IsPrefix x) where
   event_of : (e : Event) (v w : Version) → AreTwins v w → IsEventOf p x v e → IsEventOf p x w e
   event_of e v w a h = record { time = h.time ∙ ap (λ (n : ℕ). Rattle.std.proofs.Common.◌/◌ n (2 ^ 64)) (a.one.stamp ∙ sym a.other.stamp); change = change_of e.change v w a h.change }
 
-  events_of : (vs ws : List Version) (told : List Event) → AllZip AreTwins vs ws → AllZip (IsEventOf p x) vs told → AllZip (IsEventOf p x) ws told
-  events_of [] [] told a h = h
-  events_of [] (w ∷ ws) told a h = absurd a
-  events_of (v ∷ vs) [] told a h = absurd a
+  events_of : (vs ws : List Version) (reported : List Event) → AllZip AreTwins vs ws → AllZip (IsEventOf p x) vs reported → AllZip (IsEventOf p x) ws reported
+  events_of [] [] reported a h = h
+  events_of [] (w ∷ ws) reported a h = absurd a
+  events_of (v ∷ vs) [] reported a h = absurd a
   events_of (v ∷ vs) (w ∷ ws) [] a h = absurd h
   events_of (v ∷ vs) (w ∷ ws) (e ∷ es) a h = (event_of e v w a.0 h.0, events_of vs ws es a.1 h.1)
 
@@ -154,16 +154,16 @@ length_twins [] (w ∷ ws) a = absurd a
 length_twins (v ∷ vs) [] a = absurd a
 length_twins (v ∷ vs) (w ∷ ws) a = ap suc (length_twins vs ws a.1)
 
-told_alike : (vs ws : List Version) (ps : List (Placed Admitted)) (q : EventsQuestion) (at : Option ℕ) (left : ℕ) (told : List Event) (more : Bool) → IsPeer q.peer → IsPrefix q.prefix → AllZip AreTwins vs ws → HasTold vs ps q at left told more → HasTold ws ps q at left told more
-told_alike vs ws ps q None left told more hp hx a h = h
-told_alike vs ws ps q (Some at) left told more hp hx a h =
+reported_alike : (vs ws : List Version) (ps : List (Placed Admitted)) (q : EventsQuestion) (at : Option ℕ) (left : ℕ) (reported : List Event) (more : Bool) → IsPeer q.peer → IsPrefix q.prefix → AllZip AreTwins vs ws → HasReported vs ps q at left reported more → HasReported ws ps q at left reported more
+reported_alike vs ws ps q None left reported more hp hx a h = h
+reported_alike vs ws ps q (Some at) left reported more hp hx a h =
     let k = key_number q.peer q.prefix in
     let l = session_number q.peer in
     let of_both = filter_twins k l (span_start q) at vs ws a in
     record {
       low = h.low;
       high = h.high;
-      are = events_of q.peer q.prefix hp hx (drop q.skip (asked vs q at)) (drop q.skip (asked ws q at)) told (drop_twins q.skip (asked vs q at) (asked ws q at) of_both) h.are;
+      are = events_of q.peer q.prefix hp hx (drop q.skip (asked vs q at)) (drop q.skip (asked ws q at)) reported (drop_twins q.skip (asked vs q at) (asked ws q at) of_both) h.are;
       left_is = h.left_is ∙ ap (λ (n : ℕ). q.skip - n) (length_twins (asked vs q at) (asked ws q at) of_both);
       few = h.few;
       alone = h.alone;
@@ -185,16 +185,16 @@ rows_go_on h g all new c is on b lt kept later gathered =
       holds = λ p x route. (Holds-until (applied h) (applied g) moment p x route same, Holds-until (applied g) (applied h) moment p x route (sym same));
     }) alike
 
-pub events_go_on : (h g : History) (all new : List Version) (c : EventsCursor) → IsHistory h → IsHistory g → Begins h g → c.question.to < settled h → IsPeer c.question.peer → IsPrefix c.question.prefix → Kept (applied h) all → Kept (applied g) new → HasToldSo all (applied h) c → HasToldSo new (applied g) c
-events_go_on h g all new c is on b lt hp hx kept later told =
+pub events_go_on : (h g : History) (all new : List Version) (c : EventsCursor) → IsHistory h → IsHistory g → Begins h g → c.question.to < settled h → IsPeer c.question.peer → IsPrefix c.question.prefix → Kept (applied h) all → Kept (applied g) new → HasReportedSo all (applied h) c → HasReportedSo new (applied g) c
+events_go_on h g all new c is on b lt hp hx kept later reported =
     let q = c.question in
     let s = timed_grows h g is b in
     let parts = split 0 (timed (applied h)) s.more new (subst (λ (ts : List Timed). AreVersions 0 ts new) s.is later) in
     let same = until-applied h g q.to is on b lt in
-    let alike = told_alike all parts.first (applied h) q c.at c.left c.told.items c.more hp hx (twins 0 (timed (applied h)) all parts.first kept parts.firsts) told in
-    told_goes_on parts.first new (applied h) (applied g) c (record {
+    let alike = reported_alike all parts.first (applied h) q c.at c.left c.reported.items c.more hp hx (twins 0 (timed (applied h)) all parts.first kept parts.firsts) reported in
+    reported_goes_on parts.first new (applied h) (applied g) c (record {
       more = parts.rest;
       added = parts.is;
       later = late_stamps q.to parts.m s.more parts.rest (later_times h g q.to is on b lt s) parts.rests;
-      told = ap (λ (l : List (Placed Admitted)). drop q.skip (all_events q.peer q.prefix (filter (λ p. leb q.from (time_of p)) l))) same;
+      reported = ap (λ (l : List (Placed Admitted)). drop q.skip (all_events q.peer q.prefix (filter (λ p. leb q.from (time_of p)) l))) same;
     }) alike

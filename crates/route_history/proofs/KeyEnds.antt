@@ -10,7 +10,7 @@ use Rattle.route_model.specs.Address.{family, wide}
 use Rattle.route_model.specs.Admission.{IsChange}
 use Rattle.route_model.specs.Octets.{AreOctets}
 use Rattle.route_model.specs.Prefix.{IpPrefix, IsPrefix}
-use Rattle.route_model.specs.Spelling.{IsPeer, peer_octets}
+use Rattle.route_model.specs.Encoding.{IsPeer, peer_octets}
 use Rattle.route_model.specs.Keys.{number_of, key_number}
 use Rattle.route_model.proofs.api.KeyNumbers.{number_lt}
 use Rattle.route_model.proofs.api.Keys.{IsTail, zeros_tail, ending_tail, prefix_key-parts, key_size, key_octets_fit}

@@ -26,9 +26,9 @@ same_entries key [] a = refl
 same_entries key (e ∷ es) a = λ i. same_entry key e a.0 i ∷ same_entries key es a.1 i
 
 -- they are of that key
-pub part_at : (all : List Version) (key from : ℕ) (es : List Entry) (told : Option ℕ) → IsPart all key from (versions_of es) told → IsPart all key from (map (version_at key) es) told
-part_at all key from es told h =
-    let keys : AllByRecursion (λ v. v.key ≡ key) (versions_of es) = subst (AllByRecursion (λ v. v.key ≡ key)) (sym h.are) (all_of_key key from (end_or told) all) in
+pub part_at : (all : List Version) (key from : ℕ) (es : List Entry) (reported : Option ℕ) → IsPart all key from (versions_of es) reported → IsPart all key from (map (version_at key) es) reported
+part_at all key from es reported h =
+    let keys : AllByRecursion (λ v. v.key ≡ key) (versions_of es) = subst (AllByRecursion (λ v. v.key ≡ key)) (sym h.are) (all_of_key key from (end_or reported) all) in
     record { above = h.above; are = same_entries key es keys ∙ h.are }
 
 fewer : (P : Version → Type 0) (p q : Version → Bool) (all : List Version) → ((v : Version) → p v ≡ true → q v ≡ true) → AllByRecursion P (filter q all) → AllByRecursion P (filter p all)
@@ -53,8 +53,8 @@ or_right true b e = refl
 or_right false b e = e
 
 -- what holds of all versions of two keys holds of a part of each
-pub all_first : (P : Version → Type 0) (all : List Version) (a b from : ℕ) (vs : List Version) (told : Option ℕ) → IsPart all a from vs told → AllByRecursion P (filter (is_at a b) all) → AllByRecursion P vs
-all_first P all a b from vs told h each = subst (AllByRecursion P) (sym h.are) (fewer P (is_of a from (end_or told)) (is_at a b) all (λ v e. or_left _ (eqb v.key b) (both _ _ e).0) each)
+pub all_first : (P : Version → Type 0) (all : List Version) (a b from : ℕ) (vs : List Version) (reported : Option ℕ) → IsPart all a from vs reported → AllByRecursion P (filter (is_at a b) all) → AllByRecursion P vs
+all_first P all a b from vs reported h each = subst (AllByRecursion P) (sym h.are) (fewer P (is_of a from (end_or reported)) (is_at a b) all (λ v e. or_left _ (eqb v.key b) (both _ _ e).0) each)
 
-pub all_second : (P : Version → Type 0) (all : List Version) (a b from : ℕ) (vs : List Version) (told : Option ℕ) → IsPart all b from vs told → AllByRecursion P (filter (is_at a b) all) → AllByRecursion P vs
-all_second P all a b from vs told h each = subst (AllByRecursion P) (sym h.are) (fewer P (is_of b from (end_or told)) (is_at a b) all (λ v e. or_right (eqb v.key a) _ (both _ _ e).0) each)
+pub all_second : (P : Version → Type 0) (all : List Version) (a b from : ℕ) (vs : List Version) (reported : Option ℕ) → IsPart all b from vs reported → AllByRecursion P (filter (is_at a b) all) → AllByRecursion P vs
+all_second P all a b from vs reported h each = subst (AllByRecursion P) (sym h.are) (fewer P (is_of b from (end_or reported)) (is_at a b) all (λ v e. or_right (eqb v.key a) _ (both _ _ e).0) each)

@@ -6,7 +6,7 @@ use Rattle.route_model.specs.declared.peer.Peer.{Peer}
 use Rattle.route_model.specs.declared.key.KeyParts.{KeyParts}
 use Rattle.route_model.specs.declared.key.KeyParts.TheVariants.{Session, Prefix as OfPrefix}
 use Rattle.route_model.specs.Prefix.{IpPrefix, IsPrefix}
-use Rattle.route_model.specs.Spelling.{IsPeer}
+use Rattle.route_model.specs.Encoding.{IsPeer}
 use Rattle.route_model.specs.Keys.{key_number, session_number, key_of, key_octets, IsKeyParts}
 use Rattle.route_model.specs.inner.Codec.Admissions.{parts_at}
 use Rattle.route_model.proofs.api.Keys.{key_list, key_octets_are, parts_again}

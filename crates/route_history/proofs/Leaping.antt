@@ -6,7 +6,7 @@ use Rattle.route_model.specs.Prefix.{IpPrefix, IsPrefix, cleared, cleared_addres
 use Rattle.route_model.specs.Address.{octets}
 use Rattle.route_model.specs.declared.address.Address.{Address}
 use Rattle.route_model.specs.declared.address.Address.TheVariants.{V4, V6}
-use Rattle.route_model.specs.Spelling.{IsPeer}
+use Rattle.route_model.specs.Encoding.{IsPeer}
 use Rattle.route_model.specs.Keys.{key_number, session_number}
 use Rattle.route_model.proofs.api.Keys.{session_below}
 use Rattle.route_meaning.specs.declared.question.Spot.{Spot}
@@ -64,8 +64,8 @@ module _ (q : RowsQuestion) where
   joins_leap a b (Some c) f g = joins a b c f g
 
   -- past the spot after which rows are asked for
-  pub behind_spot : (spot : Spot) (at : ℕ) → q.after ≡ Some spot → first_key (spot_number spot) < at → at ≤ spot_number spot → LeapsTo q at (suc (spot_number spot))
-  behind_spot spot at e low high = (
+  pub after_spot : (spot : Spot) (at : ℕ) → q.after ≡ Some spot → first_key (spot_number spot) < at → at ≤ spot_number spot → LeapsTo q at (suc (spot_number spot))
+  after_spot spot at e low high = (
     omega arith,
     λ p x hp hx selected above from below. (let above' : spot_number spot < key_number p x = subst (λ (o : Option Spot). IsAbove o (key_number p x)) e above in absurd (omega (arith, above', below))),
     elim (cases_lt (first_key (suc (spot_number spot))) (suc (spot_number spot))) [
@@ -86,8 +86,8 @@ module _ (q : RowsQuestion) where
   )
 
   -- past all keys of that peer
-  pub behind_peer : (peer : Peer) (at : ℕ) → ((p : Peer) (x : IpPrefix) → Selects q.select p x → p ≡ peer) → last_key (session_number peer) < at → RowlessFrom q at
-  behind_peer peer at only lt p x hp hx selected above from =
+  pub after_peer : (peer : Peer) (at : ℕ) → ((p : Peer) (x : IpPrefix) → Selects q.select p x → p ≡ peer) → last_key (session_number peer) < at → RowlessFrom q at
+  after_peer peer at only lt p x hp hx selected above from =
       let is = key_is p x hx in
       let fits = tail_fits x hx in
       let same : session_number p ≡ session_number peer = ap session_number (only p x selected) in
@@ -107,8 +107,8 @@ module _ (q : RowsQuestion) where
         inr (sym same, omega (arith, same, first, low)),
       )
 
-  pub behind_only : (peer : Peer) (prefix : IpPrefix) (at : ℕ) → ((p : Peer) (x : IpPrefix) → Selects q.select p x → (p ≡ peer) × (x ≡ prefix)) → key_number peer prefix < at → RowlessFrom q at
-  behind_only peer prefix at only lt p x hp hx selected above from =
+  pub after_only : (peer : Peer) (prefix : IpPrefix) (at : ℕ) → ((p : Peer) (x : IpPrefix) → Selects q.select p x → (p ≡ peer) × (x ≡ prefix)) → key_number peer prefix < at → RowlessFrom q at
+  after_only peer prefix at only lt p x hp hx selected above from =
       let e = only p x selected in
       let is : key_number p x ≡ key_number peer prefix = λ i. key_number (e.0 i) (e.1 i) in
       absurd (omega (arith, is, lt, from))

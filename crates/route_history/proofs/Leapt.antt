@@ -10,11 +10,11 @@ use Rattle.version_model.specs.Versions.{Version}
 use Rattle.route_history.specs.declared.front.Front.{Front}
 use Rattle.route_history.specs.declared.rows.RowsCursor.{RowsCursor}
 use Rattle.route_history.specs.Fronts.{number_at, front_number}
-use Rattle.route_history.specs.Walks.{Tells, IsUnderWay, IsGathered, Gathered, Rose, NotBack, IsWithin, left_of, IsSame, HasLeapt, Leaps}
+use Rattle.route_history.specs.Walks.{Reports, IsUnderWay, IsGathered, Gathered, Rose, NotBack, IsWithin, left_of, IsSame, HasLeapt, Leaps}
 use Rattle.version_model.specs.Blocks.{BlockNode}
 use Rattle.route_history.specs.declared.rows_turn.RowsTurn.{RowsTurn}
 use Rattle.route_history.specs.declared.rows_turn.RowsTurn.TheVariants.{Done, Again, Historical}
-use Rattle.route_history.specs.RowTurns.{IsTurn, IsTold}
+use Rattle.route_history.specs.RowTurns.{IsTurn, IsReported}
 use Rattle.route_history.proofs.Taking.{takes_leap, takes_over}
 
 pub has_leapt : (c : RowsCursor) (front : Front) (result : Option Front) → c.front ≡ Some front → Leaps c.question (number_at front) (front_number result) → HasLeapt c (record { question = c.question; front = result; ended = c.ended; rows = c.rows; more = c.more }) result
@@ -29,7 +29,7 @@ gathered_as all ps q q' f f' ended ended' rows rows' more more' a b c d e g =
     (subst (λ (x : List Row). IsGathered all ps q f ended x more') (sym d)
     (subst (λ (x : Bool). IsGathered all ps q f ended rows x) (sym e) g))))
 
-module _ (all : List Version) (ps : List (Placed Admitted)) (c d : RowsCursor) (t : Tells all ps c.question.moment) (g : Gathered all ps c) where
+module _ (all : List Version) (ps : List (Placed Admitted)) (c d : RowsCursor) (t : Reports all ps c.question.moment) (g : Gathered all ps c) where
   -- at a front of the cursor
   at_front : (at : ℕ) → front_number c.front ≡ Some at → IsUnderWay all ps c.question at c.ended c.rows.items c.more
   at_front at e = subst (λ (f : Option ℕ). IsGathered all ps c.question f c.ended c.rows.items c.more) e g
@@ -68,13 +68,13 @@ pub under_front : (all : List Version) (ps : List (Placed Admitted)) (c : RowsCu
 under_front all ps c front e g = subst (λ (f : Option ℕ). IsGathered all ps c.question f c.ended c.rows.items c.more) (ap front_number e) g
 
 -- what the cursor returns after a look is the turn
-pub told_turn : (old : ℕ → Option BlockNode) (all : List Version) (ps : List (Placed Admitted)) (c d e : RowsCursor) (turn : RowsTurn) → IsTold d e turn → Gathered all ps d → d.question ≡ c.question → Rose (front_number c.front) (front_number d.front) → IsTurn old all ps c e turn
-told_turn old all ps c d e (Done answer) told g same rose =
-    let whole : IsAnswer ps d.question d.rows.items d.more = subst (λ (f : Option Front). IsGathered all ps d.question (front_number f) d.ended d.rows.items d.more) told.0 g in
-    subst (λ (q : RowsQuestion). IsAnswer ps q answer.rows.items answer.more) same (subst (λ (rows : List Row). IsAnswer ps d.question rows answer.more) (sym told.1) (subst (λ (more : Bool). IsAnswer ps d.question d.rows.items more) (sym told.2) whole))
-told_turn old all ps c d e Again told g same rose =
-    subst (λ (x : RowsCursor). Gathered all ps x × (x.question ≡ c.question) × Rose (front_number c.front) (front_number x.front)) (sym told) (g, same, rose)
-told_turn old all ps c d e (Historical errand) told g same rose = absurd told
+pub reported_turn : (old : ℕ → Option BlockNode) (all : List Version) (ps : List (Placed Admitted)) (c d e : RowsCursor) (turn : RowsTurn) → IsReported d e turn → Gathered all ps d → d.question ≡ c.question → Rose (front_number c.front) (front_number d.front) → IsTurn old all ps c e turn
+reported_turn old all ps c d e (Done answer) reported g same rose =
+    let whole : IsAnswer ps d.question d.rows.items d.more = subst (λ (f : Option Front). IsGathered all ps d.question (front_number f) d.ended d.rows.items d.more) reported.0 g in
+    subst (λ (q : RowsQuestion). IsAnswer ps q answer.rows.items answer.more) same (subst (λ (rows : List Row). IsAnswer ps d.question rows answer.more) (sym reported.1) (subst (λ (more : Bool). IsAnswer ps d.question d.rows.items more) (sym reported.2) whole))
+reported_turn old all ps c d e Again reported g same rose =
+    subst (λ (x : RowsCursor). Gathered all ps x × (x.question ≡ c.question) × Rose (front_number c.front) (front_number x.front)) (sym reported) (g, same, rose)
+reported_turn old all ps c d e (Historical errand) reported g same rose = absurd reported
 
 pub gathered_same : (all : List Version) (ps : List (Placed Admitted)) (c d : RowsCursor) → IsSame c d → Gathered all ps c → Gathered all ps d
 gathered_same all ps c d s g = gathered_as all ps c.question d.question (front_number c.front) (front_number d.front) c.ended d.ended c.rows.items d.rows.items c.more d.more s.question (ap front_number s.front) s.ended s.rows s.more g

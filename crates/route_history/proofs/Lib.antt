@@ -13,8 +13,8 @@ mod HistoryRounds
 mod Parts
 mod Stamps
 mod SameStamps
-mod SpelledEvents
-mod Telling
+mod EncodedEvents
+mod Reporting
 mod GoingOn
 mod AppliedLater
 mod KeptLater

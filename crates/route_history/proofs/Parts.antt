@@ -49,10 +49,10 @@ filter_as p r (v ∷ xs) e = elim (cases_Bool (p v)) [
   | inr miss ↦ (let out : r v ≡ false = sym (e v) ∙ miss in rw (miss, out) (filter_as p r xs e))
 ]
 
-before_of : (key from told b : ℕ) (v : Version) → b ≤ told → (is_of key from told v && before b v) ≡ is_of key from b v
-before_of key from told b v le = elim (cases_lt v.stamp b) [
-  | inl lt ↦ rw (lt-ltb v.stamp b lt, lt-ltb v.stamp told (omega (arith, lt, le))) (and_true (eqb v.key key && (leb from v.stamp && true)))
-  | inr ge ↦ rw (le-ltb v.stamp b ge) (and_false (is_of key from told v) ∙ sym (and_out (eqb v.key key) (leb from v.stamp)))
+before_of : (key from reported b : ℕ) (v : Version) → b ≤ reported → (is_of key from reported v && before b v) ≡ is_of key from b v
+before_of key from reported b v le = elim (cases_lt v.stamp b) [
+  | inl lt ↦ rw (lt-ltb v.stamp b lt, lt-ltb v.stamp reported (omega (arith, lt, le))) (and_true (eqb v.key key && (leb from v.stamp && true)))
+  | inr ge ↦ rw (le-ltb v.stamp b ge) (and_false (is_of key from reported v) ∙ sym (and_out (eqb v.key key) (leb from v.stamp)))
 ]
   where
     and_true : (c : Bool) → (c && true) ≡ c
@@ -85,10 +85,10 @@ apart_of a b from to v ne e = elim (cases_Bool (eqb v.key a)) [
 ]
 
 -- two parts, each up to the bound, are together what two keys have up to there
-pub parts_merged : (all : List Version) (a b from told_a told_b to : ℕ) → AreStampsRising all → (a ≡ b → ⊥) → to ≤ told_a → to ≤ told_b → by_time stamp_in (filter (before to) (filter (is_of a from told_a) all) ++ filter (before to) (filter (is_of b from told_b) all)) ≡ filter (is_of_two a b from to) all
-parts_merged all a b from told_a told_b to rise ne la lb =
-    ap (λ l. by_time stamp_in (l ++ filter (before to) (filter (is_of b from told_b) all))) (filter_filter (before to) (is_of a from told_a) (is_of a from to) all (λ v. before_of a from told_a to v la))
-    ∙ ap (λ l. by_time stamp_in (filter (is_of a from to) all ++ l)) (filter_filter (before to) (is_of b from told_b) (is_of b from to) all (λ v. before_of b from told_b to v lb))
+pub parts_merged : (all : List Version) (a b from reported_a reported_b to : ℕ) → AreStampsRising all → (a ≡ b → ⊥) → to ≤ reported_a → to ≤ reported_b → by_time stamp_in (filter (before to) (filter (is_of a from reported_a) all) ++ filter (before to) (filter (is_of b from reported_b) all)) ≡ filter (is_of_two a b from to) all
+parts_merged all a b from reported_a reported_b to rise ne la lb =
+    ap (λ l. by_time stamp_in (l ++ filter (before to) (filter (is_of b from reported_b) all))) (filter_filter (before to) (is_of a from reported_a) (is_of a from to) all (λ v. before_of a from reported_a to v la))
+    ∙ ap (λ l. by_time stamp_in (filter (is_of a from to) all ++ l)) (filter_filter (before to) (is_of b from reported_b) (is_of b from to) all (λ v. before_of b from reported_b to v lb))
     ∙ merged_filters (is_of a from to) (is_of b from to) all rise (λ v e. apart_of a b from to v ne e)
     ∙ filter_as (λ v. is_of a from to v || is_of b from to v) (is_of_two a b from to) all (λ v. two_of a b from to v)
 

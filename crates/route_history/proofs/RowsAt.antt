@@ -1,7 +1,7 @@
 -- The row at a key, by what is found there and at the key of its session.
 use Rattle.std.proofs.Common.{◌≡◌, ◌↔◌, ℕ, ◌<◌, arith, List, true, sym, ap, ◌∙◌, subst, Some, None, Option}
 use Rattle.route_model.specs.Admission.{Admitted}
-use Rattle.route_model.specs.Spelling.{IsPeer, SpellsRoute}
+use Rattle.route_model.specs.Encoding.{IsPeer, EncodesRoute}
 use Rattle.route_model.specs.Prefix.{IpPrefix, IsPrefix}
 use Rattle.route_model.specs.declared.peer.Peer.{Peer}
 use Rattle.route_model.specs.declared.route.Route.{Route}
@@ -16,22 +16,22 @@ use Rattle.route_meaning.proofs.Holding.{Holds-one}
 use Rattle.version_model.specs.Versions.{Version, Found, Answers}
 use Rattle.route_history.specs.Stamps.{last_stamp}
 use Rattle.route_model.specs.PeerKeys.{first_key}
-use Rattle.route_history.specs.Walks.{counts, Tells, EndedAt, IsRowAt, IsWantedAt, IsRouteIn}
+use Rattle.route_history.specs.Walks.{counts, Reports, EndedAt, IsRowAt, IsAskedAt, IsRouteIn}
 use Rattle.route_model.proofs.api.PeerKeys.{key_first}
 
-module _ (all : List Version) (ps : List (Placed Admitted)) (q : RowsQuestion) (key : ℕ) (t : Tells all ps q.moment) where
+module _ (all : List Version) (ps : List (Placed Admitted)) (q : RowsQuestion) (key : ℕ) (t : Reports all ps q.moment) where
   abbrev S : ℕ
   S = last_stamp q.moment
 
-  pub no_spot : IsWantedAt q key None → IsRowAt ps q key None
+  pub no_spot : IsAskedAt q key None → IsRowAt ps q key None
   no_spot w = λ row e selected above holds. (
       let fits = t.fits row.peer row.prefix row.route holds in
       w row.peer row.prefix fits.0 fits.1 e selected (subst (λ (n : ℕ). IsAbove q.after n) e above))
 
   -- the law at the key
-  law_at : (p : Peer) (x : IpPrefix) (route : Route) (found : Found) (ended : Option ℕ) → IsPeer p → IsPrefix x → key_number p x ≡ key → Answers all key S (Some found) → EndedAt all S (first_key key) ended → Holds ps q.moment p x route ↔ ((counts ended found.stamp ≡ true) × SpellsRoute route found.value)
+  law_at : (p : Peer) (x : IpPrefix) (route : Route) (found : Found) (ended : Option ℕ) → IsPeer p → IsPrefix x → key_number p x ≡ key → Answers all key S (Some found) → EndedAt all S (first_key key) ended → Holds ps q.moment p x route ↔ ((counts ended found.stamp ≡ true) × EncodesRoute route found.value)
   law_at p x route found ended hp hx e answers session =
-      subst (λ (o : Option ℕ). Holds ps q.moment p x route ↔ ((counts o found.stamp ≡ true) × SpellsRoute route found.value)) session.2
+      subst (λ (o : Option ℕ). Holds ps q.moment p x route ↔ ((counts o found.stamp ≡ true) × EncodesRoute route found.value)) session.2
       (t.law p x found session.0 route hp hx
       (subst (λ (n : ℕ). Answers all n S (Some found)) (sym e) answers)
       (subst (λ (n : ℕ). Answers all n S session.0) (ap first_key (sym e) ∙ key_first p x hx) session.1))
@@ -42,7 +42,7 @@ module _ (all : List Version) (ps : List (Placed Admitted)) (q : RowsQuestion) (
       let h = (law_at row.peer row.prefix row.route found ended fits.0 fits.1 e answers session).0 holds in
       r row.route h.0 h.1)
 
-  pub there : (spot : Spot) (route : Route) (found : Found) (ended : Option ℕ) → IsWantedAt q key (Some spot) → IsRouteIn ended found.stamp found.value (Some route) → Answers all key S (Some found) → EndedAt all S (first_key key) ended → IsRowAt ps q key (Some (record { peer = spot.peer; prefix = spot.prefix; route = route }))
+  pub there : (spot : Spot) (route : Route) (found : Found) (ended : Option ℕ) → IsAskedAt q key (Some spot) → IsRouteIn ended found.stamp found.value (Some route) → Answers all key S (Some found) → EndedAt all S (first_key key) ended → IsRowAt ps q key (Some (record { peer = spot.peer; prefix = spot.prefix; route = route }))
   there spot route found ended w r answers session =
       let holds : Holds ps q.moment spot.peer spot.prefix route = (law_at spot.peer spot.prefix route found ended w.0.0 w.0.1 w.1 answers session).1 (r.0, r.1) in (
         w.1,

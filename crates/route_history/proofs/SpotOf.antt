@@ -3,7 +3,7 @@ use Rattle.std.proofs.Common.{◌≡◌, ℕ, sym, ◌∙◌, subst, Some, None,
 use Rattle.std.proofs.lemmas.Option.{same_Some, none-some}
 use Rattle.route_model.specs.declared.peer.Peer.{Peer}
 use Rattle.route_model.specs.Prefix.{IpPrefix, IsPrefix}
-use Rattle.route_model.specs.Spelling.{IsPeer}
+use Rattle.route_model.specs.Encoding.{IsPeer}
 use Rattle.route_model.specs.declared.key.KeyParts.{KeyParts}
 use Rattle.route_model.specs.declared.key.KeyParts.TheVariants.{Session, Prefix as OfPrefix}
 use Rattle.route_model.specs.Keys.{key_of, IsKeyParts}

@@ -8,7 +8,7 @@ use Rattle.route_meaning.specs.Merged.{insert_by, by_time}
 use Rattle.route_history.specs.declared.events.Stamped.{Stamped}
 use Rattle.version_model.specs.Versions.{Version}
 use Rattle.version_model.specs.declared.entry.Entry.{Entry}
-use Rattle.route_history.specs.Spans.{version_at, before, stamp_in, IsStamped, AreStamped, AreTold, event_in}
+use Rattle.route_history.specs.Spans.{version_at, before, stamp_in, IsStamped, AreStamped, AreReported, event_in}
 
 abbrev pub stamp_of_event : Stamped → ℕ
 stamp_of_event s = s.stamp
@@ -35,8 +35,8 @@ append_nil [] = refl
 append_nil (v ∷ vs) = ap (λ l. v ∷ l) (append_nil vs)
 
 -- a version that isn't before the bound
-pub put_behind : (q : EventsQuestion) (to : ℕ) (vs : List Version) (v : Version) (news : List Stamped) → AreStamped q vs news → to ≤ v.stamp → AreStamped q (vs ++ filter (before to) (v ∷ [])) news
-put_behind q to vs v news a ge = subst (λ ws. AreStamped q ws news) (sym (ap (λ l. vs ++ l) (rw (le-ltb v.stamp to ge) refl) ∙ append_nil vs)) a
+pub put_after : (q : EventsQuestion) (to : ℕ) (vs : List Version) (v : Version) (news : List Stamped) → AreStamped q vs news → to ≤ v.stamp → AreStamped q (vs ++ filter (before to) (v ∷ [])) news
+put_after q to vs v news a ge = subst (λ ws. AreStamped q ws news) (sym (ap (λ l. vs ++ l) (rw (le-ltb v.stamp to ge) refl) ∙ append_nil vs)) a
 
 -- a version before the bound, with its event
 pub put_before : (q : EventsQuestion) (to : ℕ) (vs : List Version) (v : Version) (news : List Stamped) (s : Stamped) → AreStamped q vs news → v.stamp < to → IsStamped q.peer q.prefix v s → AreStamped q (vs ++ filter (before to) (v ∷ [])) (news ++ s ∷ [])
@@ -85,11 +85,11 @@ stamped_sorted q [] (x ∷ xs) a = absurd a
 stamped_sorted q (v ∷ vs) [] a = absurd a
 stamped_sorted q (v ∷ vs) (x ∷ xs) a = stamped_insert q v x (by_time stamp_in vs) (by_time stamp_of_event xs) a.0 (stamped_sorted q vs xs a.1)
 
-pub stamped_told : (q : EventsQuestion) (vs : List Version) (xs : List Stamped) → AreStamped q vs xs → AreTold q vs (map event_in xs)
-stamped_told q [] [] a = tt
-stamped_told q [] (x ∷ xs) a = absurd a
-stamped_told q (v ∷ vs) [] a = absurd a
-stamped_told q (v ∷ vs) (x ∷ xs) a = (a.0.1, stamped_told q vs xs a.1)
+pub stamped_reported : (q : EventsQuestion) (vs : List Version) (xs : List Stamped) → AreStamped q vs xs → AreReported q vs (map event_in xs)
+stamped_reported q [] [] a = tt
+stamped_reported q [] (x ∷ xs) a = absurd a
+stamped_reported q (v ∷ vs) [] a = absurd a
+stamped_reported q (v ∷ vs) (x ∷ xs) a = (a.0.1, stamped_reported q vs xs a.1)
 
 pub take_item : (l : List Entry) (i : ℕ) (x : Entry) → x ≡ get_or l i x → i < length l → take (i + 1) l ≡ take i l ++ x ∷ []
 take_item l i x e lt = ap (λ (n : ℕ). take n l) (let s : i + 1 ≡ suc i = omega arith in s) ∙ take-suc l i x lt ∙ ap (λ (y : Entry). take i l ++ y ∷ []) (sym e)

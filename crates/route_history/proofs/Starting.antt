@@ -6,7 +6,7 @@ use Rattle.route_model.specs.Admission.{Admitted}
 use Rattle.route_model.specs.declared.peer.Peer.{Peer}
 use Rattle.route_model.specs.declared.route.Route.{Route}
 use Rattle.route_model.specs.Prefix.{IpPrefix, IsPrefix}
-use Rattle.route_model.specs.Spelling.{IsPeer}
+use Rattle.route_model.specs.Encoding.{IsPeer}
 use Rattle.route_model.specs.Keys.{key_number, session_number, number_of}
 use Rattle.route_model.proofs.api.Keys.{session_below}
 use Rattle.route_meaning.specs.declared.question.Row.{Row}

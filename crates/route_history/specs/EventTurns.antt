@@ -20,7 +20,7 @@ use Rattle.route_history.specs.declared.events_turn.EventsTurn.{EventsTurn}
 use Rattle.route_history.specs.declared.events_turn.EventsTurn.TheVariants.{Done, Again, Historical}
 use Rattle.route_history.specs.Walks.{Rose}
 use Rattle.route_history.specs.Points.{PartsAt}
-use Rattle.route_history.specs.Spans.{HasToldSo}
+use Rattle.route_history.specs.Spans.{HasReportedSo}
 
 -- both looks of the errand stand
 abbrev pub Stand : (ℕ → Option BlockNode) → List Version → EventsCursor → EventsErrand → Type 0
@@ -28,7 +28,7 @@ Stand blocks all c errand = IsParted blocks all (key_number c.question.peer c.qu
 
 -- what a look returned is true of these versions, or its place stands by the blocks that a reader knows; and the reader reads well
 abbrev pub IsKnownPart : {O Pen Seen : Type 0} → (device : Ghosts O Pen Seen) → ShelfReader O Pen Seen device → Seen → List Version → ℕ → ℕ → Parted → Type 0
-IsKnownPart device reader seen all key from (Here part) = IsPart all key from (versions_of part.entries.items) part.told × ReadsWell device reader seen
+IsKnownPart device reader seen all key from (Here part) = IsPart all key from (versions_of part.entries.items) part.reported × ReadsWell device reader seen
 IsKnownPart device reader seen all key from (InBlock place) = StandsKnown device reader seen all place
 
 -- the same of both looks of the errand
@@ -50,11 +50,11 @@ HasFit c (Historical errand) = IsEventsErrandOf c errand
 -- the whole answer; or more is gathered and the stamp rose; or an errand, and the cursor is the same
 abbrev pub IsEventsTurn : (ℕ → Option BlockNode) → List Version → List (Placed Admitted) → EventsCursor → EventsCursor → EventsTurn → Type 0
 IsEventsTurn blocks all ps c d (Done answer) = IsEventsAnswer ps c.question answer.events.items answer.more
-IsEventsTurn blocks all ps c d Again = HasToldSo all ps d × (d.question ≡ c.question) × Rose c.at d.at
+IsEventsTurn blocks all ps c d Again = HasReportedSo all ps d × (d.question ≡ c.question) × Rose c.at d.at
 IsEventsTurn blocks all ps c d (Historical errand) = (d ≡ c) × IsEventsErrandOf d errand × Stand blocks all d errand
 
 -- an answer is the cursor's, whose walk is over; if the walk goes on, the cursor is the same
-abbrev pub IsToldSo : EventsCursor → EventsCursor → EventsTurn → Type 0
-IsToldSo c d (Done answer) = (c.at ≡ None) × (answer.events.items ≡ c.told.items) × (answer.more ≡ c.more)
-IsToldSo c d Again = d ≡ c
-IsToldSo c d (Historical errand) = ⊥
+abbrev pub IsReportedSo : EventsCursor → EventsCursor → EventsTurn → Type 0
+IsReportedSo c d (Done answer) = (c.at ≡ None) × (answer.events.items ≡ c.reported.items) × (answer.more ≡ c.more)
+IsReportedSo c d Again = d ≡ c
+IsReportedSo c d (Historical errand) = ⊥

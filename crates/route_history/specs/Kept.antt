@@ -3,7 +3,7 @@ use Rattle.std.specs.Prelude.{◌≡◌, ℕ, suc, ◌^◌, ◌<◌, List, [], �
 use Rattle.route_model.specs.declared.change.Change.{Change}
 use Rattle.route_model.specs.declared.change.Change.TheVariants.{Announce, Withdraw, Down}
 use Rattle.route_model.specs.Admission.{Admitted, IsChange}
-use Rattle.route_model.specs.Spelling.{SpellsRoute}
+use Rattle.route_model.specs.Encoding.{EncodesRoute}
 use Rattle.route_model.specs.Keys.{key_number, session_number}
 use Rattle.route_meaning.specs.Holds.{time_of}
 use Rattle.route_meaning.specs.Merged.{Placed}
@@ -32,7 +32,7 @@ key_of (Down p) = session_number p
 
 -- what the version of a change has: the encoding of the route that is announced; an end for a withdrawal; any value for the end of a session
 abbrev pub HasValue : Change → Option (List ℕ) → Type 0
-HasValue (Announce p x route) value = (octets : List ℕ) × (value ≡ Some octets) × SpellsRoute route octets
+HasValue (Announce p x route) value = (octets : List ℕ) × (value ≡ Some octets) × EncodesRoute route octets
 HasValue (Withdraw p x) value = value ≡ None
 HasValue (Down p) value = IsSome value
 

@@ -32,7 +32,7 @@ IsTurn blocks all ps c d Again = Gathered all ps d × (d.question ≡ c.question
 IsTurn blocks all ps c d (Historical errand) = Gathered all ps d × (d.question ≡ c.question) × IsErrandOf d errand × PlaceStands blocks all errand.place × NotBack (front_number c.front) (front_number d.front)
 
 -- an answer is the cursor's, whose walk is over; if the walk goes on, the cursor is the same
-abbrev pub IsTold : RowsCursor → RowsCursor → RowsTurn → Type 0
-IsTold c d (Done answer) = (c.front ≡ None) × (answer.rows.items ≡ c.rows.items) × (answer.more ≡ c.more)
-IsTold c d Again = (d ≡ c)
-IsTold c d (Historical errand) = ⊥
+abbrev pub IsReported : RowsCursor → RowsCursor → RowsTurn → Type 0
+IsReported c d (Done answer) = (c.front ≡ None) × (answer.rows.items ≡ c.rows.items) × (answer.more ≡ c.more)
+IsReported c d Again = (d ≡ c)
+IsReported c d (Historical errand) = ⊥

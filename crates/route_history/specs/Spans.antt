@@ -6,7 +6,7 @@ use Rattle.route_model.specs.declared.change.Change.{Change}
 use Rattle.route_model.specs.declared.change.Change.TheVariants.{Announce, Withdraw, Down}
 use Rattle.route_model.specs.Admission.{Admitted}
 use Rattle.route_model.specs.Prefix.{IpPrefix}
-use Rattle.route_model.specs.Spelling.{SpellsRoute}
+use Rattle.route_model.specs.Encoding.{EncodesRoute}
 use Rattle.route_model.specs.Keys.{key_number, session_number}
 use Rattle.route_meaning.specs.declared.question.Event.{Event}
 use Rattle.route_meaning.specs.declared.question.EventsQuestion.{EventsQuestion}
@@ -44,7 +44,7 @@ version_at key e = record { key = key; stamp = e.stamp; value = option_map (λ v
 
 -- the change that the version of a prefix or a session stands for
 abbrev pub IsChangeOf : Peer → IpPrefix → Version → Change → Type 0
-IsChangeOf p x v (Announce q y route) = (q ≡ p) × (y ≡ x) × (v.key ≡ key_number p x) × ((octets : List ℕ) × (v.value ≡ Some octets) × SpellsRoute route octets)
+IsChangeOf p x v (Announce q y route) = (q ≡ p) × (y ≡ x) × (v.key ≡ key_number p x) × ((octets : List ℕ) × (v.value ≡ Some octets) × EncodesRoute route octets)
 IsChangeOf p x v (Withdraw q y) = (q ≡ p) × (y ≡ x) × (v.key ≡ key_number p x) × (v.value ≡ None)
 IsChangeOf p x v (Down q) = (q ≡ p) × (v.key ≡ session_number p)
 
@@ -89,18 +89,18 @@ subject_key q OfPrefix = key_number q.peer q.prefix
 subject_key q OfSession = session_number q.peer
 
 -- What follows if the versions are those of the applied changes: their stamps rise, each of the two keys stands for an event, and those that the question asks for are its events.
-pub record TellsEvents (all : List Version) (ps : List (Placed Admitted)) (q : EventsQuestion) : Type 0 where
+pub record ReportsEvents (all : List Version) (ps : List (Placed Admitted)) (q : EventsQuestion) : Type 0 where
   pub rising : AreStampsRising all
   pub each : AllByRecursion (HasEvent q.peer q.prefix) (filter (is_at (key_number q.peer q.prefix) (session_number q.peer)) all)
-  pub told : AllZip (IsEventOf q.peer q.prefix) (asked all q (span_end q)) (all_events q.peer q.prefix (between q.from q.to ps))
+  pub reported : AllZip (IsEventOf q.peer q.prefix) (asked all q (span_end q)) (all_events q.peer q.prefix (between q.from q.to ps))
 
 -- under way: the events are those before the stamp that the walk has come to, without the first ones, at most as many as an answer has
-pub record IsTelling (all : List Version) (q : EventsQuestion) (at left : ℕ) (told : List Event) (more : Bool) : Type 0 where
+pub record IsReporting (all : List Version) (q : EventsQuestion) (at left : ℕ) (reported : List Event) (more : Bool) : Type 0 where
   pub low : span_start q ≤ at
   pub high : at < span_end q
-  pub are : AllZip (IsEventOf q.peer q.prefix) (drop q.skip (asked all q at)) told
+  pub are : AllZip (IsEventOf q.peer q.prefix) (drop q.skip (asked all q at)) reported
   pub left_is : left ≡ q.skip - length (asked all q at)
-  pub few : length told ≤ most_rows
+  pub few : length reported ≤ most_rows
   pub alone : more ≡ false
 
 -- an event with the stamp of its version
@@ -112,28 +112,28 @@ abbrev pub AreStamped : EventsQuestion → List Version → List Stamped → Typ
 AreStamped q vs news = AllZip (IsStamped q.peer q.prefix) vs news
 
 -- the versions and their events side by side
-abbrev pub AreTold : EventsQuestion → List Version → List Event → Type 0
-AreTold q vs told = AllZip (IsEventOf q.peer q.prefix) vs told
+abbrev pub AreReported : EventsQuestion → List Version → List Event → Type 0
+AreReported q vs reported = AllZip (IsEventOf q.peer q.prefix) vs reported
 
 -- under way at a stamp, or over: then it is the whole answer
-abbrev pub HasTold : List Version → List (Placed Admitted) → EventsQuestion → Option ℕ → ℕ → List Event → Bool → Type 0
-HasTold all ps q None left told more = IsEventsAnswer ps q told more
-HasTold all ps q (Some at) left told more = IsTelling all q at left told more
+abbrev pub HasReported : List Version → List (Placed Admitted) → EventsQuestion → Option ℕ → ℕ → List Event → Bool → Type 0
+HasReported all ps q None left reported more = IsEventsAnswer ps q reported more
+HasReported all ps q (Some at) left reported more = IsReporting all q at left reported more
 
 -- the event without its stamp
 abbrev pub event_in : Stamped → Event
 event_in s = s.event
 
 -- the events so far are exactly those of the span that was walked, or the whole answer
-abbrev pub HasToldSo : List Version → List (Placed Admitted) → EventsCursor → Type 0
-HasToldSo all ps c = HasTold all ps c.question c.at c.left c.told.items c.more
+abbrev pub HasReportedSo : List Version → List (Placed Admitted) → EventsCursor → Type 0
+HasReportedSo all ps c = HasReported all ps c.question c.at c.left c.reported.items c.more
 
 -- the cursor holds the same
-pub record IsSameTelling (c d : EventsCursor) : Type 0 where
+pub record IsSameReporting (c d : EventsCursor) : Type 0 where
   pub question : d.question ≡ c.question
   pub at : d.at ≡ c.at
   pub left : d.left ≡ c.left
-  pub told : d.told.items ≡ c.told.items
+  pub reported : d.reported.items ≡ c.reported.items
   pub more : d.more ≡ c.more
 
 -- the versions with later ones, if the events of the span are the same
@@ -141,4 +141,4 @@ pub record EventsGoOn (all new : List Version) (ps qs : List (Placed Admitted)) 
   pub more : List Version
   pub added : new ≡ all ++ more
   pub later : AllByRecursion (λ v. last_stamp q.to < v.stamp) more
-  pub told : events ps q ≡ events qs q
+  pub reported : events ps q ≡ events qs q

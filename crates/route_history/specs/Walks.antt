@@ -8,7 +8,7 @@ use Rattle.route_model.specs.declared.key.KeyParts.TheVariants.{Session, Prefix 
 use Rattle.route_model.specs.Admission.{Admitted}
 use Rattle.route_model.specs.Prefix.{IpPrefix, IsPrefix, cleared_address}
 use Rattle.route_model.specs.declared.address.Address.{Address}
-use Rattle.route_model.specs.Spelling.{IsPeer, SpellsRoute}
+use Rattle.route_model.specs.Encoding.{IsPeer, EncodesRoute}
 use Rattle.route_model.specs.Keys.{key_number, session_number}
 use Rattle.route_meaning.specs.declared.question.Spot.{Spot}
 use Rattle.route_meaning.specs.declared.question.Row.{Row}
@@ -34,13 +34,13 @@ abbrev pub stamp_of_found : Option Found → Option ℕ
 stamp_of_found found = option_map (λ f. f.stamp) found
 
 -- What follows for one moment if the versions are those of the applied changes: what holds is of peers and prefixes that have keys, has a value at its key, and is what two lookups return; and the rows of each range can be listed.
-pub record Tells (versions : List Version) (ps : List (Placed Admitted)) (moment : ℕ) : Type 0 where
+pub record Reports (versions : List Version) (ps : List (Placed Admitted)) (moment : ℕ) : Type 0 where
   pub fits : (p : Peer) (x : IpPrefix) (route : Route) → Holds ps moment p x route → IsPeer p × IsPrefix x
   pub listed : (select : Select) (low : Option Spot) → (rows : List Row) × AreRows ps moment select low None rows
   pub has_value : (p : Peer) (x : IpPrefix) (route : Route) → Holds ps moment p x route → Answers versions (key_number p x) (last_stamp moment) None → ⊥
   pub law : (p : Peer) (x : IpPrefix) (found : Found) (ended : Option Found) (route : Route) → IsPeer p → IsPrefix x
       → Answers versions (key_number p x) (last_stamp moment) (Some found) → Answers versions (session_number p) (last_stamp moment) ended
-      → Holds ps moment p x route ↔ ((counts (stamp_of_found ended) found.stamp ≡ true) × SpellsRoute route found.value)
+      → Holds ps moment p x route ↔ ((counts (stamp_of_found ended) found.stamp ≡ true) × EncodesRoute route found.value)
 
 -- a row that holds at the moment, is selected, lies above the spot that the question names and below the key
 pub record IsRowBelow (ps : List (Placed Admitted)) (q : RowsQuestion) (at : ℕ) (row : Row) : Type 0 where
@@ -139,15 +139,15 @@ IsSpotOf key (Some spot) = (IsPeer spot.peer × IsPrefix spot.prefix) × (key_nu
     × ((p : Peer) (x : IpPrefix) → IsPeer p → IsPrefix x → key_number p x ≡ key → (p ≡ spot.peer) × (x ≡ spot.prefix))
 
 -- the spot of a key, if the question selects it
-abbrev pub IsWantedAt : RowsQuestion → ℕ → Option Spot → Type 0
-IsWantedAt q key None = (p : Peer) (x : IpPrefix) → IsPeer p → IsPrefix x → key_number p x ≡ key → Selects q.select p x → IsAbove q.after key → ⊥
-IsWantedAt q key (Some spot) = (IsPeer spot.peer × IsPrefix spot.prefix) × (key_number spot.peer spot.prefix ≡ key) × Selects q.select spot.peer spot.prefix × IsAbove q.after key
+abbrev pub IsAskedAt : RowsQuestion → ℕ → Option Spot → Type 0
+IsAskedAt q key None = (p : Peer) (x : IpPrefix) → IsPeer p → IsPrefix x → key_number p x ≡ key → Selects q.select p x → IsAbove q.after key → ⊥
+IsAskedAt q key (Some spot) = (IsPeer spot.peer × IsPrefix spot.prefix) × (key_number spot.peer spot.prefix ≡ key) × Selects q.select spot.peer spot.prefix × IsAbove q.after key
     × ((p : Peer) (x : IpPrefix) → IsPeer p → IsPrefix x → key_number p x ≡ key → (p ≡ spot.peer) × (x ≡ spot.prefix))
 
 -- the route that octets of this stamp encode, if they count
 abbrev pub IsRouteIn : Option ℕ → ℕ → List ℕ → Option Route → Type 0
-IsRouteIn ended stamp octets None = (route : Route) → counts ended stamp ≡ true → SpellsRoute route octets → ⊥
-IsRouteIn ended stamp octets (Some route) = (counts ended stamp ≡ true) × SpellsRoute route octets
+IsRouteIn ended stamp octets None = (route : Route) → counts ended stamp ≡ true → EncodesRoute route octets → ⊥
+IsRouteIn ended stamp octets (Some route) = (counts ended stamp ≡ true) × EncodesRoute route octets
 
 -- a leap of the cursor
 abbrev pub HasLeapt : RowsCursor → RowsCursor → Option Front → Type 0

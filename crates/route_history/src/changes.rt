@@ -33,7 +33,7 @@ fn value_of(change: &Change) -> Option<&[u8]>
     ensures few { IsChange change.now → IfSome result (λ octets. length octets.now ≤ 3072) }
 {
     match change {
-        Change::Announce(_, _, route) => Some(route.spelling()),
+        Change::Announce(_, _, route) => Some(route.encoding()),
         Change::Withdraw(_, _) => None,
         Change::Down(_) => Some(&[]),
     }

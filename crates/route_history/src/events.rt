@@ -10,10 +10,10 @@ ghost use Rattle.version_model.specs.Versions.{Version};
 ghost use Rattle.version_model.specs.Ranges.{end_or};
 ghost use Rattle.version_model.specs.Looks.{IsPart};
 ghost use Rattle.version_model.specs.Entries.{versions_of};
-ghost use Rattle.tsb_walk.specs.Looked.{TellsFrom};
+ghost use Rattle.tsb_walk.specs.Looked.{ReportsFrom};
 ghost use Rattle.route_history.specs.Stamps.{last_stamp, stamp_of};
 ghost use Rattle.route_history.specs.Walks.{Rose};
-ghost use Rattle.route_history.specs.Spans.{event_in, before, version_at, subject_key, stamp_in, IsChangeIn, IsEventIn, HasEvent, AreStamped, IsTelling, TellsEvents, HasTold, HasToldSo, IsSameTelling};
+ghost use Rattle.route_history.specs.Spans.{event_in, before, version_at, subject_key, stamp_in, IsChangeIn, IsEventIn, HasEvent, AreStamped, IsReporting, ReportsEvents, HasReported, HasReportedSo, IsSameReporting};
 
 use route_meaning::{Event, EventsQuestion, MAX_ROWS};
 use route_model::{Change, Moment, Route, SharedRoute};
@@ -197,15 +197,15 @@ fn fresh_of(alloc: Global, news: Vec<Stamped>, left: u64) -> Result<Vec<Event>, 
 }
 
 // The lesser of a stamp, if there is one, and another.
-fn lesser(told: &Option<Stamp>, to: Stamp) -> Stamp
-    ensures low { result ≤ end_or told.now }
+fn lesser(reported: &Option<Stamp>, to: Stamp) -> Stamp
+    ensures low { result ≤ end_or reported.now }
     ensures high { result ≤ to }
-    ensures above { (at : ℕ) → at < end_or told.now → at < to → at < result }
-    ensures one { (result ≡ end_or told.now) ⊎ (result ≡ to) }
+    ensures above { (at : ℕ) → at < end_or reported.now → at < to → at < result }
+    ensures one { (result ≡ end_or reported.now) ⊎ (result ≡ to) }
 {
     let _fits = to.number();
-    match told {
-        Some(told) if *told < to => *told,
+    match reported {
+        Some(reported) if *reported < to => *reported,
         _ => to,
     }
 }
@@ -233,7 +233,7 @@ pub struct EventsCursor {
     pub at: Option<Stamp>,
     /// How many events are still to be left out.
     pub left: u64,
-    pub told: Vec<Event>,
+    pub reported: Vec<Event>,
     pub more: bool,
 }
 
@@ -241,7 +241,7 @@ impl EventsCursor {
     /// The start of a question of a history. It waits for nothing.
     pub fn start(alloc: Global, question: EventsQuestion) -> EventsCursor
         ensures question { result.question ≡ question }
-        ensures nothing { (all : List Version) (ps : List (Placed Admitted)) → TellsEvents all ps question → HasToldSo all ps result }
+        ensures nothing { (all : List Version) (ps : List (Placed Admitted)) → ReportsEvents all ps question → HasReportedSo all ps result }
     {
         let _len = question.peer.encoded_len();
         let _address = question.prefix.address();
@@ -251,7 +251,7 @@ impl EventsCursor {
             question,
             at: if is_empty { None } else { Some(at) },
             left: question.skip,
-            told: Vec::new(alloc),
+            reported: Vec::new(alloc),
             more: false,
         }
     }
@@ -264,22 +264,22 @@ impl EventsCursor {
         route: &KeyVersions,
         session: &KeyVersions,
     ) -> Result<(), AllocError>
-        ensures told { (all : List Version) (ps : List (Placed Admitted)) → TellsEvents all ps self.old.question → IsTelling all self.old.question at self.old.left self.old.told.items self.old.more → IsPart all (key_number self.old.question.peer self.old.question.prefix) at (versions_of route.now.entries.items) route.now.told → IsPart all (session_number self.old.question.peer) at (versions_of session.now.entries.items) session.now.told → OnOk result (HasToldSo all ps self.new × Rose (Some at) self.new.at) }
-        ensures rose { TellsFrom at route.now → TellsFrom at session.now → OnOk result (Rose (Some at) self.new.at) }
+        ensures reported { (all : List Version) (ps : List (Placed Admitted)) → ReportsEvents all ps self.old.question → IsReporting all self.old.question at self.old.left self.old.reported.items self.old.more → IsPart all (key_number self.old.question.peer self.old.question.prefix) at (versions_of route.now.entries.items) route.now.reported → IsPart all (session_number self.old.question.peer) at (versions_of session.now.entries.items) session.now.reported → OnOk result (HasReportedSo all ps self.new × Rose (Some at) self.new.at) }
+        ensures rose { ReportsFrom at route.now → ReportsFrom at session.now → OnOk result (Rose (Some at) self.new.at) }
         ensures question { self.new.question ≡ self.old.question }
-        ensures same { OnErr result (IsSameTelling self.old self.new) }
+        ensures same { OnErr result (IsSameReporting self.old self.new) }
     {
         let _len = self.question.peer.encoded_len();
         let _address = self.question.prefix.address();
         let end = end_of(self.question.to);
-        let to = lesser(&route.told, lesser(&session.told, end));
+        let to = lesser(&route.reported, lesser(&session.reported, end));
         let news = news_of(alloc, &self.question, &route.entries, &session.entries, to)?;
         let count = news.len() as u64;
         let mut fresh = fresh_of(alloc, news, self.left)?;
-        self.told.append(&mut fresh)?;
+        self.reported.append(&mut fresh)?;
         self.left = self.left.saturating_sub(count);
-        if self.told.len() > MAX_ROWS {
-            self.told.truncate(MAX_ROWS);
+        if self.reported.len() > MAX_ROWS {
+            self.reported.truncate(MAX_ROWS);
             self.more = true;
             self.at = None;
         } else if is_same(to, end) {

@@ -13,9 +13,9 @@ ghost use Rattle.tsb_walk.specs.Inside.{KeepsInside};
 ghost use Rattle.tsb_walk.specs.Knowing.{ReadsWell};
 ghost use Rattle.route_history.specs.Blame.{BlamesNone};
 ghost use Rattle.route_history.specs.Walks.{Rose};
-ghost use Rattle.route_history.specs.Spans.{TellsEvents, HasToldSo, IsSameTelling};
+ghost use Rattle.route_history.specs.Spans.{ReportsEvents, HasReportedSo, IsSameReporting};
 ghost use Rattle.route_history.specs.Points.{PartsAt};
-ghost use Rattle.route_history.specs.EventTurns.{HasFit, IsKnownPart, AreKnownParts, IsEventsTurn, IsEventsErrandOf, IsToldSo};
+ghost use Rattle.route_history.specs.EventTurns.{HasFit, IsKnownPart, AreKnownParts, IsEventsTurn, IsEventsErrandOf, IsReportedSo};
 
 use crate::events::EventsCursor;
 use crate::versions::Versions;
@@ -49,24 +49,24 @@ pub enum EventsTurn {
 
 impl EventsCursor {
     // The answer.
-    fn tell(&mut self, alloc: Global) -> EventsAnswer
-        ensures events { result.events.items ≡ self.old.told.items }
+    fn report(&mut self, alloc: Global) -> EventsAnswer
+        ensures events { result.events.items ≡ self.old.reported.items }
         ensures more { result.more ≡ self.old.more }
         ensures question { self.new.question ≡ self.old.question }
     {
         EventsAnswer {
-            events: mem::replace(&mut self.told, Vec::new(alloc)),
+            events: mem::replace(&mut self.reported, Vec::new(alloc)),
             more: self.more,
         }
     }
 
     // The answer if the walk is over, or else that it goes on.
-    fn told(&mut self, alloc: Global) -> EventsTurn
-        ensures told { IsToldSo self.old self.new result }
+    fn reported(&mut self, alloc: Global) -> EventsTurn
+        ensures reported { IsReportedSo self.old self.new result }
         ensures question { self.new.question ≡ self.old.question }
     {
         match self.at {
-            None => EventsTurn::Done(self.tell(alloc)),
+            None => EventsTurn::Done(self.report(alloc)),
             Some(_) => EventsTurn::Again,
         }
     }
@@ -79,15 +79,15 @@ pub fn take_events_turn<V: Versions>(
     alloc: Global,
     cursor: &mut EventsCursor,
 ) -> Result<EventsTurn, NodeError>
-    ensures turn { IfOk result (λ turn. (blocks : ℕ → Option BlockNode) (all : List Version) (ps : List (Placed Admitted)) → V.stands versions.old blocks all → TellsEvents all ps cursor.old.question → HasToldSo all ps cursor.old → IsEventsTurn blocks all ps cursor.old cursor.new turn) }
+    ensures turn { IfOk result (λ turn. (blocks : ℕ → Option BlockNode) (all : List Version) (ps : List (Placed Admitted)) → V.stands versions.old blocks all → ReportsEvents all ps cursor.old.question → HasReportedSo all ps cursor.old → IsEventsTurn blocks all ps cursor.old cursor.new turn) }
     ensures fits { IfOk result (λ turn. HasFit cursor.new turn) }
-    ensures refused { OnErr result (IsSameTelling cursor.old cursor.new) }
+    ensures refused { OnErr result (IsSameReporting cursor.old cursor.new) }
     ensures blames { IfErr result (λ refusal. (blocks : ℕ → Option BlockNode) (all : List Version) → V.stands versions.old blocks all → BlamesNone refusal) }
     ensures question { cursor.new.question ≡ cursor.old.question }
     ensures kept { (blocks : ℕ → Option BlockNode) (all : List Version) → V.stands versions.old blocks all → V.stands versions.new blocks all }
 {
     let Some(at) = cursor.at else {
-        return Ok(EventsTurn::Done(cursor.tell(alloc)));
+        return Ok(EventsTurn::Done(cursor.report(alloc)));
     };
     let route_key = Key::prefix(&cursor.question.peer, &cursor.question.prefix);
     let session_key = Key::session(&cursor.question.peer);
@@ -96,7 +96,7 @@ pub fn take_events_turn<V: Versions>(
     match (route, session) {
         (Parted::Here(route), Parted::Here(session)) => {
             cursor.take(alloc, at, &route, &session)?;
-            Ok(cursor.told(alloc))
+            Ok(cursor.reported(alloc))
         }
         (route, session) => Ok(EventsTurn::Historical(EventsErrand {
             from: at,
@@ -116,7 +116,7 @@ fn part_of<O: OnceDisk + Drop>(
     from: Stamp,
 ) -> Result<KeyVersions, BlockError>
     requires point { PartsAt key from parted }
-    ensures part { (all : List Version) → IsRising all → IsKnownPart O.OnceDisk reader.old seen.old all key from parted → IfOk result (λ part. IsPart all key from (versions_of part.entries.items) part.told) }
+    ensures part { (all : List Version) → IsRising all → IsKnownPart O.OnceDisk reader.old seen.old all key from parted → IfOk result (λ part. IsPart all key from (versions_of part.entries.items) part.reported) }
     ensures reads { (all : List Version) → IsKnownPart O.OnceDisk reader.old seen.old all key from parted → ReadsWell O.OnceDisk reader.new seen.new }
     ensures never { (all : List Version) → IsKnownPart O.OnceDisk reader.old seen.old all key from parted → (block : ℕ) → result ≡ Err (BlockError.Damaged block) → ⊥ }
     ensures inside { KeepsInside O.OnceDisk reader.old → KeepsInside O.OnceDisk reader.new }
@@ -145,9 +145,9 @@ impl EventsErrand {
         cursor: &mut EventsCursor,
     ) -> Result<(), BlockError>
         requires fits { IsEventsErrandOf cursor.old self }
-        ensures finished { (all : List Version) (ps : List (Placed Admitted)) → AreKnownParts O.OnceDisk reader.old seen.old all cursor.old self → TellsEvents all ps cursor.old.question → HasToldSo all ps cursor.old → OnOk result (HasToldSo all ps cursor.new × Rose cursor.old.at cursor.new.at) }
+        ensures finished { (all : List Version) (ps : List (Placed Admitted)) → AreKnownParts O.OnceDisk reader.old seen.old all cursor.old self → ReportsEvents all ps cursor.old.question → HasReportedSo all ps cursor.old → OnOk result (HasReportedSo all ps cursor.new × Rose cursor.old.at cursor.new.at) }
         ensures question { cursor.new.question ≡ cursor.old.question }
-        ensures refused { OnErr result (IsSameTelling cursor.old cursor.new) }
+        ensures refused { OnErr result (IsSameReporting cursor.old cursor.new) }
         ensures reads { (all : List Version) → AreKnownParts O.OnceDisk reader.old seen.old all cursor.old self → ReadsWell O.OnceDisk reader.new seen.new }
         ensures never { (all : List Version) → AreKnownParts O.OnceDisk reader.old seen.old all cursor.old self → (block : ℕ) → result ≡ Err (BlockError.Damaged block) → ⊥ }
         ensures inside { KeepsInside O.OnceDisk reader.old → KeepsInside O.OnceDisk reader.new }

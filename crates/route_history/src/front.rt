@@ -22,7 +22,7 @@ impl Front {
     }
 
     /// From the key after this one on.
-    pub(crate) fn behind(key: Key) -> Front
+    pub(crate) fn beyond(key: Key) -> Front
         ensures { number_at result ≡ suc key }
     {
         Front { key, passed: true }

@@ -4,7 +4,7 @@ ghost use Rattle.std.specs.Prelude.{◌≡◌, ◌↔◌, ◌<◌, ◌≤◌, �
 ghost use Rattle.std.specs.List.{AllZip, AllByRecursion};
 ghost use Rattle.route_model.specs.Admission.{Admitted};
 ghost use Rattle.route_model.specs.Prefix.{IsPrefix};
-ghost use Rattle.route_model.specs.Spelling.{IsPeer};
+ghost use Rattle.route_model.specs.Encoding.{IsPeer};
 ghost use Rattle.route_meaning.specs.declared.question.EventsQuestion.{EventsQuestion};
 ghost use Rattle.route_meaning.specs.Merged.{Placed, IsRising};
 ghost use Rattle.route_meaning.specs.Holds.{time_of};
@@ -15,15 +15,15 @@ ghost use Rattle.route_history.specs.declared.events.EventsCursor.{EventsCursor}
 ghost use Rattle.route_history.specs.Stamps.{stamp_of};
 ghost use Rattle.route_history.specs.Kept.{Timed, timed, IsVersion, Kept};
 ghost use Rattle.route_history.specs.Growing.{AreBefore};
-ghost use Rattle.route_history.specs.Walks.{Tells, Gathered, GoesOn, IsSameVersion};
-ghost use Rattle.route_history.specs.Spans.{TellsEvents, HasToldSo, EventsGoOn};
+ghost use Rattle.route_history.specs.Walks.{Reports, Gathered, GoesOn, IsSameVersion};
+ghost use Rattle.route_history.specs.Spans.{ReportsEvents, HasReportedSo, EventsGoOn};
 
 /// What follows if the versions are those of the applied changes, whose times never fall: which route holds at a moment is what
 /// two lookups at its greatest stamp return, compared by stamp; the events of a span are the versions of the two keys in it; and
 /// the stamps rise.
-pub fn versions_tell()
-    ensures rows { (ps : List (Placed Admitted)) (all : List Version) (moment : ℕ) → IsRising time_of ps → Kept ps all → Tells all ps moment }
-    ensures events { (ps : List (Placed Admitted)) (all : List Version) (q : EventsQuestion) → IsRising time_of ps → Kept ps all → IsPeer q.peer → IsPrefix q.prefix → TellsEvents all ps q }
+pub fn versions_report()
+    ensures rows { (ps : List (Placed Admitted)) (all : List Version) (moment : ℕ) → IsRising time_of ps → Kept ps all → Reports all ps moment }
+    ensures events { (ps : List (Placed Admitted)) (all : List Version) (q : EventsQuestion) → IsRising time_of ps → Kept ps all → IsPeer q.peer → IsPrefix q.prefix → ReportsEvents all ps q }
     ensures stamps { (ps : List (Placed Admitted)) (all : List Version) → IsRising time_of ps → Kept ps all → AreStampsInOrder all }
 {}
 
@@ -37,7 +37,7 @@ pub fn kept_goes_on()
 /// What a cursor has gathered stays right when more changes are applied, none of which counts at its moment, or in its span.
 pub fn gathered_goes_on()
     ensures rows { (all new : List Version) (ps qs : List (Placed Admitted)) (c : RowsCursor) → GoesOn all new ps qs c.question.moment → Gathered all ps c → Gathered new qs c }
-    ensures events { (all new : List Version) (ps qs : List (Placed Admitted)) (c : EventsCursor) → EventsGoOn all new ps qs c.question → HasToldSo all ps c → HasToldSo new qs c }
+    ensures events { (all new : List Version) (ps qs : List (Placed Admitted)) (c : EventsCursor) → EventsGoOn all new ps qs c.question → HasReportedSo all ps c → HasReportedSo new qs c }
 {}
 
 /// What a cursor has gathered doesn't rest on which values the ends of sessions have: it is the same of all versions that have the
@@ -50,5 +50,5 @@ pub fn gathered_alike()
 /// that it asks about was settled.
 pub fn gathered_follows_histories()
     ensures rows { (h g : History) (all new : List Version) (c : RowsCursor) → IsHistory h → IsHistory g → Begins h g → c.question.moment < settled h → Kept (applied h) all → Kept (applied g) new → Gathered all (applied h) c → Gathered new (applied g) c }
-    ensures events { (h g : History) (all new : List Version) (c : EventsCursor) → IsHistory h → IsHistory g → Begins h g → c.question.to < settled h → IsPeer c.question.peer → IsPrefix c.question.prefix → Kept (applied h) all → Kept (applied g) new → HasToldSo all (applied h) c → HasToldSo new (applied g) c }
+    ensures events { (h g : History) (all new : List Version) (c : EventsCursor) → IsHistory h → IsHistory g → Begins h g → c.question.to < settled h → IsPeer c.question.peer → IsPrefix c.question.prefix → Kept (applied h) all → Kept (applied g) new → HasReportedSo all (applied h) c → HasReportedSo new (applied g) c }
 {}

@@ -15,7 +15,7 @@ use route_meaning::{RowsQuestion, Select, Spot};
 use route_model::{Address, Key, Peer, Prefix};
 
 // Past the spot after which rows are asked for, once the session of its peer is looked at.
-fn behind_after(front: Front, after: &Option<Spot>) -> Front
+fn after_after(front: Front, after: &Option<Spot>) -> Front
     ensures { (q : RowsQuestion) → q.after ≡ after.now → LeapsTo q (number_at front) (number_at result) }
 {
     match after {
@@ -23,7 +23,7 @@ fn behind_after(front: Front, after: &Option<Spot>) -> Front
         Some(spot) => {
             let key = Key::prefix(&spot.peer, &spot.prefix);
             if front.has_passed(key.first_of_peer()) && !front.has_passed(key) {
-                Front::behind(key)
+                Front::beyond(key)
             } else {
                 front
             }
@@ -90,7 +90,7 @@ fn to_prefix(front: Front, prefix: &Prefix) -> Front
     };
     let key = first.of_prefix(prefix);
     if front.has_passed(key) {
-        Front::behind(first.last_of_peer())
+        Front::beyond(first.last_of_peer())
     } else {
         Front::from(key)
     }
@@ -132,7 +132,7 @@ fn to_covering(front: Front, address: &Address) -> Front
     };
     match least_candidate(&front, first, address) {
         Some(key) => Front::from(key),
-        None => Front::behind(first.last_of_peer()),
+        None => Front::beyond(first.last_of_peer()),
     }
 }
 
@@ -140,7 +140,7 @@ fn to_covering(front: Front, address: &Address) -> Front
 pub(crate) fn leap(question: &RowsQuestion, front: Front) -> Option<Front>
     ensures { Leaps question.now (number_at front) (front_number result) }
 {
-    let front = behind_after(front, &question.after);
+    let front = after_after(front, &question.after);
     match &question.select {
         Select::Route(peer, prefix) => to_spot(front, peer, prefix),
         Select::ByPrefix(prefix) => Some(to_prefix(front, prefix)),

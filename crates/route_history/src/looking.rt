@@ -10,11 +10,11 @@ ghost use Rattle.version_model.specs.Entries.{versions_of};
 ghost use Rattle.version_model.specs.Looks.{IsPart, IsReached};
 ghost use Rattle.version_model.specs.Versions.{Version};
 ghost use Rattle.tsb_walk.specs.Answers.{reached_as};
-ghost use Rattle.tsb_walk.specs.Looked.{GoesOnFrom, TellsFrom};
+ghost use Rattle.tsb_walk.specs.Looked.{GoesOnFrom, ReportsFrom};
 ghost use Rattle.route_history.specs.Fronts.{front_number};
-ghost use Rattle.route_history.specs.Spans.{TellsEvents, HasToldSo, IsSameTelling};
+ghost use Rattle.route_history.specs.Spans.{ReportsEvents, HasReportedSo, IsSameReporting};
 ghost use Rattle.route_history.specs.Stamps.{last_stamp};
-ghost use Rattle.route_history.specs.Walks.{Tells, Gathered, Rose, NotBack, IsSame};
+ghost use Rattle.route_history.specs.Walks.{Reports, Gathered, Rose, NotBack, IsSame};
 
 use crate::events::EventsCursor;
 use crate::rows::RowsCursor;
@@ -35,7 +35,7 @@ pub struct RowsLook {
 impl RowsCursor {
     /// The next look of the question, or None if its walk is over. Keys that the question doesn't ask for are leapt over.
     pub fn next_look(&mut self) -> Option<RowsLook>
-        ensures gathered { (all : List Version) (ps : List (Placed Admitted)) → Tells all ps self.old.question.moment → Gathered all ps self.old → Gathered all ps self.new }
+        ensures gathered { (all : List Version) (ps : List (Placed Admitted)) → Reports all ps self.old.question.moment → Gathered all ps self.old → Gathered all ps self.new }
         ensures over { result ≡ None → self.new.front ≡ None }
         ensures from { IfSome result (λ look. front_number self.new.front ≡ Some look.from) }
         ensures stamp { IfSome result (λ look. look.stamp ≡ last_stamp self.old.question.moment) }
@@ -55,7 +55,7 @@ impl RowsCursor {
 
     /// Takes in what its look has reached. After a refusal the cursor holds the same as before.
     pub fn take_reached(&mut self, alloc: Global, reached: Reached) -> Result<(), AllocError>
-        ensures taken { (from : ℕ) (all : List Version) (ps : List (Placed Admitted)) → front_number self.old.front ≡ Some from → Tells all ps self.old.question.moment → Gathered all ps self.old → IsReached all (last_stamp self.old.question.moment) from (reached_as reached) → OnOk result (Gathered all ps self.new) }
+        ensures taken { (from : ℕ) (all : List Version) (ps : List (Placed Admitted)) → front_number self.old.front ≡ Some from → Reports all ps self.old.question.moment → Gathered all ps self.old → IsReached all (last_stamp self.old.question.moment) from (reached_as reached) → OnOk result (Gathered all ps self.new) }
         ensures rose { (from : ℕ) → front_number self.old.front ≡ Some from → GoesOnFrom from reached → OnOk result (Rose (Some from) (front_number self.new.front)) }
         ensures question { self.new.question ≡ self.old.question }
         ensures same { OnErr result (IsSame self.old self.new) }
@@ -87,10 +87,10 @@ impl EventsCursor {
         route: &KeyVersions,
         session: &KeyVersions,
     ) -> Result<(), AllocError>
-        ensures taken { (at : ℕ) (all : List Version) (ps : List (Placed Admitted)) → self.old.at ≡ Some at → TellsEvents all ps self.old.question → HasToldSo all ps self.old → IsPart all (key_number self.old.question.peer self.old.question.prefix) at (versions_of route.now.entries.items) route.now.told → IsPart all (session_number self.old.question.peer) at (versions_of session.now.entries.items) session.now.told → OnOk result (HasToldSo all ps self.new) }
-        ensures rose { (at : ℕ) → self.old.at ≡ Some at → TellsFrom at route.now → TellsFrom at session.now → OnOk result (Rose (Some at) self.new.at) }
+        ensures taken { (at : ℕ) (all : List Version) (ps : List (Placed Admitted)) → self.old.at ≡ Some at → ReportsEvents all ps self.old.question → HasReportedSo all ps self.old → IsPart all (key_number self.old.question.peer self.old.question.prefix) at (versions_of route.now.entries.items) route.now.reported → IsPart all (session_number self.old.question.peer) at (versions_of session.now.entries.items) session.now.reported → OnOk result (HasReportedSo all ps self.new) }
+        ensures rose { (at : ℕ) → self.old.at ≡ Some at → ReportsFrom at route.now → ReportsFrom at session.now → OnOk result (Rose (Some at) self.new.at) }
         ensures question { self.new.question ≡ self.old.question }
-        ensures same { OnErr result (IsSameTelling self.old self.new) }
+        ensures same { OnErr result (IsSameReporting self.old self.new) }
     {
         let Some(at) = self.at else {
             return Ok(());
@@ -101,10 +101,10 @@ impl EventsCursor {
 
     /// The events so far, and whether more follow: once the walk is over, the answer.
     pub fn into_answer(self) -> EventsAnswer
-        ensures answer { (all : List Version) (ps : List (Placed Admitted)) → HasToldSo all ps self → self.at ≡ None → IsEventsAnswer ps self.question result.events.items result.more }
+        ensures answer { (all : List Version) (ps : List (Placed Admitted)) → HasReportedSo all ps self → self.at ≡ None → IsEventsAnswer ps self.question result.events.items result.more }
     {
         EventsAnswer {
-            events: self.told,
+            events: self.reported,
             more: self.more,
         }
     }

@@ -3,7 +3,7 @@
 ghost use Rattle.std.specs.Prelude.{◌≡◌, ◌<◌, ◌≤◌, ◌↔◌, ℕ, List, Option, Some, None, cond, map, nat_lt, IsTrue, IfOk, OnOk, OnErr, length};
 ghost use Rattle.route_model.specs.Admission.{Admitted};
 ghost use Rattle.route_model.specs.Prefix.{IpPrefix, IsPrefix};
-ghost use Rattle.route_model.specs.Spelling.{IsPeer, SpellsRoute};
+ghost use Rattle.route_model.specs.Encoding.{IsPeer, EncodesRoute};
 ghost use Rattle.route_meaning.specs.Merged.{Placed};
 ghost use Rattle.route_meaning.specs.Rows.{Covers, Selects, IsAbove};
 ghost use Rattle.version_model.specs.Versions.{Version, Found, Answers};
@@ -14,7 +14,7 @@ ghost use Rattle.version_model.specs.Versions.{found_at};
 ghost use Rattle.version_model.specs.Looks.{IsReached, At as ReachAt};
 ghost use Rattle.tsb_walk.specs.Answers.{reached_as};
 ghost use Rattle.tsb_walk.specs.Looked.{GoesOnFrom};
-ghost use Rattle.route_history.specs.Walks.{IsSame, IsStart, counts, Tells, EndedAt, IsUnderWay, Gathered, Rose, IsRowAt, spot_in, IsSpotOf, IsWantedAt, IsRouteIn};
+ghost use Rattle.route_history.specs.Walks.{IsSame, IsStart, counts, Reports, EndedAt, IsUnderWay, Gathered, Rose, IsRowAt, spot_in, IsSpotOf, IsAskedAt, IsRouteIn};
 
 use crate::front::Front;
 use route_meaning::{MAX_ROWS, Row, RowsQuestion, Select, Spot};
@@ -93,8 +93,8 @@ fn spot_of(key: Key) -> Option<Spot>
 }
 
 // The spot of the key, if the question selects it.
-fn wanted_at(question: &RowsQuestion, key: Key) -> Option<Spot>
-    ensures { IsWantedAt question.now key result }
+fn expected_at(question: &RowsQuestion, key: Key) -> Option<Spot>
+    ensures { IsAskedAt question.now key result }
 {
     let Some(spot) = spot_of(key) else {
         return None;
@@ -143,9 +143,9 @@ fn row_at(
     stamp: Stamp,
     octets: &[u8],
 ) -> Result<Option<Row>, AllocError>
-    ensures { IfOk result (λ row. (all : List Version) (ps : List (Placed Admitted)) → Tells all ps question.now.moment → Answers all key (last_stamp question.now.moment) (Some (found_at stamp octets.now)) → EndedAt all (last_stamp question.now.moment) (first_key key) ended.now → IsRowAt ps question.now key row) }
+    ensures { IfOk result (λ row. (all : List Version) (ps : List (Placed Admitted)) → Reports all ps question.now.moment → Answers all key (last_stamp question.now.moment) (Some (found_at stamp octets.now)) → EndedAt all (last_stamp question.now.moment) (first_key key) ended.now → IsRowAt ps question.now key row) }
 {
-    let Some(spot) = wanted_at(question, key) else {
+    let Some(spot) = expected_at(question, key) else {
         return Ok(None);
     };
     let Some(route) = route_in(alloc, ended, stamp, octets)? else {
@@ -216,18 +216,18 @@ impl RowsCursor {
         stamp: Stamp,
         octets: &[u8],
     ) -> Result<(), AllocError>
-        ensures taken { (all : List Version) (ps : List (Placed Admitted)) → Tells all ps self.old.question.moment → IsUnderWay all ps self.old.question (number_at front) self.old.ended self.old.rows.items self.old.more → IsReached all (last_stamp self.old.question.moment) (number_at front) (ReachAt key (found_at stamp octets.now)) → OnOk result (Gathered all ps self.new) }
+        ensures taken { (all : List Version) (ps : List (Placed Admitted)) → Reports all ps self.old.question.moment → IsUnderWay all ps self.old.question (number_at front) self.old.ended self.old.rows.items self.old.more → IsReached all (last_stamp self.old.question.moment) (number_at front) (ReachAt key (found_at stamp octets.now)) → OnOk result (Gathered all ps self.new) }
         ensures rose { number_at front ≤ key → OnOk result (Rose (Some (number_at front)) (front_number self.new.front)) }
         ensures question { self.new.question ≡ self.old.question }
         ensures same { OnErr result (IsSame self.old self.new) }
     {
         if key.first_of_peer() == key {
-            self.go_on(Front::behind(key), Some(stamp));
+            self.go_on(Front::beyond(key), Some(stamp));
             return Ok(());
         }
         let ended = known(&self.ended, &front, key);
         let Some(row) = row_at(alloc, &self.question, key, &ended, stamp, octets)? else {
-            self.go_on(Front::behind(key), ended);
+            self.go_on(Front::beyond(key), ended);
             return Ok(());
         };
         if self.rows.len() >= MAX_ROWS {
@@ -236,7 +236,7 @@ impl RowsCursor {
             return Ok(());
         }
         self.rows.push(row)?;
-        self.go_on(Front::behind(key), ended);
+        self.go_on(Front::beyond(key), ended);
         Ok(())
     }
 
@@ -247,7 +247,7 @@ impl RowsCursor {
         front: Front,
         reached: Reached,
     ) -> Result<(), AllocError>
-        ensures taken { (all : List Version) (ps : List (Placed Admitted)) → Tells all ps self.old.question.moment → IsUnderWay all ps self.old.question (number_at front) self.old.ended self.old.rows.items self.old.more → IsReached all (last_stamp self.old.question.moment) (number_at front) (reached_as reached) → OnOk result (Gathered all ps self.new × Rose (Some (number_at front)) (front_number self.new.front)) }
+        ensures taken { (all : List Version) (ps : List (Placed Admitted)) → Reports all ps self.old.question.moment → IsUnderWay all ps self.old.question (number_at front) self.old.ended self.old.rows.items self.old.more → IsReached all (last_stamp self.old.question.moment) (number_at front) (reached_as reached) → OnOk result (Gathered all ps self.new × Rose (Some (number_at front)) (front_number self.new.front)) }
         ensures rose { GoesOnFrom (number_at front) reached → OnOk result (Rose (Some (number_at front)) (front_number self.new.front)) }
         ensures question { self.new.question ≡ self.old.question }
         ensures same { OnErr result (IsSame self.old self.new) }

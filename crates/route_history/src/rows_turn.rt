@@ -11,8 +11,8 @@ ghost use Rattle.tsb_walk.specs.Knowing.{ReadsWell, StandsKnown};
 ghost use Rattle.route_history.specs.Stamps.{last_stamp};
 ghost use Rattle.route_history.specs.Fronts.{front_number};
 ghost use Rattle.route_history.specs.Blame.{BlamesNone};
-ghost use Rattle.route_history.specs.Walks.{Tells, Gathered, Rose, IsSame, HasLeapt};
-ghost use Rattle.route_history.specs.RowTurns.{HasFit, IsTurn, IsErrandOf, IsTold};
+ghost use Rattle.route_history.specs.Walks.{Reports, Gathered, Rose, IsSame, HasLeapt};
+ghost use Rattle.route_history.specs.RowTurns.{HasFit, IsTurn, IsErrandOf, IsReported};
 
 use crate::front::Front;
 use crate::leap::leap;
@@ -66,18 +66,18 @@ impl RowsCursor {
     }
 
     // The answer if the walk is over, or else that it goes on.
-    fn told(&mut self, alloc: Global) -> RowsTurn
-        ensures told { IsTold self.old self.new result }
+    fn reported(&mut self, alloc: Global) -> RowsTurn
+        ensures reported { IsReported self.old self.new result }
         ensures question { self.new.question ≡ self.old.question }
     {
         match self.front {
-            None => RowsTurn::Done(self.tell(alloc)),
+            None => RowsTurn::Done(self.report(alloc)),
             Some(_) => RowsTurn::Again,
         }
     }
 
     // The answer.
-    fn tell(&mut self, alloc: Global) -> RowsAnswer
+    fn report(&mut self, alloc: Global) -> RowsAnswer
         ensures rows { result.rows.items ≡ self.old.rows.items }
         ensures more { result.more ≡ self.old.more }
         ensures question { self.new.question ≡ self.old.question }
@@ -96,23 +96,23 @@ pub fn take_rows_turn<V: Versions>(
     alloc: Global,
     cursor: &mut RowsCursor,
 ) -> Result<RowsTurn, NodeError>
-    ensures turn { IfOk result (λ turn. (blocks : ℕ → Option BlockNode) (all : List Version) (ps : List (Placed Admitted)) → V.stands versions.old blocks all → Tells all ps cursor.old.question.moment → Gathered all ps cursor.old → IsTurn blocks all ps cursor.old cursor.new turn) }
+    ensures turn { IfOk result (λ turn. (blocks : ℕ → Option BlockNode) (all : List Version) (ps : List (Placed Admitted)) → V.stands versions.old blocks all → Reports all ps cursor.old.question.moment → Gathered all ps cursor.old → IsTurn blocks all ps cursor.old cursor.new turn) }
     ensures fits { IfOk result (λ turn. HasFit cursor.new turn) }
-    ensures refused { OnErr result ((all : List Version) (ps : List (Placed Admitted)) → Tells all ps cursor.old.question.moment → Gathered all ps cursor.old → Gathered all ps cursor.new) }
+    ensures refused { OnErr result ((all : List Version) (ps : List (Placed Admitted)) → Reports all ps cursor.old.question.moment → Gathered all ps cursor.old → Gathered all ps cursor.new) }
     ensures blames { IfErr result (λ refusal. (blocks : ℕ → Option BlockNode) (all : List Version) → V.stands versions.old blocks all → BlamesNone refusal) }
     ensures question { cursor.new.question ≡ cursor.old.question }
     ensures kept { (blocks : ℕ → Option BlockNode) (all : List Version) → V.stands versions.old blocks all → V.stands versions.new blocks all }
 {
     let Some(front) = cursor.leap() else {
-        return Ok(RowsTurn::Done(cursor.tell(alloc)));
+        return Ok(RowsTurn::Done(cursor.report(alloc)));
     };
     let Some(from) = front.first() else {
-        return Ok(RowsTurn::Done(cursor.tell(alloc)));
+        return Ok(RowsTurn::Done(cursor.report(alloc)));
     };
     match versions.next(from, last_stamp(cursor.question.moment))? {
         Looked::Here(reached) => {
             cursor.take(alloc, front, reached)?;
-            Ok(cursor.told(alloc))
+            Ok(cursor.reported(alloc))
         }
         Looked::InBlock(place) => Ok(RowsTurn::Historical(RowsErrand { from, place })),
     }
@@ -130,7 +130,7 @@ impl RowsErrand {
         cursor: &mut RowsCursor,
     ) -> Result<(), BlockError>
         requires fits { IsErrandOf cursor.old self }
-        ensures finished { (all : List Version) (ps : List (Placed Admitted)) → StandsKnown O.OnceDisk reader.old seen.old all self.place → Tells all ps cursor.old.question.moment → Gathered all ps cursor.old → OnOk result (Gathered all ps cursor.new × Rose (front_number cursor.old.front) (front_number cursor.new.front)) }
+        ensures finished { (all : List Version) (ps : List (Placed Admitted)) → StandsKnown O.OnceDisk reader.old seen.old all self.place → Reports all ps cursor.old.question.moment → Gathered all ps cursor.old → OnOk result (Gathered all ps cursor.new × Rose (front_number cursor.old.front) (front_number cursor.new.front)) }
         ensures question { cursor.new.question ≡ cursor.old.question }
         ensures refused { OnErr result (IsSame cursor.old cursor.new) }
         ensures reads { (all : List Version) → StandsKnown O.OnceDisk reader.old seen.old all self.place → ReadsWell O.OnceDisk reader.new seen.new }

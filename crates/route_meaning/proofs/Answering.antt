@@ -24,11 +24,11 @@ use Rattle.route_meaning.specs.Merged.{Placed}
 use Rattle.route_meaning.specs.Holds.{same_address, same_peer, same_prefix, until, changes_of}
 use Rattle.route_meaning.specs.Rows.{Selects, row_number, spot_number, IsAbove, IsWithin, AreRising, IsRow, AreRows}
 use Rattle.route_meaning.specs.declared.question.RowsRange.{RowsRange}
-use Rattle.route_meaning.specs.inner.Replay.{spot_cmp, spot, IsSpot, selects, is_above, is_within, is_wanted, IsTable, row_at}
+use Rattle.route_meaning.specs.inner.Replay.{spot_cmp, spot, IsSpot, selects, is_above, is_within, is_expected, IsTable, row_at}
 use Rattle.route_meaning.proofs.Holding.{both, all_true, same_address-true, same_address-itself, same_peer-true, same_prefix-true, same_peer-itself, same_prefix-itself, Holds-after, after-Holds}
 use Rattle.route_meaning.proofs.Spots.{spot_cmp_total, spot_cmp-itself, same_spot, spots_below}
 
--- ---- what is wanted
+-- ---- what is asked for
 
 family-cleared : (n : ℕ) (a : Address) → family (cleared_address n a) ≡ family a
 family-cleared n (V4 o) = refl
@@ -70,9 +70,9 @@ is_within_of : (high : Option Spot) (n : ℕ) → IsWithin high n → is_within 
 is_within_of None n h = refl
 is_within_of (Some l) n h = ap not (le-ltb (spot_number l) n h)
 
--- a row's spot is wanted
-pub wanted_row : (ps : List (Placed Admitted)) (moment : ℕ) (w : RowsRange) (row : Row) → IsRow ps moment w.select w.low w.high row → is_wanted w (spot row.peer row.prefix) ≡ true
-wanted_row ps moment w row h =
+-- a row's spot is asked for
+pub expected_row : (ps : List (Placed Admitted)) (moment : ℕ) (w : RowsRange) (row : Row) → IsRow ps moment w.select w.low w.high row → is_expected w (spot row.peer row.prefix) ≡ true
+expected_row ps moment w row h =
     all_true _ _ (is_selects w.select row.peer row.prefix h.selected) (all_true _ _ (is_above_of w.low (row_number row) h.above) (is_within_of w.high (row_number row) h.within))
 
 -- ---- the entries of the table
@@ -119,16 +119,16 @@ module _ (ps : List (Placed Admitted)) (moment : ℕ) (w : RowsRange) (table : B
   Held d = IsRow ps moment w.select w.low w.high (row_at d.0 d.1)
 
   row_is : (s : Spot) (route : Route) → get spot_cmp table s ≡ Some route → IsRow ps moment w.select w.low w.high (row_at s route)
-  row_is s route e = elim (cases_Bool (is_wanted w s)) [
-    | inl want ↦ (
-        let h = both _ _ want in let i = both _ _ h.1 in
+  row_is s route e = elim (cases_Bool (is_expected w s)) [
+    | inl need ↦ (
+        let h = both _ _ need in let i = both _ _ h.1 in
         record {
           selected = selects_is w.select s.peer s.prefix h.0;
           above = above_is w.low (spot_number s) i.0;
           within = within_is w.high (spot_number s) i.1;
-          holds = after-Holds ps moment s.peer s.prefix route (sym (t.at s ∙ rw want refl) ∙ e);
+          holds = after-Holds ps moment s.peer s.prefix route (sym (t.at s ∙ rw need refl) ∙ e);
         })
-    | inr not_wanted ↦ absurd (none-some route (sym (t.at s ∙ rw not_wanted refl) ∙ e))
+    | inr not_expected ↦ absurd (none-some route (sym (t.at s ∙ rw not_expected refl) ∙ e))
   ]
 
   all_rows : (es : List (Spot × Route)) → AllByRecursion (λ d. get spot_cmp table d.0 ≡ Some d.1) es → AllByRecursion (IsRow ps moment w.select w.low w.high) (rows_of es)
@@ -136,7 +136,7 @@ module _ (ps : List (Placed Admitted)) (moment : ℕ) (w : RowsRange) (table : B
   all_rows (e ∷ es) a = (row_is e.0 e.1 a.0, all_rows es a.1)
 
   row_found : (row : Row) → IsRow ps moment w.select w.low w.high row → get spot_cmp table (spot row.peer row.prefix) ≡ Some row.route
-  row_found row h = t.at (spot row.peer row.prefix) ∙ rw (wanted_row ps moment w row h) (Holds-after ps moment row.peer row.prefix row.route h.holds)
+  row_found row h = t.at (spot row.peer row.prefix) ∙ rw (expected_row ps moment w row h) (Holds-after ps moment row.peer row.prefix row.route h.holds)
 
   all_spots : (es : List (Spot × Route)) → AllByRecursion (λ d. get spot_cmp table d.0 ≡ Some d.1) es → AllByRecursion (λ e. IsSpot e.0) es
   all_spots [] a = tt

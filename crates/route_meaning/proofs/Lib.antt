@@ -5,6 +5,6 @@ pub mod Placing
 pub mod Spots
 pub mod Replays
 pub mod Answering
-pub mod Told
+pub mod Reported
 pub mod Growing
 pub mod api

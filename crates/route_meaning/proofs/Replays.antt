@@ -20,7 +20,7 @@ use Rattle.route_model.specs.declared.change.Change.{Change}
 use Rattle.route_model.specs.declared.change.Change.TheVariants.{Announce, Withdraw, Down}
 use Rattle.route_meaning.specs.Holds.{same_peer, until, changes_of}
 use Rattle.route_meaning.specs.declared.question.RowsRange.{RowsRange}
-use Rattle.route_meaning.specs.inner.Replay.{spot_cmp, spot, IsSpot, is_wanted, route_after, IsTable}
+use Rattle.route_meaning.specs.inner.Replay.{spot_cmp, spot, IsSpot, is_expected, route_after, IsTable}
 use Rattle.route_meaning.proofs.Holding.{same_peer-sym, route_after-append}
 use Rattle.route_meaning.proofs.Spots.{spot_cmp-eq, same_spot}
 
@@ -37,18 +37,18 @@ put_valid : (hit : Bool) (s : Spot) (x before new : Option Route) (route : Route
 put_valid true s x before new route h v n e = h refl
 put_valid false s x before new route h v n e = v route (sym n ∙ e)
 
-put : (hit want : Bool) (x old before new : Option Route) → (hit ≡ true → want ≡ true) → new ≡ cond hit x before → before ≡ cond want old None → new ≡ cond want (cond hit x old) None
+put : (hit need : Bool) (x old before new : Option Route) → (hit ≡ true → need ≡ true) → new ≡ cond hit x before → before ≡ cond need old None → new ≡ cond need (cond hit x old) None
 put true true x old before new w n b = n
 put true false x old before new w n b = absurd (false≢true (w refl))
 put false true x old before new w n b = n ∙ b
 put false false x old before new w n b = n ∙ b
 
-skip : (hit want : Bool) (x old before : Option Route) → (hit ≡ true → want ≡ false) → before ≡ cond want old None → before ≡ cond want (cond hit x old) None
+skip : (hit need : Bool) (x old before : Option Route) → (hit ≡ true → need ≡ false) → before ≡ cond need old None → before ≡ cond need (cond hit x old) None
 skip true true x old before w b = absurd (false≢true (sym (w refl)))
 skip true false x old before w b = b
-skip false want x old before w b = b
+skip false need x old before w b = b
 
-clear : (hit want : Bool) (old before new : Option Route) → new ≡ cond hit None before → before ≡ cond want old None → new ≡ cond want (cond hit None old) None
+clear : (hit need : Bool) (old before new : Option Route) → new ≡ cond hit None before → before ≡ cond need old None → new ≡ cond need (cond hit None old) None
 clear true true old before new n b = n
 clear true false old before new n b = n
 clear false true old before new n b = n ∙ b
@@ -58,12 +58,12 @@ module _ (w : RowsRange) (changes : List Change) (m n : BTreeMap Spot Route) (t 
   before : Spot → Option Route
   before s = route_after s.peer s.prefix None changes
 
-  pub announced : (p : Peer) (x : IpPrefix) (route : Route) → IsSpot (spot p x) → is_wanted w (spot p x) ≡ true → ((s : Spot) → get spot_cmp n s ≡ cond (is_eq (spot_cmp (spot p x) s)) (Some route) (get spot_cmp m s)) → IsTable w (changes ++ Announce p x route ∷ []) n
-  announced p x route is wanted u = record {
+  pub announced : (p : Peer) (x : IpPrefix) (route : Route) → IsSpot (spot p x) → is_expected w (spot p x) ≡ true → ((s : Spot) → get spot_cmp n s ≡ cond (is_eq (spot_cmp (spot p x) s)) (Some route) (get spot_cmp m s)) → IsTable w (changes ++ Announce p x route ∷ []) n
+  announced p x route is expected u = record {
     at = λ s.
         rw (route_after-append s.peer s.prefix None changes (Announce p x route ∷ []), ← spot_cmp-eq (spot p x) s)
-        (put (is_eq (spot_cmp (spot p x) s)) (is_wanted w s) (Some route) (route_after s.peer s.prefix None changes) (get spot_cmp m s) (get spot_cmp n s)
-        (λ e. ap (is_wanted w) (sym (same_spot (spot p x) s e)) ∙ wanted) (u s) (t.at s));
+        (put (is_eq (spot_cmp (spot p x) s)) (is_expected w s) (Some route) (route_after s.peer s.prefix None changes) (get spot_cmp m s) (get spot_cmp n s)
+        (λ e. ap (is_expected w) (sym (same_spot (spot p x) s e)) ∙ expected) (u s) (t.at s));
     valid = λ s r.
         put_valid (is_eq (spot_cmp (spot p x) s)) s (Some route) (get spot_cmp m s) (get spot_cmp n s) r
         (λ e. subst IsSpot (same_spot (spot p x) s e) is) (t.valid s) (u s);
@@ -73,7 +73,7 @@ module _ (w : RowsRange) (changes : List Change) (m n : BTreeMap Spot Route) (t 
   withdrawn p x u = record {
     at = λ s.
         rw (route_after-append s.peer s.prefix None changes (Withdraw p x ∷ []), ← spot_cmp-eq (spot p x) s)
-        (clear (is_eq (spot_cmp (spot p x) s)) (is_wanted w s) (route_after s.peer s.prefix None changes) (get spot_cmp m s) (get spot_cmp n s) (u s) (t.at s));
+        (clear (is_eq (spot_cmp (spot p x) s)) (is_expected w s) (route_after s.peer s.prefix None changes) (get spot_cmp m s) (get spot_cmp n s) (u s) (t.at s));
     valid = λ s r. kept_valid (is_eq (spot_cmp (spot p x) s)) s (get spot_cmp m s) (get spot_cmp n s) r (t.valid s) (u s);
   }
 
@@ -81,16 +81,16 @@ module _ (w : RowsRange) (changes : List Change) (m n : BTreeMap Spot Route) (t 
   ended p u = record {
     at = λ s.
         rw (route_after-append s.peer s.prefix None changes (Down p ∷ []))
-        (clear (same_peer p s.peer) (is_wanted w s) (route_after s.peer s.prefix None changes) (get spot_cmp m s) (get spot_cmp n s) (u s) (t.at s));
+        (clear (same_peer p s.peer) (is_expected w s) (route_after s.peer s.prefix None changes) (get spot_cmp m s) (get spot_cmp n s) (u s) (t.at s));
     valid = λ s r. kept_valid (same_peer p s.peer) s (get spot_cmp m s) (get spot_cmp n s) r (t.valid s) (u s);
   }
 
-pub passed_over : (w : RowsRange) (changes : List Change) (m : BTreeMap Spot Route) (p : Peer) (x : IpPrefix) (route : Route) → is_wanted w (spot p x) ≡ false → IsTable w changes m → IsTable w (changes ++ Announce p x route ∷ []) m
+pub passed_over : (w : RowsRange) (changes : List Change) (m : BTreeMap Spot Route) (p : Peer) (x : IpPrefix) (route : Route) → is_expected w (spot p x) ≡ false → IsTable w changes m → IsTable w (changes ++ Announce p x route ∷ []) m
 passed_over w changes m p x route unwanted t = record {
   at = λ s.
       rw (route_after-append s.peer s.prefix None changes (Announce p x route ∷ []), ← spot_cmp-eq (spot p x) s)
-      (skip (is_eq (spot_cmp (spot p x) s)) (is_wanted w s) (Some route) (route_after s.peer s.prefix None changes) (get spot_cmp m s)
-      (λ e. ap (is_wanted w) (sym (same_spot (spot p x) s e)) ∙ unwanted) (t.at s));
+      (skip (is_eq (spot_cmp (spot p x) s)) (is_expected w s) (Some route) (route_after s.peer s.prefix None changes) (get spot_cmp m s)
+      (λ e. ap (is_expected w) (sym (same_spot (spot p x) s e)) ∙ unwanted) (t.at s));
   valid = t.valid;
 }
 
@@ -168,7 +168,7 @@ take_whole (suc n) (x ∷ xs) le = ap (λ l. x ∷ l) (take_whole n xs (omega ar
 
 pub IsTable-none : (w : RowsRange) (m : BTreeMap Spot Route) → m.entries ≡ [] → IsTable w [] m
 IsTable-none w m e = record {
-  at = λ s. ap (lookup (λ k. is_eq (spot_cmp s k))) e ∙ sym (none (is_wanted w s));
+  at = λ s. ap (lookup (λ k. is_eq (spot_cmp s k))) e ∙ sym (none (is_expected w s));
   valid = λ s r found. absurd (none-some r (sym (ap (lookup (λ k. is_eq (spot_cmp s k))) e) ∙ found));
 }
   where

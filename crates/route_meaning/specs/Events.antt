@@ -27,6 +27,6 @@ abbrev pub events : List (Placed Admitted) → EventsQuestion → List Event
 events ps q = drop q.skip (all_events q.peer q.prefix (between q.from q.to ps))
 
 -- the answer: the first of these events, and whether more follow
-pub record IsEventsAnswer (ps : List (Placed Admitted)) (q : EventsQuestion) (told : List Event) (more : Bool) : Type 0 where
-  pub first : told ≡ take most_rows (events ps q)
+pub record IsEventsAnswer (ps : List (Placed Admitted)) (q : EventsQuestion) (reported : List Event) (more : Bool) : Type 0 where
+  pub first : reported ≡ take most_rows (events ps q)
   pub rest : more ≡ nat_lt most_rows (length (events ps q))

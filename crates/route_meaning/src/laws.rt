@@ -32,7 +32,7 @@ pub fn settled_answers_stay()
     ensures holds { (h g : History) (moment : ℕ) (peer : Peer) (prefix : IpPrefix) (route : Route) → IsHistory h → Begins h g → moment < settled h → Holds (applied h) moment peer prefix route ↔ Holds (all_of g) moment peer prefix route }
     ensures range { (h g : History) (moment : ℕ) (select : Select) (low high : Option Spot) (rows : List Row) → IsHistory h → Begins h g → moment < settled h → AreRows (applied h) moment select low high rows ↔ AreRows (all_of g) moment select low high rows }
     ensures rows { (h g : History) (q : RowsQuestion) (rows : List Row) (more : Bool) → IsHistory h → Begins h g → q.moment < settled h → IsAnswer (applied h) q rows more ↔ IsAnswer (all_of g) q rows more }
-    ensures events { (h g : History) (q : EventsQuestion) (told : List Event) (more : Bool) → IsHistory h → Begins h g → q.to < settled h → IsEventsAnswer (applied h) q told more ↔ IsEventsAnswer (all_of g) q told more }
+    ensures events { (h g : History) (q : EventsQuestion) (reported : List Event) (more : Bool) → IsHistory h → Begins h g → q.to < settled h → IsEventsAnswer (applied h) q reported more ↔ IsEventsAnswer (all_of g) q reported more }
 {}
 
 /// What is applied, wholly or in part, stays the front of all that was admitted, and of the changes

@@ -19,7 +19,7 @@
 //! last change. Else a step that moves the place could go on for ever without applying anything. What may follow in
 //! an intake has a floor, which today is the mark (`floor`). The settled watermark of no collectors is 0.
 //!
-//! The plain program replays into an ordered map of the wanted prefixes: one pass over the list, one over the map. A
+//! The plain program replays into an ordered map of the prefixes that are asked for: one pass over the list, one over the map. A
 //! `Down` looks through the map, so a table of all peers with many ended sessions is slow, which a reference program
 //! may be. [`PlacedAdmission`] borrows its admission, so `merge` copies none; rows and events share routes. Maps are
 //! ordered by the derived order of spots, which is proved to be that of keys.
@@ -29,7 +29,7 @@ pub mod laws;
 mod placed;
 mod question;
 mod replay;
-mod telling;
+mod reporting;
 
 pub use placed::{PlacedAdmission, merge};
 pub use question::{
@@ -37,4 +37,4 @@ pub use question::{
     Select, Spot,
 };
 pub use replay::{answer_rows, rows_in};
-pub use telling::{answer_events, events_of};
+pub use reporting::{answer_events, events_of};

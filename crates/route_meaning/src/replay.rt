@@ -9,7 +9,7 @@ ghost use Rattle.route_model.specs.Prefix.{IsPrefix};
 ghost use Rattle.route_meaning.specs.declared.question.Spot.{Spot};
 ghost use Rattle.route_meaning.specs.Holds.{same_peer, until, changes_of};
 ghost use Rattle.route_meaning.specs.Rows.{spot_number, AreRows, IsAnswer};
-ghost use Rattle.route_meaning.specs.inner.Replay.{IsSpot, covers, selects, is_above, is_within, is_wanted, spot_cmp, IsTable, row_at};
+ghost use Rattle.route_meaning.specs.inner.Replay.{IsSpot, covers, selects, is_above, is_within, is_expected, spot_cmp, IsTable, row_at};
 
 use crate::placed::PlacedAdmission;
 use crate::question::{MAX_ROWS, Row, RowsAnswer, RowsQuestion, RowsRange, Select, Spot};
@@ -72,7 +72,7 @@ impl RowsRange {
     // Is the spot selected, above low and not above high?
     fn has(&self, spot: &Spot) -> bool
         requires { IsSpot spot.now }
-        ensures { result ≡ is_wanted self.now spot.now }
+        ensures { result ≡ is_expected self.now spot.now }
     {
         self.selects(spot) && self.is_above(spot) && self.is_within(spot)
     }

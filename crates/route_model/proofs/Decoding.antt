@@ -11,7 +11,7 @@ use Rattle.route_model.specs.declared.route.Route.{Route}
 use Rattle.route_model.specs.declared.change.Change.{Change}
 use Rattle.route_model.specs.declared.change.Change.TheVariants.{Announce, Withdraw, Down}
 use Rattle.route_model.specs.Prefix.{IpPrefix, IsPrefix, prefix_octets}
-use Rattle.route_model.specs.Spelling.{IsPeer, peer_octets, IsRoute, route_octets, SpellsRoute}
+use Rattle.route_model.specs.Encoding.{IsPeer, peer_octets, IsRoute, route_octets, EncodesRoute}
 use Rattle.route_model.specs.Tables.{distinct, place_of, has_row}
 use Rattle.route_model.specs.Admission.{change_octets, sized, IsChange}
 use Rattle.route_model.specs.inner.Codec.{number_at, whole, peer_at, route_at}
@@ -35,11 +35,11 @@ has_row-append [] rows x = rw (same x) refl
 has_row-append (y ∷ front) rows x = elim (bool_cases (bytes_eq y x)) [ inl p ↦ rw p refl | inr p ↦ rw p (has_row-append front rows x) ]
 
 -- a value of the table stands at its place
-place_get : {A : Type 0} (spell : A → List ℕ) (P : A → Type 0) (x : A) → ((y : A) → P y → spell y ≡ spell x → y ≡ x) → (table : List A) → AllByRecursion P table → has_row (map spell table) (spell x) ≡ true → slice_get table (place_of (map spell table) (spell x)) ≡ Some x
-place_get spell P x one [] all has = absurd cc
-place_get spell P x one (y ∷ table) all has = elim (bool_cases (bytes_eq (spell y) (spell x))) [
-  | inl p ↦ rw p (ap (λ (z : _). Some z) (one y all.0 (is_same (spell y) (spell x) p)))
-  | inr p ↦ rw (p, add-one) (place_get spell P x one table all.1 (rw p at has))
+place_get : {A : Type 0} (encode : A → List ℕ) (P : A → Type 0) (x : A) → ((y : A) → P y → encode y ≡ encode x → y ≡ x) → (table : List A) → AllByRecursion P table → has_row (map encode table) (encode x) ≡ true → slice_get table (place_of (map encode table) (encode x)) ≡ Some x
+place_get encode P x one [] all has = absurd cc
+place_get encode P x one (y ∷ table) all has = elim (bool_cases (bytes_eq (encode y) (encode x))) [
+  | inl p ↦ rw p (ap (λ (z : _). Some z) (one y all.0 (is_same (encode y) (encode x) p)))
+  | inr p ↦ rw (p, add-one) (place_get encode P x one table all.1 (rw p at has))
 ]
 
 place_within : (rows : List (List ℕ)) (x : List ℕ) → place_of rows x ≤ length rows
@@ -53,8 +53,8 @@ whole_route r is =
     let e : route_at (route_octets r) ≡ Some (r, []) = subst (λ (t : List ℕ). route_at t ≡ Some (r, [])) (append-nil (route_octets r)) (route_again r [] is) in
     rw e refl
 
-pub route_spelled : (r : Route) (bytes : List ℕ) → SpellsRoute r bytes → whole (route_at bytes) ≡ Some r
-route_spelled r bytes is = ap (λ (t : List ℕ). whole (route_at t)) is.spelled ∙ whole_route r is.valid
+pub route_encoded : (r : Route) (bytes : List ℕ) → EncodesRoute r bytes → whole (route_at bytes) ≡ Some r
+route_encoded r bytes is = ap (λ (t : List ℕ). whole (route_at t)) is.encoded ∙ whole_route r is.valid
 
 route_one : (r q : Route) → IsRoute r → IsRoute q → route_octets r ≡ route_octets q → r ≡ q
 route_one r q is iq e =
@@ -78,13 +78,13 @@ row_again r rest is few =
     ap row_at (append_assoc (to_be_bytes w16 (length row)) row rest)
     ∙ rw (number_again w16 (2 ^ 16) wide16 (length row) (row ++ rest) (omega arith), octets_again row rest (length row) refl, whole_route r is) refl
 
-pub flat_map-map : {A : Type 0} (spell : A → List ℕ) (xs : List A) → flat_map (λ row. row) (map spell xs) ≡ flat_map spell xs
-flat_map-map spell [] = refl
-flat_map-map spell (x ∷ xs) = flat_map-cons (λ (row : List ℕ). row) (spell x) (map spell xs) ∙ ap (λ (t : List ℕ). spell x ++ t) (flat_map-map spell xs) ∙ sym (flat_map-cons spell x xs)
+pub flat_map-map : {A : Type 0} (encode : A → List ℕ) (xs : List A) → flat_map (λ row. row) (map encode xs) ≡ flat_map encode xs
+flat_map-map encode [] = refl
+flat_map-map encode (x ∷ xs) = flat_map-cons (λ (row : List ℕ). row) (encode x) (map encode xs) ∙ ap (λ (t : List ℕ). encode x ++ t) (flat_map-map encode xs) ∙ sym (flat_map-cons encode x xs)
 
-pub length-map : {A : Type 0} (spell : A → List ℕ) (xs : List A) → length (map spell xs) ≡ length xs
-length-map spell [] = refl
-length-map spell (x ∷ xs) = ap suc (length-map spell xs)
+pub length-map : {A : Type 0} (encode : A → List ℕ) (xs : List A) → length (map encode xs) ≡ length xs
+length-map encode [] = refl
+length-map encode (x ∷ xs) = ap suc (length-map encode xs)
 
 -- ---- changes
 
@@ -101,8 +101,8 @@ Fits peers routes c = IsChange c × IsIn peers routes c
 abbrev pub PrefixAgain : Type 0
 PrefixAgain = (x : IpPrefix) (rest : List ℕ) → IsPrefix x → prefix_at (prefix_octets x ++ rest) ≡ Some (x, rest)
 
-place_again : {A : Type 0} (spell : A → List ℕ) (table : List A) (row rest : List ℕ) → length table < 2 ^ 16 → number_at w16 (to_be_bytes w16 (place_of (map spell table) row) ++ rest) ≡ Some (place_of (map spell table) row, rest)
-place_again spell table row rest lt = number_again w16 (2 ^ 16) wide16 (place_of (map spell table) row) rest (omega (arith, place_within (map spell table) row, length-map spell table))
+place_again : {A : Type 0} (encode : A → List ℕ) (table : List A) (row rest : List ℕ) → length table < 2 ^ 16 → number_at w16 (to_be_bytes w16 (place_of (map encode table) row) ++ rest) ≡ Some (place_of (map encode table) row, rest)
+place_again encode table row rest lt = number_again w16 (2 ^ 16) wide16 (place_of (map encode table) row) rest (omega (arith, place_within (map encode table) row, length-map encode table))
 
 peer_get : (peers : List Peer) (p : Peer) → AllByRecursion IsPeer peers → IsPeer p → has_row (map peer_octets peers) (peer_octets p) ≡ true → slice_get peers (place_of (map peer_octets peers) (peer_octets p)) ≡ Some p
 peer_get peers p all is has = place_get peer_octets IsPeer p (λ y iy e. peer_one y p iy is e) peers all has

@@ -94,9 +94,9 @@ octets_take n bytes o rest e =
       rest_is = rest-is;
     }
 
-pub repeat_again : {A : Type 0} (read : List ℕ → Option (A × List ℕ)) (spell : A → List ℕ) (P : A → Type 0) → ((a : A) (rest : List ℕ) → P a → read (spell a ++ rest) ≡ Some (a, rest)) → (xs : List A) (rest : List ℕ) → AllByRecursion P xs → repeat read (length xs) (flat_map spell xs ++ rest) ≡ Some (xs, rest)
+pub repeat_again : {A : Type 0} (read : List ℕ → Option (A × List ℕ)) (encode : A → List ℕ) (P : A → Type 0) → ((a : A) (rest : List ℕ) → P a → read (encode a ++ rest) ≡ Some (a, rest)) → (xs : List A) (rest : List ℕ) → AllByRecursion P xs → repeat read (length xs) (flat_map encode xs ++ rest) ≡ Some (xs, rest)
 unfolding repeat
-repeat_again read spell P each [] rest all = refl
-repeat_again read spell P each (x ∷ xs) rest all =
-    let regrouped : flat_map spell (x ∷ xs) ++ rest ≡ spell x ++ (flat_map spell xs ++ rest) = rw flat_map-cons (append_assoc (spell x) (flat_map spell xs) rest) in
-    rw (regrouped, each x (flat_map spell xs ++ rest) all.0, repeat_again read spell P each xs rest all.1) refl
+repeat_again read encode P each [] rest all = refl
+repeat_again read encode P each (x ∷ xs) rest all =
+    let regrouped : flat_map encode (x ∷ xs) ++ rest ≡ encode x ++ (flat_map encode xs ++ rest) = rw flat_map-cons (append_assoc (encode x) (flat_map encode xs) rest) in
+    rw (regrouped, each x (flat_map encode xs ++ rest) all.0, repeat_again read encode P each xs rest all.1) refl

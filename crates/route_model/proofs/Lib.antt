@@ -9,7 +9,7 @@ pub mod Indexed
 pub mod Written
 pub mod Measures
 pub mod Decoding
-mod PeersTold
+mod PeersReported
 pub mod Prefixes
 pub mod Whole
 pub mod api

@@ -25,7 +25,7 @@ pub ends : {A : Type 0} (read : List ℕ → Option (A × List ℕ)) (e : ReadEr
     → with_front front (repeat read (count - i) bytes) ≡ total → Fails e total
 unfolding repeat
 ends read errors.Memory front count i bytes total lt h so_far = tt
-ends read errors.Unspelled front count i bytes total lt h so_far =
+ends read errors.Unencoded front count i bytes total lt h so_far =
     let k : count - i ≡ suc (count - (i + 1)) = omega arith in
     let one : with_front front (repeat read (count - i) bytes) ≡ None = rw (k, h) refl in
     sym so_far ∙ one

@@ -15,14 +15,14 @@ big_four octets = omega arith
 pub big_eight : (octets : List ℕ) → big_number 8 octets ≡ from_be_bytes w64 octets
 big_eight octets = omega arith
 
-behind : (front rest : List ℕ) → drop (length front) (front ++ rest) ≡ rest
-behind front rest = drop_at front rest (length front) refl
+beyond : (front rest : List ℕ) → drop (length front) (front ++ rest) ≡ rest
+beyond front rest = drop_at front rest (length front) refl
 
 pub again_two : (front rest : List ℕ) (n : ℕ) → n < 2 ^ 16 → number_at 2 (length front) (front ++ (to_be_bytes w16 n ++ rest)) ≡ n
-again_two front rest n lt = ap (big_number 2) (behind front (to_be_bytes w16 n ++ rest)) ∙ big_two (to_be_bytes w16 n ++ rest) ∙ from_be_bytes-to_be_bytes_2 n lt
+again_two front rest n lt = ap (big_number 2) (beyond front (to_be_bytes w16 n ++ rest)) ∙ big_two (to_be_bytes w16 n ++ rest) ∙ from_be_bytes-to_be_bytes_2 n lt
 
 pub again_four : (front rest : List ℕ) (n : ℕ) → n < 2 ^ 32 → number_at 4 (length front) (front ++ (to_be_bytes w32 n ++ rest)) ≡ n
-again_four front rest n lt = ap (big_number 4) (behind front (to_be_bytes w32 n ++ rest)) ∙ big_four (to_be_bytes w32 n ++ rest) ∙ from_be_bytes-to_be_bytes_4 n lt
+again_four front rest n lt = ap (big_number 4) (beyond front (to_be_bytes w32 n ++ rest)) ∙ big_four (to_be_bytes w32 n ++ rest) ∙ from_be_bytes-to_be_bytes_4 n lt
 
 pub again_eight : (front rest : List ℕ) (n : ℕ) → n < 2 ^ 64 → number_at 8 (length front) (front ++ (to_be_bytes w64 n ++ rest)) ≡ n
-again_eight front rest n lt = ap (big_number 8) (behind front (to_be_bytes w64 n ++ rest)) ∙ big_eight (to_be_bytes w64 n ++ rest) ∙ from_be_bytes-to_be_bytes_8 n lt
+again_eight front rest n lt = ap (big_number 8) (beyond front (to_be_bytes w64 n ++ rest)) ∙ big_eight (to_be_bytes w64 n ++ rest) ∙ from_be_bytes-to_be_bytes_8 n lt

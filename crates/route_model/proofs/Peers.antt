@@ -6,7 +6,7 @@ use Rattle.route_model.specs.declared.address.Address.{Address}
 use Rattle.route_model.specs.declared.address.Address.TheVariants.{V4, V6}
 use Rattle.route_model.specs.declared.peer.Peer.{Peer}
 use Rattle.route_model.specs.Address.{IsAddress, family, wide}
-use Rattle.route_model.specs.Spelling.{IsPeer, peer_octets, SpellsPeer}
+use Rattle.route_model.specs.Encoding.{IsPeer, peer_octets, EncodesPeer}
 use Rattle.route_model.specs.inner.Codec.{wide_address, peer_at, whole}
 use Rattle.route_model.proofs.Fields.{some_is, wide32, number_again, octets_again}
 
@@ -43,5 +43,5 @@ pub read_some : {A : Type 0} (read : Option (A × List ℕ)) (p : A) → read �
 read_some None p e f = absurd cc
 read_some (Some x) p e f = absurd cc
 
-pub peer_spelled : (p : Peer) (bytes : List ℕ) → SpellsPeer p bytes → peer_at bytes ≡ Some (p, [])
-peer_spelled p bytes is = ap peer_at (is.spelled ∙ sym (append-nil (peer_octets p))) ∙ peer_again p [] is.valid
+pub peer_encoded : (p : Peer) (bytes : List ℕ) → EncodesPeer p bytes → peer_at bytes ≡ Some (p, [])
+peer_encoded p bytes is = ap peer_at (is.encoded ∙ sym (append-nil (peer_octets p))) ∙ peer_again p [] is.valid

@@ -8,7 +8,7 @@ use Rattle.route_model.specs.declared.address.Address.{Address}
 use Rattle.route_model.specs.declared.address.Address.TheVariants.{V4, V6}
 use Rattle.route_model.specs.Octets.{AreOctets}
 use Rattle.route_model.specs.Address.{octets}
-use Rattle.route_model.specs.Prefix.{IpPrefix, cleared, IsPrefix, prefix_octets, SpellsPrefix}
+use Rattle.route_model.specs.Prefix.{IpPrefix, cleared, IsPrefix, prefix_octets, EncodesPrefix}
 use Rattle.route_model.specs.inner.Codec.Admissions.{prefix_at}
 use Rattle.route_model.proofs.Fields.{octets_again}
 
@@ -78,8 +78,8 @@ of_address (V6 o) n rest is = prefix_6 o n rest is.address.0 is.length (ap octet
 pub prefix_again : (p : IpPrefix) (rest : List ℕ) → IsPrefix p → prefix_at (prefix_octets p ++ rest) ≡ Some (p, rest)
 prefix_again p rest is = of_address p.address p.length rest is
 
-pub prefix_spelled : (p : IpPrefix) (bytes : List ℕ) → SpellsPrefix p bytes → prefix_at bytes ≡ Some (p, [])
-prefix_spelled p bytes is = ap prefix_at (is.spelled ∙ sym (append-nil (prefix_octets p))) ∙ prefix_again p [] is.valid
+pub prefix_encoded : (p : IpPrefix) (bytes : List ℕ) → EncodesPrefix p bytes → prefix_at bytes ≡ Some (p, [])
+prefix_encoded p bytes is = ap prefix_at (is.encoded ∙ sym (append-nil (prefix_octets p))) ∙ prefix_again p [] is.valid
 
 cleared-octets : (n : ℕ) (o : List ℕ) → AreOctets o → AreOctets (cleared n o)
 cleared-octets n [] all i = omega (arith, all i)

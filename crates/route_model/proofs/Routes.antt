@@ -14,7 +14,7 @@ use Rattle.route_model.specs.declared.route.NextHop.TheVariants.{One, Pair}
 use Rattle.route_model.specs.declared.route.Aggregator.{Aggregator}
 use Rattle.route_model.specs.declared.attribute.Attribute.{Attribute}
 use Rattle.route_model.specs.declared.route.Route.{Route}
-use Rattle.route_model.specs.Spelling.{segment, segments_octets, next_hop, optional, aggregator, attribute, attributes_octets, presence, flag, origin_octet, route_octets, is_ascending, IsSegment, IsNextHop, IsAttribute, IsAggregator, IsRoute}
+use Rattle.route_model.specs.Encoding.{segment, segments_octets, next_hop, optional, aggregator, attribute, attributes_octets, presence, flag, origin_octet, route_octets, is_ascending, IsSegment, IsNextHop, IsAttribute, IsAggregator, IsRoute}
 use Rattle.route_model.specs.inner.Codec.{number_at, repeat, segment_at, path_at, next_hop_at, optional_at, aggregator_at, attribute_at, attributes_at, origin_of, has, route_at}
 use Rattle.route_model.proofs.Fields.{wide16, wide32, number_again, octets_again, repeat_again}
 

@@ -8,7 +8,7 @@ use Rattle.route_model.specs.declared.change.Change.{Change}
 use Rattle.route_model.specs.declared.change.Change.TheVariants.{Announce, Withdraw, Down}
 use Rattle.route_model.specs.declared.peer.Peer.{Peer}
 use Rattle.route_model.specs.declared.route.Route.{Route}
-use Rattle.route_model.specs.Spelling.{peer_octets, route_octets}
+use Rattle.route_model.specs.Encoding.{peer_octets, route_octets}
 use Rattle.std.specs.Int.{w16, to_be_bytes}
 use Rattle.route_model.specs.Prefix.{front_octets}
 use Rattle.route_model.specs.Tables.{place_of, distinct, has_row, enter}
@@ -49,14 +49,14 @@ routes_of cs = map route_octets (flat_map announced cs)
 
 -- one step back: the row isn't at this place, and isn't after it
 pub peer_not_there : (cs : List Change) (n : ℕ) (c : Change) (row : List ℕ) → 1 ≤ n → n ≤ length cs → c ≡ get_or cs (n - 1) c → bytes_eq (peer_octets (peer_of c)) row ≡ false → has_row (peers_of (drop n cs)) row ≡ false → has_row (peers_of (drop (n - 1) cs)) row ≡ false
-peer_not_there cs n c row some le is absent behind =
+peer_not_there cs n c row some le is absent beyond =
     let again : n - 1 + 1 ≡ n = omega arith in
-    has_peer-drop cs (n - 1) c row (omega arith) is ∙ rw (absent, again) behind
+    has_peer-drop cs (n - 1) c row (omega arith) is ∙ rw (absent, again) beyond
 
 pub route_not_there : (cs : List Change) (n : ℕ) (c : Change) (row : List ℕ) → 1 ≤ n → n ≤ length cs → c ≡ get_or cs (n - 1) c → has_row (map route_octets (announced c)) row ≡ false → has_row (routes_of (drop n cs)) row ≡ false → has_row (routes_of (drop (n - 1) cs)) row ≡ false
-route_not_there cs n c row some le is absent behind =
+route_not_there cs n c row some le is absent beyond =
     let again : n - 1 + 1 ≡ n = omega arith in
-    has_route-drop cs (n - 1) c row (omega arith) is ∙ rw (absent, again) behind
+    has_route-drop cs (n - 1) c row (omega arith) is ∙ rw (absent, again) beyond
 
 or_true : (b : Bool) → (b || true) ≡ true
 or_true true = refl
@@ -81,16 +81,16 @@ route_there cs n c row some le is same =
 
 -- ---- one more row of a table
 
-enter-size : (spell : List ℕ → List ℕ) (rows : List (List ℕ)) (row : List ℕ) (n : ℕ) → n ≡ (if has_row rows row then 0 else length (spell row)) → length (flat_map spell (enter rows row)) ≡ length (flat_map spell rows) + n
-enter-size spell rows row n is = elim (bool_cases (has_row rows row)) [
+enter-size : (encode : List ℕ → List ℕ) (rows : List (List ℕ)) (row : List ℕ) (n : ℕ) → n ≡ (if has_row rows row then 0 else length (encode row)) → length (flat_map encode (enter rows row)) ≡ length (flat_map encode rows) + n
+enter-size encode rows row n is = elim (bool_cases (has_row rows row)) [
   | inl p ↦ rw p (omega (arith, rw p at is))
-  | inr p ↦ rw (p, flat_map-append spell rows (row ∷ []), append-nil (spell row)) (omega (arith, rw p at is, length-append (flat_map spell rows) (spell row)))
+  | inr p ↦ rw (p, flat_map-append encode rows (row ∷ []), append-nil (encode row)) (omega (arith, rw p at is, length-append (flat_map encode rows) (encode row)))
 ]
 
-table-size : (spell : List ℕ → List ℕ) (rows : List (List ℕ)) (row : List ℕ) (n : ℕ) → n ≡ (if has_row rows row then 0 else length (spell row)) → length (flat_map spell (distinct (rows ++ row ∷ []))) ≡ length (flat_map spell (distinct rows)) + n
-table-size spell rows row n is =
-    ap (λ (t : List (List ℕ)). length (flat_map spell t)) (distinct-push rows row)
-    ∙ enter-size spell (distinct rows) row n (is ∙ ap (λ (b : Bool). if b then 0 else length (spell row)) (sym (has_row-distinct rows row)))
+table-size : (encode : List ℕ → List ℕ) (rows : List (List ℕ)) (row : List ℕ) (n : ℕ) → n ≡ (if has_row rows row then 0 else length (encode row)) → length (flat_map encode (distinct (rows ++ row ∷ []))) ≡ length (flat_map encode (distinct rows)) + n
+table-size encode rows row n is =
+    ap (λ (t : List (List ℕ)). length (flat_map encode t)) (distinct-push rows row)
+    ∙ enter-size encode (distinct rows) row n (is ∙ ap (λ (b : Bool). if b then 0 else length (encode row)) (sym (has_row-distinct rows row)))
 
 pub peers-size : (cs : List Change) (c : Change) (n : ℕ) → n ≡ (if has_row (peers_of cs) (peer_octets (peer_of c)) then 0 else length (peer_octets (peer_of c))) → length (flat_map (λ row. row) (peer_rows (cs ++ c ∷ []))) ≡ length (flat_map (λ row. row) (peer_rows cs)) + n
 peers-size cs c n is =

@@ -46,14 +46,14 @@ pub distinct-push : (rows : List (List ℕ)) (x : List ℕ) → distinct (rows +
 distinct-push [] x = refl
 distinct-push (r ∷ rows) x = rw (distinct-push rows x) (enter-first r x (distinct rows))
 
-map-filter : {A : Type 0} (spell : A → List ℕ) (t : List ℕ → Bool) (xs : List A) → map spell (filter (λ y. t (spell y)) xs) ≡ filter t (map spell xs)
-map-filter spell t [] = refl
-map-filter spell t (x ∷ xs) = elim (bool_cases (t (spell x))) [ inl p ↦ rw p (ap (λ (l : List (List ℕ)). spell x ∷ l) (map-filter spell t xs)) | inr p ↦ rw p (map-filter spell t xs) ]
+map-filter : {A : Type 0} (encode : A → List ℕ) (t : List ℕ → Bool) (xs : List A) → map encode (filter (λ y. t (encode y)) xs) ≡ filter t (map encode xs)
+map-filter encode t [] = refl
+map-filter encode t (x ∷ xs) = elim (bool_cases (t (encode x))) [ inl p ↦ rw p (ap (λ (l : List (List ℕ)). encode x ∷ l) (map-filter encode t xs)) | inr p ↦ rw p (map-filter encode t xs) ]
 
 -- the rows of the values that are used are the rows that are used
-pub map-first_uses : {A : Type 0} (spell : A → List ℕ) (xs : List A) → map spell (first_uses spell xs) ≡ distinct (map spell xs)
-map-first_uses spell [] = refl
-map-first_uses spell (x ∷ xs) = ap (λ (l : List (List ℕ)). spell x ∷ l) (map-filter spell (λ y. not (bytes_eq (spell x) y)) (first_uses spell xs) ∙ ap (filter (λ y. not (bytes_eq (spell x) y))) (map-first_uses spell xs))
+pub map-first_uses : {A : Type 0} (encode : A → List ℕ) (xs : List A) → map encode (first_uses encode xs) ≡ distinct (map encode xs)
+map-first_uses encode [] = refl
+map-first_uses encode (x ∷ xs) = ap (λ (l : List (List ℕ)). encode x ∷ l) (map-filter encode (λ y. not (bytes_eq (encode x) y)) (first_uses encode xs) ∙ ap (filter (λ y. not (bytes_eq (encode x) y))) (map-first_uses encode xs))
 
 -- a row whose place is before the end stands there
 pub place_some : (rows : List (List ℕ)) (x : List ℕ) → place_of rows x < length rows → has_row rows x ≡ true

@@ -12,9 +12,9 @@ use Rattle.route_model.specs.declared.peer.Peer.{Peer}
 use Rattle.route_model.specs.declared.route.Route.{Route}
 use Rattle.route_model.specs.declared.change.Change.{Change}
 use Rattle.route_model.specs.declared.change.Change.TheVariants.{Announce, Withdraw, Down}
-use Rattle.route_model.specs.Spelling.{IsPeer, peer_octets, IsRoute, route_octets}
+use Rattle.route_model.specs.Encoding.{IsPeer, peer_octets, IsRoute, route_octets}
 use Rattle.route_model.specs.Tables.{first_uses, has_row}
-use Rattle.route_model.specs.Admission.{peer_of, announced, Admitted, peer_table, route_table, change_octets, sized, counted, peer_rows, route_rows, admission_octets, IsChange, IsAdmission, SpellsAdmission}
+use Rattle.route_model.specs.Admission.{peer_of, announced, Admitted, peer_table, route_table, change_octets, sized, counted, peer_rows, route_rows, admission_octets, IsChange, IsAdmission, EncodesAdmission}
 use Rattle.route_model.specs.inner.Codec.{number_at, repeat, whole, peer_at}
 use Rattle.route_model.specs.inner.Codec.Admissions.{row_at, change_at, admission_at}
 use Rattle.route_model.proofs.Fields.{wide16, wide64, number_again, repeat_again}
@@ -28,9 +28,9 @@ All-filter : {A : Type 0} (P : A → Type 0) (t : A → Bool) (xs : List A) → 
 All-filter P t [] all = tt
 All-filter P t (x ∷ xs) all = elim (bool_cases (t x)) [ inl p ↦ rw p (all.0, All-filter P t xs all.1) | inr p ↦ rw p (All-filter P t xs all.1) ]
 
-All-first_uses : {A : Type 0} (P : A → Type 0) (spell : A → List ℕ) (xs : List A) → AllByRecursion P xs → AllByRecursion P (first_uses spell xs)
-All-first_uses P spell [] all = tt
-All-first_uses P spell (x ∷ xs) all = (all.0, All-filter P (λ y. not (bytes_eq (spell x) (spell y))) (first_uses spell xs) (All-first_uses P spell xs all.1))
+All-first_uses : {A : Type 0} (P : A → Type 0) (encode : A → List ℕ) (xs : List A) → AllByRecursion P xs → AllByRecursion P (first_uses encode xs)
+All-first_uses P encode [] all = tt
+All-first_uses P encode (x ∷ xs) all = (all.0, All-filter P (λ y. not (bytes_eq (encode x) (encode y))) (first_uses encode xs) (All-first_uses P encode xs all.1))
 
 peers_valid : (cs : List Change) → AllByRecursion IsChange cs → AllByRecursion IsPeer (map peer_of cs)
 peers_valid [] all = tt
@@ -78,9 +78,9 @@ all_fit whole front (c ∷ cs) e all = ((all.0, is_in whole front cs c e), all_f
 
 -- ---- counts
 
-many : {A : Type 0} (spell : A → List ℕ) (xs : List A) → ((x : A) → 2 ≤ length (spell x)) → 2 * length xs ≤ length (flat_map spell xs)
-many spell [] two = omega arith
-many spell (x ∷ xs) two = rw flat_map-cons (omega (arith, two x, many spell xs two, length-append (spell x) (flat_map spell xs)))
+many : {A : Type 0} (encode : A → List ℕ) (xs : List A) → ((x : A) → 2 ≤ length (encode x)) → 2 * length xs ≤ length (flat_map encode xs)
+many encode [] two = omega arith
+many encode (x ∷ xs) two = rw flat_map-cons (omega (arith, two x, many encode xs two, length-append (encode x) (flat_map encode xs)))
 
 two_peer : (p : Peer) → 2 ≤ length (peer_octets p)
 two_peer p = omega (arith, length-append (wide p.address) (to_be_bytes w32 p.as_number))
@@ -101,17 +101,17 @@ record Counts (a : Admitted) : Type 0 where
 counts_fit : (a : Admitted) → length (admission_octets a) ≤ 131072 → Counts a
 unfolding admission_octets
 counts_fit a small =
-    let spell_change : Change → List ℕ = change_octets (peer_rows a.changes) (route_rows a.changes) in
+    let encode_change : Change → List ℕ = change_octets (peer_rows a.changes) (route_rows a.changes) in
     let e0 : List ℕ = to_be_bytes w64 a.time in
     let e1 : List ℕ = counted (λ row. row) (peer_rows a.changes) in
     let e2 : List ℕ = counted sized (route_rows a.changes) in
-    let e3 : List ℕ = counted spell_change a.changes in
+    let e3 : List ℕ = counted encode_change a.changes in
     let sum_1 = length-append (e0 ++ e1 ++ e2) e3 in
     let sum_2 = length-append (e0 ++ e1) e2 in
     let sum_3 = length-append e0 e1 in
     let of_peers : 2 * length (peer_table a.changes) ≤ length (flat_map (λ row. row) (peer_rows a.changes)) = rw (flat_map-map peer_octets (peer_table a.changes)) (many peer_octets (peer_table a.changes) two_peer) in
     let of_routes = many sized (route_rows a.changes) two_sized in
-    let of_changes = many spell_change a.changes (two_change (peer_rows a.changes) (route_rows a.changes)) in
+    let of_changes = many encode_change a.changes (two_change (peer_rows a.changes) (route_rows a.changes)) in
     record { peers = omega arith; routes = omega arith; changes = omega arith }
 
 -- ---- the whole
@@ -134,18 +134,18 @@ unfolding admission_at admission_octets
 admission_again prefix_again a rest is =
     let peers : List Peer = peer_table a.changes in
     let rows : List (List ℕ) = route_rows a.changes in
-    let spell_change : Change → List ℕ = change_octets (peer_rows a.changes) rows in
+    let encode_change : Change → List ℕ = change_octets (peer_rows a.changes) rows in
     let valid : AllByRecursion IsPeer peers = All-first_uses IsPeer peer_octets (map peer_of a.changes) (peers_valid a.changes is.changes) in
     let routes : List Route = route_table a.changes in
     let short : AllByRecursion IsShort routes = All-first_uses IsShort route_octets (flat_map announced a.changes) (routes_short a.changes is.changes) in
     let counts = counts_fit a is.small in
-    let end_1 : List ℕ = counted spell_change a.changes ++ rest in
+    let end_1 : List ℕ = counted encode_change a.changes ++ rest in
     let end_2 : List ℕ = counted sized rows ++ end_1 in
     let whole_is : admission_octets a ++ rest ≡ to_be_bytes w64 a.time ++ (to_be_bytes w16 (length (peer_rows a.changes)) ++ (flat_map (λ row. row) (peer_rows a.changes) ++ end_2)) =
-    parts (to_be_bytes w64 a.time) (counted (λ row. row) (peer_rows a.changes)) (counted sized rows) (counted spell_change a.changes) rest
+    parts (to_be_bytes w64 a.time) (counted (λ row. row) (peer_rows a.changes)) (counted sized rows) (counted encode_change a.changes) rest
     ∙ ap (λ (t : List ℕ). to_be_bytes w64 a.time ++ t) (append_assoc (to_be_bytes w16 (length (peer_rows a.changes))) (flat_map (λ row. row) (peer_rows a.changes)) end_2) in
     let end_2_is : end_2 ≡ to_be_bytes w16 (length rows) ++ (flat_map sized rows ++ end_1) = append_assoc (to_be_bytes w16 (length rows)) (flat_map sized rows) end_1 in
-    let end_1_is : end_1 ≡ to_be_bytes w16 (length a.changes) ++ (flat_map spell_change a.changes ++ rest) = append_assoc (to_be_bytes w16 (length a.changes)) (flat_map spell_change a.changes) rest in
+    let end_1_is : end_1 ≡ to_be_bytes w16 (length a.changes) ++ (flat_map encode_change a.changes ++ rest) = append_assoc (to_be_bytes w16 (length a.changes)) (flat_map encode_change a.changes) rest in
     let time_is : number_at w64 (to_be_bytes w64 a.time ++ (to_be_bytes w16 (length (peer_rows a.changes)) ++ (flat_map (λ row. row) (peer_rows a.changes) ++ end_2))) ≡ Some (a.time, to_be_bytes w16 (length (peer_rows a.changes)) ++ (flat_map (λ row. row) (peer_rows a.changes) ++ end_2)) = number_again w64 (2 ^ 64) wide64 a.time _ (omega (arith, is.time)) in
     let count_is = length-map peer_octets peers in
     let peer_count_is : number_at w16 (to_be_bytes w16 (length (peer_rows a.changes)) ++ (flat_map (λ row. row) (peer_rows a.changes) ++ end_2)) ≡ Some (length peers, flat_map (λ row. row) (peer_rows a.changes) ++ end_2) =
@@ -156,8 +156,8 @@ admission_again prefix_again a rest is =
     let tables : AreTables peers routes = record { few_peers = counts.peers; few_routes = few_routes; peers_valid = valid; routes_valid = routes_valid routes short } in
     let route_count_is : number_at w16 end_2 ≡ Some (length routes, flat_map sized rows ++ end_1) = rw (end_2_is, row_count_is) (number_again w16 (2 ^ 16) wide16 (length routes) (flat_map sized rows ++ end_1) few_routes) in
     let routes_are = route_rows_again routes end_1 short in
-    let change_count_is : number_at w16 end_1 ≡ Some (length a.changes, flat_map spell_change a.changes ++ rest) = rw end_1_is (number_again w16 (2 ^ 16) wide16 (length a.changes) (flat_map spell_change a.changes ++ rest) counts.changes) in
-    let changes_are = repeat_again (change_at peers routes) spell_change (Fits (peer_rows a.changes) rows) (change_again prefix_again peers routes tables) a.changes rest (all_fit a.changes [] a.changes refl is.changes) in
+    let change_count_is : number_at w16 end_1 ≡ Some (length a.changes, flat_map encode_change a.changes ++ rest) = rw end_1_is (number_again w16 (2 ^ 16) wide16 (length a.changes) (flat_map encode_change a.changes ++ rest) counts.changes) in
+    let changes_are = repeat_again (change_at peers routes) encode_change (Fits (peer_rows a.changes) rows) (change_again prefix_again peers routes tables) a.changes rest (all_fit a.changes [] a.changes refl is.changes) in
     ap admission_at whole_is ∙ rw (time_is, peer_count_is, peers_are, route_count_is, routes_are, change_count_is, changes_are) refl
 
 pub admission_only : PrefixAgain → (a : Admitted) → IsAdmission a → whole (admission_at (admission_octets a)) ≡ Some a
@@ -166,10 +166,10 @@ admission_only prefix_again a is =
     rw e refl
 
 -- what was read is compared with its encoding
-pub compared : (r : Result (Option Admitted) AllocError) (x a : Admitted) (octets : List ℕ) → IfOk r (λ o. IfSome o (λ b. b ≡ x)) → IfOk r (λ o. IfNone o (SpellsAdmission x octets → ⊥)) → x ≡ a → SpellsAdmission a octets → IfOk r (λ o. o ≡ Some a)
+pub compared : (r : Result (Option Admitted) AllocError) (x a : Admitted) (octets : List ℕ) → IfOk r (λ o. IfSome o (λ b. b ≡ x)) → IfOk r (λ o. IfNone o (EncodesAdmission x octets → ⊥)) → x ≡ a → EncodesAdmission a octets → IfOk r (λ o. o ≡ Some a)
 compared (Err e) x a octets same none xa is = tt
 compared (Ok (Some b)) x a octets same none xa is = ap (λ (y : Admitted). Some y) (same ∙ xa)
-compared (Ok None) x a octets same none xa is = absurd (none (subst (λ (y : Admitted). SpellsAdmission y octets) (sym xa) is))
+compared (Ok None) x a octets same none xa is = absurd (none (subst (λ (y : Admitted). EncodesAdmission y octets) (sym xa) is))
 
 pub none_some : {A : Type 0} (read : Option A) (x : A) → read ≡ None → read ≡ Some x → ⊥
 none_some None x n e = absurd cc
@@ -179,9 +179,9 @@ none_some (Some y) x n e = absurd cc
 pub length-admission : (a : Admitted) → length (admission_octets a) ≡ 14 + length (flat_map (λ row. row) (peer_rows a.changes)) + length (flat_map sized (route_rows a.changes)) + length (flat_map (change_octets (peer_rows a.changes) (route_rows a.changes)) a.changes)
 unfolding admission_octets
 length-admission a =
-    let spell_change : Change → List ℕ = change_octets (peer_rows a.changes) (route_rows a.changes) in
+    let encode_change : Change → List ℕ = change_octets (peer_rows a.changes) (route_rows a.changes) in
     let e0 : List ℕ = to_be_bytes w64 a.time in
     let e1 : List ℕ = counted (λ row. row) (peer_rows a.changes) in
     let e2 : List ℕ = counted sized (route_rows a.changes) in
-    let e3 : List ℕ = counted spell_change a.changes in
+    let e3 : List ℕ = counted encode_change a.changes in
     omega (arith, length-append (e0 ++ e1 ++ e2) e3, length-append (e0 ++ e1) e2, length-append e0 e1)

@@ -6,9 +6,9 @@ use Rattle.route_model.specs.declared.peer.Peer.{Peer}
 use Rattle.route_model.specs.declared.route.Route.{Route}
 use Rattle.route_model.specs.declared.change.Change.{Change}
 use Rattle.route_model.specs.declared.change.Change.TheVariants.{Announce, Withdraw, Down}
-use Rattle.route_model.specs.Octets.{Spells}
+use Rattle.route_model.specs.Octets.{Encodes}
 use Rattle.route_model.specs.Prefix.{IsPrefix, prefix_octets}
-use Rattle.route_model.specs.Spelling.{IsPeer, peer_octets, IsRoute, route_octets}
+use Rattle.route_model.specs.Encoding.{IsPeer, peer_octets, IsRoute, route_octets}
 use Rattle.route_model.specs.Tables.{first_uses, place_of}
 
 -- the peer that a change is about
@@ -48,7 +48,7 @@ sized o = to_be_bytes w16 (length o) ++ o
 
 -- how many, and each in turn
 abbrev pub counted : {A : Type 0} → (A → List ℕ) → List A → List ℕ
-counted spell xs = to_be_bytes w16 (length xs) ++ flat_map spell xs
+counted encode xs = to_be_bytes w16 (length xs) ++ flat_map encode xs
 
 -- the encodings of the peers of the table
 abbrev pub peer_rows : List Change → List (List ℕ)
@@ -90,5 +90,5 @@ pub record IsAdmission (a : Admitted) : Type 0 where
   pub small : length (admission_octets a) ≤ 131072
 
 -- the octets are the unique encoding of the admission
-abbrev pub SpellsAdmission : Admitted → List ℕ → Type 0
-SpellsAdmission = Spells IsAdmission admission_octets
+abbrev pub EncodesAdmission : Admitted → List ℕ → Type 0
+EncodesAdmission = Encodes IsAdmission admission_octets

@@ -9,7 +9,7 @@ use Rattle.route_model.specs.declared.key.KeyParts.{KeyParts}
 use Rattle.route_model.specs.declared.key.KeyParts.TheVariants.{Session, Prefix as OfPrefix}
 use Rattle.route_model.specs.Address.{octets, family, wide}
 use Rattle.route_model.specs.Prefix.{IpPrefix, IsPrefix}
-use Rattle.route_model.specs.Spelling.{IsPeer, peer_octets}
+use Rattle.route_model.specs.Encoding.{IsPeer, peer_octets}
 
 -- the key of a peer's session
 abbrev pub session_key : Peer → List ℕ

@@ -3,7 +3,7 @@ pub mod Sequence
 pub mod Reading
 pub mod Address
 pub mod Prefix
-pub mod Spelling
+pub mod Encoding
 pub mod Tables
 pub mod Admission
 pub mod Keys

@@ -11,6 +11,6 @@ abbrev pub number_at : ℕ → ℕ → List ℕ → ℕ
 number_at size place octets = big_number size (drop place octets)
 
 -- the octets are the unique encoding of a value of its type
-pub record Spells {A : Type 0} (IsValue : A → Type 0) (spelling : A → List ℕ) (value : A) (octets : List ℕ) : Type 0 where
+pub record Encodes {A : Type 0} (IsValue : A → Type 0) (encoding : A → List ℕ) (value : A) (octets : List ℕ) : Type 0 where
   pub valid : IsValue value
-  pub spelled : octets ≡ spelling value
+  pub encoded : octets ≡ encoding value

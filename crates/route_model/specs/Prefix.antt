@@ -1,6 +1,6 @@
 -- Prefixes: an address and how many of its leading bits count.
 use Rattle.std.specs.Prelude.{◌≡◌, ℕ, ◌+◌, ◌-◌, ◌*◌, ◌/◌, ◌%◌, ◌^◌, ◌≤◌, List, [], ◌∷◌, ◌++◌, length, take}
-use Rattle.route_model.specs.Octets.{Spells}
+use Rattle.route_model.specs.Octets.{Encodes}
 use Rattle.route_model.specs.declared.address.Address.{Address}
 use Rattle.route_model.specs.declared.address.Address.TheVariants.{V4, V6}
 use Rattle.route_model.specs.Address.{octets, family, IsAddress}
@@ -35,5 +35,5 @@ abbrev pub prefix_octets : IpPrefix → List ℕ
 prefix_octets p = family p.address ∷ p.length ∷ front_octets p
 
 -- the octets are the unique encoding of the prefix
-abbrev pub SpellsPrefix : IpPrefix → List ℕ → Type 0
-SpellsPrefix = Spells IsPrefix prefix_octets
+abbrev pub EncodesPrefix : IpPrefix → List ℕ → Type 0
+EncodesPrefix = Encodes IsPrefix prefix_octets

@@ -9,8 +9,8 @@ distinct (x ∷ xs) = x ∷ filter (λ y. not (bytes_eq x y)) (distinct xs)
 
 -- each value once, where it stands first
 abbrev pub first_uses : {A : Type 0} → (A → List ℕ) → List A → List A
-first_uses spell [] = []
-first_uses spell (x ∷ xs) = x ∷ filter (λ y. not (bytes_eq (spell x) (spell y))) (first_uses spell xs)
+first_uses encode [] = []
+first_uses encode (x ∷ xs) = x ∷ filter (λ y. not (bytes_eq (encode x) (encode y))) (first_uses encode xs)
 
 -- where a row stands first, or the length
 abbrev pub place_of : List (List ℕ) → List ℕ → ℕ

@@ -2,11 +2,11 @@
 
 ghost use Rattle.std.specs.Prelude.{◌≡◌, ◌<◌, false, IfOk, IfSome, IfNone, IsTrue, Any};
 ghost use Rattle.std.specs.List.{AllByRecursion};
-ghost use Rattle.route_model.specs.Admission.{IsChange, IsLarge, SpellsAdmission};
+ghost use Rattle.route_model.specs.Admission.{IsChange, IsLarge, EncodesAdmission};
 
 use crate::admission_measuring::measure;
 use crate::admission_reading::read_admission;
-use crate::admission_writing::spell;
+use crate::admission_writing::encode;
 use crate::change::Change;
 use crate::fault::ReadError;
 use crate::moment::Moment;
@@ -55,7 +55,7 @@ impl Model for Admission {
 
 impl Admission {
     ghost use Rattle.std.specs.Prelude.{◌≡◌, ◌<◌, ◌≤◌, ◌↔◌, IfOk, IfSome, Some, Any, length};
-    ghost use Rattle.route_model.specs.Admission.{Admitted, IsAdmission, IsLarge, IsTooLarge, admission_octets, SpellsAdmission};
+    ghost use Rattle.route_model.specs.Admission.{Admitted, IsAdmission, IsLarge, IsTooLarge, admission_octets, EncodesAdmission};
 
     /// An admission of these changes at this time. A route of more than [`MAX_ROUTE_LEN`] octets is
     /// reported before an admission of more than [`MAX_ADMISSION_LEN`]. No memory is needed, so
@@ -116,36 +116,36 @@ impl Admission {
 
     /// The unique encoding of the admission.
     pub fn encode(&self, alloc: Global) -> Result<Vec<u8>, AllocError>
-        ensures spelling { IfOk result (λ v. SpellsAdmission self.now v.items) }
+        ensures encoding { IfOk result (λ v. EncodesAdmission self.now v.items) }
     {
         let time = self.time.seconds();
-        let spelling = spell(alloc, self.encoded_len, time, self.changes.as_slice())?;
-        Ok(spelling)
+        let encoding = encode(alloc, self.encoded_len, time, self.changes.as_slice())?;
+        Ok(encoding)
     }
 
     /// The admission that these octets encode, or none.
     pub fn decode(alloc: Global, octets: &[u8]) -> Result<Option<Admission>, AllocError>
-        ensures found { IfOk result (λ o. IfSome o (λ a. SpellsAdmission a octets.now)) }
-        ensures only { (a : Admitted) → SpellsAdmission a octets.now → IfOk result (λ o. o ≡ Some a) }
+        ensures found { IfOk result (λ o. IfSome o (λ a. EncodesAdmission a octets.now)) }
+        ensures only { (a : Admitted) → EncodesAdmission a octets.now → IfOk result (λ o. o ≡ Some a) }
     {
         match read_admission(alloc, octets) {
-            Ok((time, changes)) => spelled_so(alloc, time, changes, octets),
-            Err(ReadError::Unspelled) => Ok(None),
+            Ok((time, changes)) => encoded_so(alloc, time, changes, octets),
+            Err(ReadError::Unencoded) => Ok(None),
             Err(ReadError::Memory) => Err(AllocError),
         }
     }
 }
 
 /// The admission, where the octets are its encoding.
-fn spelled_so(
+fn encoded_so(
     alloc: Global,
     time: u64,
     changes: Vec<Change>,
     octets: &[u8],
 ) -> Result<Option<Admission>, AllocError>
-    ensures found { IfOk result (λ o. IfSome o (λ a. SpellsAdmission a octets.now)) }
+    ensures found { IfOk result (λ o. IfSome o (λ a. EncodesAdmission a octets.now)) }
     ensures same { IfOk result (λ o. IfSome o (λ a. a ≡ record { time = time; changes = changes.items })) }
-    ensures none { IfOk result (λ o. IfNone o (SpellsAdmission (record { time = time; changes = changes.items }) octets.now → ⊥)) }
+    ensures none { IfOk result (λ o. IfNone o (EncodesAdmission (record { time = time; changes = changes.items }) octets.now → ⊥)) }
 {
     let Some(time) = Moment::new(time) else {
         return Ok(None);
@@ -153,8 +153,8 @@ fn spelled_so(
     if octets.len() > MAX_ADMISSION_LEN || !all_fit(changes.as_slice()) {
         return Ok(None);
     }
-    let spelling = spell(alloc, octets.len(), time.seconds(), changes.as_slice())?;
-    if spelling.as_slice() != octets {
+    let encoding = encode(alloc, octets.len(), time.seconds(), changes.as_slice())?;
+    if encoding.as_slice() != octets {
         return Ok(None);
     }
     Ok(Some(Admission {
@@ -184,7 +184,7 @@ fn fits(c: &Change) -> bool
     match c {
         Change::Announce(_, prefix, route) => {
             let _prefix = prefix.front();
-            route.spelling().len() <= MAX_ROUTE_LEN
+            route.encoding().len() <= MAX_ROUTE_LEN
         }
         Change::Withdraw(_, prefix) => {
             let _prefix = prefix.front();

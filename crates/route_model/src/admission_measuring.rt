@@ -4,7 +4,7 @@
 ghost use Rattle.std.specs.Prelude.{◌≡◌, ◌+◌, ◌∷◌, ◌++◌, ◌<◌, ◌≤◌, ℕ, List, [], IfOk, OnOk, IfSome, IfNone, length, map, if◌then◌else◌};
 ghost use Rattle.std.specs.List.{flat_map, AllByRecursion};
 ghost use Rattle.std.specs.Str.{bytes_eq};
-ghost use Rattle.route_model.specs.Spelling.{peer_octets, route_octets};
+ghost use Rattle.route_model.specs.Encoding.{peer_octets, route_octets};
 ghost use Rattle.route_model.specs.Tables.{has_row, enter};
 ghost use Rattle.route_model.specs.Admission.{peer_of, announced, change_octets, peer_rows, route_rows, admission_octets, IsChange};
 
@@ -54,7 +54,7 @@ fn announces(c: &Change, row: &[u8]) -> bool
     ensures { result ≡ has_row (map route_octets (announced c.now)) row.now }
 {
     match c {
-        Change::Announce(_, _, route) => route.spelling() == row,
+        Change::Announce(_, _, route) => route.encoding() == row,
         Change::Withdraw(_, _) => false,
         Change::Down(_) => false,
     }
@@ -92,7 +92,7 @@ fn route_row_len(before: &[Change], route: &SharedRoute) -> usize
     requires { length (route_octets route.now) ≤ 3072 }
     ensures { result ≡ if has_row (map route_octets (flat_map announced before.now)) (route_octets route.now) then 0 else length (route_octets route.now) + 2 }
 {
-    let row = route.spelling();
+    let row = route.encoding();
     if has_route(before, row) {
         0
     } else {
@@ -165,7 +165,7 @@ fn entered_route_len<'a>(
     ensures len { IfOk result (λ n. n ≡ if has_row (map (λ r. r.now) routes.old.keys) (route_octets route.now) then 0 else length (route_octets route.now) + 2) }
     ensures few { IfOk result (λ n. n ≤ 3074) }
 {
-    let row = route.spelling();
+    let row = route.encoding();
     let new = enter_route(routes, row)?;
     Ok(if new { ROUTE_ROW_HEAD + row.len() } else { 0 })
 }

@@ -62,7 +62,7 @@ fn route_in(routes: &[SharedRoute], place: u16) -> Result<SharedRoute, ReadError
 {
     let place = place as usize;
     if place >= routes.len() {
-        return Err(ReadError::Unspelled);
+        return Err(ReadError::Unencoded);
     }
     let route = &routes[place];
     Ok(route.share()?)
@@ -73,7 +73,7 @@ fn peer_in(peers: &[Peer], place: u16) -> Result<Peer, ReadError>
 {
     let place = place as usize;
     if place >= peers.len() {
-        return Err(ReadError::Unspelled);
+        return Err(ReadError::Unencoded);
     }
     Ok(peers[place])
 }
@@ -136,7 +136,7 @@ pub(crate) fn read_admission(alloc: Global, bytes: &[u8]) -> Result<(u64, Vec<Ch
     let routes = routes.as_slice();
     let (changes, rest) = read_changes(alloc, peers, routes, change_count, rest)?;
     if !rest.is_empty() {
-        return Err(ReadError::Unspelled);
+        return Err(ReadError::Unencoded);
     }
     Ok((time, changes))
 }

@@ -3,7 +3,7 @@
 ghost use Rattle.std.specs.Prelude.{◌≡◌, ◌++◌, ◌∷◌, IfOk, OnOk, map};
 ghost use Rattle.std.specs.List.{flat_map};
 ghost use Rattle.std.specs.Int.{w16, w64, to_be_bytes};
-ghost use Rattle.route_model.specs.Spelling.{peer_octets, route_octets};
+ghost use Rattle.route_model.specs.Encoding.{peer_octets, route_octets};
 ghost use Rattle.route_model.specs.Tables.{place_of};
 ghost use Rattle.route_model.specs.Admission.{change_octets, sized, counted, admission_octets};
 
@@ -36,7 +36,7 @@ fn put_route_place(
 ) -> Result<(), AllocError>
     ensures { OnOk result (out.new.items ≡ out.old.items ++ to_be_bytes w16 (place_of (map (λ row. row.now) routes.now.keys) (route_octets r.now))) }
 {
-    put_u16(out, route_place(routes, r.spelling()))
+    put_u16(out, route_place(routes, r.encoding()))
 }
 
 fn put_change(
@@ -113,7 +113,7 @@ fn put_changes(
 }
 
 /// The unique encoding of an admission, in a vector with capacity for this many octets.
-pub(crate) fn spell(
+pub(crate) fn encode(
     alloc: Global,
     capacity: usize,
     time: u64,

@@ -2,7 +2,7 @@
 
 ghost use Rattle.std.specs.Prelude.{◌≡◌, if◌then◌else◌, IsTrue, Some, None, ◌<◌, length};
 ghost use Rattle.route_model.specs.Octets.{AreOctets};
-ghost use Rattle.route_model.specs.Spelling.{is_ascending};
+ghost use Rattle.route_model.specs.Encoding.{is_ascending};
 
 use crate::address::each_octet;
 use std::marker::Model;
@@ -68,7 +68,7 @@ impl Model for Attributes {
     ghost view = { λ a. a.items.items };
 
     ghost use Rattle.std.specs.Prelude.{IsTrue, ◌<◌, length};
-    ghost use Rattle.route_model.specs.Spelling.{is_ascending};
+    ghost use Rattle.route_model.specs.Encoding.{is_ascending};
 
     ghost invariant = { λ a. IsTrue (is_ascending a.items.items) × (length a.items.items < 65536) };
 }

@@ -12,11 +12,11 @@ ghost use Rattle.route_model.specs.inner.Codec.{Reads};
 ghost use Rattle.route_model.specs.inner.Codec.Admissions.{parts_at};
 ghost use Rattle.route_model.specs.Keys.{number_of, key_number, session_number, peer_order, prefix_order};
 ghost use Rattle.route_model.specs.Prefix.{IpPrefix, IsPrefix};
-ghost use Rattle.route_model.specs.Spelling.{IsPeer};
+ghost use Rattle.route_model.specs.Encoding.{IsPeer};
 ghost use Rattle.route_model.specs.declared.peer.Peer.{Peer as PeerValue};
 
 use crate::address::{Address, slice_of};
-use crate::fault::NoSpelling;
+use crate::fault::NoEncoding;
 use crate::octets::u64_at;
 use crate::peer::{Peer, peer_len};
 use crate::prefix::Prefix;
@@ -271,7 +271,7 @@ impl KeyParts {
 
 /// What octets are read as, liberally: it is made into a key again.
 #[tactic(auto, unfolding(crate::specs::inner::Codec::Admissions::parts_at))]
-fn read_parts(octets: &[u8]) -> Result<KeyParts, NoSpelling>
+fn read_parts(octets: &[u8]) -> Result<KeyParts, NoEncoding>
     ensures { Reads (λ parts. parts) result (parts_at octets.now) }
 {
     let (peer, rest) = read_peer(octets)?;
@@ -281,11 +281,11 @@ fn read_parts(octets: &[u8]) -> Result<KeyParts, NoSpelling>
     }
     let (wide, rest) = read_octets(16, rest)?;
     let Some(address) = Address::from_wide(kind, wide) else {
-        return Err(NoSpelling);
+        return Err(NoEncoding);
     };
     let (length, _) = read_octet(rest)?;
     if 8 * address.as_slice().len() < length as usize {
-        return Err(NoSpelling);
+        return Err(NoEncoding);
     }
     Ok(KeyParts::Prefix(peer, Prefix::containing(address, length)))
 }

@@ -8,16 +8,16 @@ ghost use Rattle.route_model.specs.contracts.address.AddressOrd.TheImpl as addre
 ghost use Rattle.route_model.specs.contracts.peer.PeerOrd.TheImpl as peer_ord;
 ghost use Rattle.route_model.specs.contracts.prefix.PrefixOrd.TheImpl as prefix_ord;
 ghost use Rattle.route_model.specs.Keys.{address_order, peer_order, prefix_order};
-ghost use Rattle.route_model.specs.Prefix.{IpPrefix, SpellsPrefix};
-ghost use Rattle.route_model.specs.Spelling.{SpellsPeer, SpellsRoute};
-ghost use Rattle.route_model.specs.Admission.{Admitted, SpellsAdmission};
+ghost use Rattle.route_model.specs.Prefix.{IpPrefix, EncodesPrefix};
+ghost use Rattle.route_model.specs.Encoding.{EncodesPeer, EncodesRoute};
+ghost use Rattle.route_model.specs.Admission.{Admitted, EncodesAdmission};
 
 /// Octets encode at most one value of each type.
-pub fn spellings_are_one()
-    ensures peers { (p q : Peer) (octets : List ℕ) → SpellsPeer p octets → SpellsPeer q octets → p ≡ q }
-    ensures prefixes { (x y : IpPrefix) (octets : List ℕ) → SpellsPrefix x octets → SpellsPrefix y octets → x ≡ y }
-    ensures routes { (r s : Route) (octets : List ℕ) → SpellsRoute r octets → SpellsRoute s octets → r ≡ s }
-    ensures admissions { (a b : Admitted) (octets : List ℕ) → SpellsAdmission a octets → SpellsAdmission b octets → a ≡ b }
+pub fn encodings_are_one()
+    ensures peers { (p q : Peer) (octets : List ℕ) → EncodesPeer p octets → EncodesPeer q octets → p ≡ q }
+    ensures prefixes { (x y : IpPrefix) (octets : List ℕ) → EncodesPrefix x octets → EncodesPrefix y octets → x ≡ y }
+    ensures routes { (r s : Route) (octets : List ℕ) → EncodesRoute r octets → EncodesRoute s octets → r ≡ s }
+    ensures admissions { (a b : Admitted) (octets : List ℕ) → EncodesAdmission a octets → EncodesAdmission b octets → a ≡ b }
 {}
 
 /// `Ord` orders addresses by family, then by octets; peers by collector, address and AS number;

@@ -14,7 +14,7 @@
 //!
 //! A change holds a [`SharedRoute`]: the route and its encoding, once, shared by a counter, since an UPDATE announces one route for many
 //! prefixes. An admission is encoded by copying encodings, and its length is known when it is made. Values of the tables are distinguished
-//! by their encoding, which is the same as by value (`spellings_are_one`). The tables are index sets, in which a row is found by its hash
+//! by their encoding, which is the same as by value (`encodings_are_one`). The tables are index sets, in which a row is found by its hash
 //! if there are more than eight: so encoding, decoding and measuring take time linear in the changes, also of a RIB record, which has as
 //! many peers as entries. The hash has a fixed seed: who chooses peers or routes for their hashes gets rows that are searched one after
 //! another.
@@ -58,7 +58,7 @@ pub use admission::{Admission, AdmissionError, MAX_ADMISSION_LEN, MAX_ROUTE_LEN}
 pub use attribute::{Attribute, AttributeValue, Attributes};
 pub use change::Change;
 pub use key::{Key, KeyParts, keys_in_order};
-pub use laws::{orders_agree, spellings_are_one};
+pub use laws::{encodings_are_one, orders_agree};
 pub use mark::Mark;
 pub use moment::Moment;
 pub use path::{AsNumbers, Path, Segment};

@@ -2,7 +2,7 @@
 
 ghost use Rattle.std.specs.Prelude.{◌≡◌, ◌+◌, ◌*◌, ◌<◌, ◌≤◌, ◌^◌, IsTrue, IfSome, length};
 ghost use Rattle.std.specs.List.{flat_map, AllByRecursion};
-ghost use Rattle.route_model.specs.Spelling.{numbers_octets, segment, segments_octets, next_hop, optional, aggregator, attribute, attributes_octets, is_ascending, route_octets, AreNumbers, IsSegment, IsNextHop, IsAggregator, IsAttribute, IsRoute};
+ghost use Rattle.route_model.specs.Encoding.{numbers_octets, segment, segments_octets, next_hop, optional, aggregator, attribute, attributes_octets, is_ascending, route_octets, AreNumbers, IsSegment, IsNextHop, IsAggregator, IsAttribute, IsRoute};
 
 use crate::address::slice_of;
 use crate::attribute::{Attribute, Attributes};
@@ -127,7 +127,7 @@ fn attributes_len(attributes: &Attributes) -> usize
 }
 
 /// The length in octets of a route's encoding.
-#[tactic(auto, unfolding(crate::specs::Spelling::route_octets))]
+#[tactic(auto, unfolding(crate::specs::Encoding::route_octets))]
 pub(crate) fn route_len(r: &Route) -> usize
     ensures len { result ≡ length (route_octets r.now) }
     ensures valid { IsRoute r.now }

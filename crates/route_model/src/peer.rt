@@ -1,7 +1,7 @@
 //! Peers.
 
 ghost use Rattle.std.specs.Prelude.{◌≡◌, IfSome, Some, length};
-ghost use Rattle.route_model.specs.Spelling.{peer_octets, IsPeer, SpellsPeer};
+ghost use Rattle.route_model.specs.Encoding.{peer_octets, IsPeer, EncodesPeer};
 
 use crate::address::Address;
 use crate::reading::read_peer;
@@ -34,7 +34,7 @@ impl Peer {
     /// The unique encoding of the peer: collector, family, address (an IPv4 address followed by
     /// twelve zeros), AS number.
     pub fn encode(&self) -> [u8; 22]
-        ensures spelling { SpellsPeer self.now result }
+        ensures encoding { EncodesPeer self.now result }
     {
         let _len = peer_len(self);
         let mut octets = [0u8; 22];
@@ -47,8 +47,8 @@ impl Peer {
 
     /// The peer that these octets encode, or none.
     pub fn decode(octets: &[u8]) -> Option<Peer>
-        ensures found { IfSome result (λ p. SpellsPeer p octets.now) }
-        ensures only { (p : Peer) → SpellsPeer p octets.now → result ≡ Some p }
+        ensures found { IfSome result (λ p. EncodesPeer p octets.now) }
+        ensures only { (p : Peer) → EncodesPeer p octets.now → result ≡ Some p }
     {
         let Ok((peer, _)) = read_peer(octets) else {
             return None;

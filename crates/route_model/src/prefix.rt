@@ -6,10 +6,10 @@ ghost use Rattle.route_model.specs.Octets.{AreOctets};
 ghost use Rattle.route_model.specs.Address.{octets};
 ghost use Rattle.route_model.specs.inner.Codec.{Reads};
 ghost use Rattle.route_model.specs.inner.Codec.Admissions.{prefix_at};
-ghost use Rattle.route_model.specs.Prefix.{IpPrefix, IsPrefix, prefix_octets, front_octets, SpellsPrefix, cleared, cleared_address};
+ghost use Rattle.route_model.specs.Prefix.{IpPrefix, IsPrefix, prefix_octets, front_octets, EncodesPrefix, cleared, cleared_address};
 
 use crate::address::{Address, slice_of};
-use crate::fault::NoSpelling;
+use crate::fault::NoEncoding;
 use crate::reading::{read_octet, read_octets};
 use std::alloc::{AllocError, Global};
 use std::marker::Model;
@@ -91,7 +91,7 @@ impl Prefix {
 
     /// The unique encoding of the prefix: family, length in bits, and the fewest octets that hold them.
     pub fn encode(&self, alloc: Global) -> Result<Vec<u8>, AllocError>
-        ensures spelling { IfOk result (λ v. SpellsPrefix self.now v.items) }
+        ensures encoding { IfOk result (λ v. EncodesPrefix self.now v.items) }
     {
         let _front = self.front();
         let mut out = Vec::with_capacity(alloc, self.encoded_len())?;
@@ -101,21 +101,21 @@ impl Prefix {
 
     /// The prefix that these octets encode, or none.
     pub fn decode(octets: &[u8]) -> Option<Prefix>
-        ensures found { IfSome result (λ p. SpellsPrefix p octets.now) }
-        ensures only { (p : IpPrefix) → SpellsPrefix p octets.now → result ≡ Some p }
+        ensures found { IfSome result (λ p. EncodesPrefix p octets.now) }
+        ensures only { (p : IpPrefix) → EncodesPrefix p octets.now → result ≡ Some p }
     {
         let Ok((address, length, _)) = read_prefix(octets) else {
             return None;
         };
         let prefix = Prefix::containing(address, length);
-        if prefix.is_spelled(octets) {
+        if prefix.is_encoded(octets) {
             Some(prefix)
         } else {
             None
         }
     }
 
-    fn is_spelled(&self, octets: &[u8]) -> bool
+    fn is_encoded(&self, octets: &[u8]) -> bool
         ensures same { result ≡ bytes_eq octets.now (prefix_octets self.now) }
         ensures valid { IsPrefix self.now }
     {
@@ -174,7 +174,7 @@ pub(crate) fn filled_octets<const N: usize>(front: &[u8]) -> [u8; N]
 
 /// The address and the length of a prefix.
 #[tactic(auto, unfolding(crate::specs::inner::Codec::Admissions::prefix_at))]
-pub(crate) fn read_prefix(bytes: &[u8]) -> Result<(Address, u8, &[u8]), NoSpelling>
+pub(crate) fn read_prefix(bytes: &[u8]) -> Result<(Address, u8, &[u8]), NoEncoding>
     ensures read { Reads (λ x. (record { address = cleared_address x.1 x.0; length = x.1 }, x.2.now)) result (prefix_at bytes.now) }
     ensures fits { IfOk result (λ x. x.1 ≤ 8 * bytes_len (octets x.0)) }
 {
@@ -182,7 +182,7 @@ pub(crate) fn read_prefix(bytes: &[u8]) -> Result<(Address, u8, &[u8]), NoSpelli
     let (length, rest) = read_octet(rest)?;
     let width = if family == 4 { 32 } else { 128 };
     if width < length {
-        return Err(NoSpelling);
+        return Err(NoEncoding);
     }
     let (front, rest) = read_octets((length as usize + 7) / 8, rest)?;
     if family == 4 {
@@ -191,5 +191,5 @@ pub(crate) fn read_prefix(bytes: &[u8]) -> Result<(Address, u8, &[u8]), NoSpelli
     if family == 6 {
         return Ok((Address::V6(filled_octets::<16>(front)), length, rest));
     }
-    Err(NoSpelling)
+    Err(NoEncoding)
 }

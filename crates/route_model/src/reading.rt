@@ -6,46 +6,46 @@ ghost use Rattle.route_model.specs.inner.Codec.{Gives, Reads, octet_at, octets_a
 
 use crate::address::Address;
 use crate::attribute::{Attribute, AttributeValue, Attributes};
-use crate::fault::{NoSpelling, ReadError};
+use crate::fault::{NoEncoding, ReadError};
 use crate::path::{AsNumbers, Path, Segment};
 use crate::peer::Peer;
 use crate::route::{Aggregator, NextHop, Origin, Route};
 use std::alloc::Global;
 
-pub(crate) fn read_octet(bytes: &[u8]) -> Result<(u8, &[u8]), NoSpelling>
+pub(crate) fn read_octet(bytes: &[u8]) -> Result<(u8, &[u8]), NoEncoding>
     ensures { Reads (λ x. (x.0, x.1.now)) result (octet_at bytes.now) }
 {
     match bytes {
-        [] => Err(NoSpelling),
+        [] => Err(NoEncoding),
         [first, rest @ ..] => Ok((*first, rest)),
     }
 }
 
-pub(crate) fn read_octets(count: usize, bytes: &[u8]) -> Result<(&[u8], &[u8]), NoSpelling>
+pub(crate) fn read_octets(count: usize, bytes: &[u8]) -> Result<(&[u8], &[u8]), NoEncoding>
     ensures read { Reads (λ x. (x.0.now, x.1.now)) result (octets_at count bytes.now) }
     ensures count { IfOk result (λ x. length x.0.now ≡ count) }
 {
     if bytes.len() < count {
-        return Err(NoSpelling);
+        return Err(NoEncoding);
     }
     Ok(bytes.split_at(count))
 }
 
-pub(crate) fn read_u16(bytes: &[u8]) -> Result<(u16, &[u8]), NoSpelling>
+pub(crate) fn read_u16(bytes: &[u8]) -> Result<(u16, &[u8]), NoEncoding>
     ensures { Reads (λ x. (x.0, x.1.now)) result (number_at w16 bytes.now) }
 {
     if bytes.len() < 2 {
-        return Err(NoSpelling);
+        return Err(NoEncoding);
     }
     let (front, rest) = bytes.split_at(2);
     Ok((u16::from_be_bytes([front[0], front[1]]), rest))
 }
 
-pub(crate) fn read_u32(bytes: &[u8]) -> Result<(u32, &[u8]), NoSpelling>
+pub(crate) fn read_u32(bytes: &[u8]) -> Result<(u32, &[u8]), NoEncoding>
     ensures { Reads (λ x. (x.0, x.1.now)) result (number_at w32 bytes.now) }
 {
     if bytes.len() < 4 {
-        return Err(NoSpelling);
+        return Err(NoEncoding);
     }
     let (front, rest) = bytes.split_at(4);
     Ok((
@@ -55,14 +55,14 @@ pub(crate) fn read_u32(bytes: &[u8]) -> Result<(u32, &[u8]), NoSpelling>
 }
 
 #[tactic(auto, unfolding(crate::specs::inner::Codec::peer_at))]
-pub(crate) fn read_peer(bytes: &[u8]) -> Result<(Peer, &[u8]), NoSpelling>
+pub(crate) fn read_peer(bytes: &[u8]) -> Result<(Peer, &[u8]), NoEncoding>
     ensures { Reads (λ x. (x.0, x.1.now)) result (peer_at bytes.now) }
 {
     let (collector, rest) = read_octet(bytes)?;
     let (family, rest) = read_octet(rest)?;
     let (wide, rest) = read_octets(16, rest)?;
     let Some(address) = Address::from_wide(family, wide) else {
-        return Err(NoSpelling);
+        return Err(NoEncoding);
     };
     let (as_number, rest) = read_u32(rest)?;
     let peer = Peer {
@@ -94,14 +94,14 @@ fn read_segment(alloc: Global, bytes: &[u8]) -> Result<(Segment, &[u8]), ReadErr
     let (kind, rest) = read_octet(bytes)?;
     let (count, rest) = read_octet(rest)?;
     if count == 0 {
-        return Err(ReadError::Unspelled);
+        return Err(ReadError::Unencoded);
     }
     let (items, rest) = read_numbers(alloc, count, rest)?;
     let numbers = AsNumbers::new(items);
     match kind {
         1 => Ok((Segment::Set(numbers), rest)),
         2 => Ok((Segment::Sequence(numbers), rest)),
-        _ => Err(ReadError::Unspelled),
+        _ => Err(ReadError::Unencoded),
     }
 }
 
@@ -133,7 +133,7 @@ fn read_path(alloc: Global, bytes: &[u8]) -> Result<(Path, &[u8]), ReadError>
 }
 
 #[tactic(auto, unfolding(crate::specs::inner::Codec::next_hop_at))]
-fn read_next_hop(bytes: &[u8]) -> Result<(NextHop, &[u8]), NoSpelling>
+fn read_next_hop(bytes: &[u8]) -> Result<(NextHop, &[u8]), NoEncoding>
     ensures { Reads (λ x. (x.0, x.1.now)) result (next_hop_at bytes.now) }
 {
     let (len, rest) = read_octet(bytes)?;
@@ -142,13 +142,13 @@ fn read_next_hop(bytes: &[u8]) -> Result<(NextHop, &[u8]), NoSpelling>
         4 => NextHop::One(Address::V4(<[u8; 4]>::try_from(octets).unwrap())),
         16 => NextHop::One(Address::V6(<[u8; 16]>::try_from(octets).unwrap())),
         32 => NextHop::Pair(<[u8; 32]>::try_from(octets).unwrap()),
-        _ => return Err(NoSpelling),
+        _ => return Err(NoEncoding),
     };
     Ok((hop, rest))
 }
 
 #[tactic(auto, unfolding(crate::specs::inner::Codec::optional_at))]
-fn read_optional(present: bool, bytes: &[u8]) -> Result<(Option<u32>, &[u8]), NoSpelling>
+fn read_optional(present: bool, bytes: &[u8]) -> Result<(Option<u32>, &[u8]), NoEncoding>
     ensures { Reads (λ x. (x.0, x.1.now)) result (optional_at present bytes.now) }
 {
     if !present {
@@ -159,7 +159,7 @@ fn read_optional(present: bool, bytes: &[u8]) -> Result<(Option<u32>, &[u8]), No
 }
 
 #[tactic(auto, unfolding(crate::specs::inner::Codec::aggregator_at))]
-fn read_aggregator(present: bool, bytes: &[u8]) -> Result<(Option<Aggregator>, &[u8]), NoSpelling>
+fn read_aggregator(present: bool, bytes: &[u8]) -> Result<(Option<Aggregator>, &[u8]), NoEncoding>
     ensures { Reads (λ x. (x.0, x.1.now)) result (aggregator_at present bytes.now) }
 {
     if !present {
@@ -209,7 +209,7 @@ fn read_attributes(alloc: Global, bytes: &[u8]) -> Result<(Attributes, &[u8]), R
     let (items, rest) = read_each_attribute(alloc, count, rest)?;
     match Attributes::try_new(items) {
         Some(attributes) => Ok((attributes, rest)),
-        None => Err(ReadError::Unspelled),
+        None => Err(ReadError::Unencoded),
     }
 }
 
@@ -222,7 +222,7 @@ pub(crate) fn read_route(alloc: Global, bytes: &[u8]) -> Result<(Route, &[u8]), 
         0 => Origin::Igp,
         1 => Origin::Egp,
         2 => Origin::Incomplete,
-        _ => return Err(ReadError::Unspelled),
+        _ => return Err(ReadError::Unencoded),
     };
     let (path, rest) = read_path(alloc, rest)?;
     let (next_hop, rest) = read_next_hop(rest)?;
@@ -244,11 +244,11 @@ pub(crate) fn read_route(alloc: Global, bytes: &[u8]) -> Result<(Route, &[u8]), 
     Ok((route, rest))
 }
 
-pub(crate) fn read_u64(bytes: &[u8]) -> Result<(u64, &[u8]), NoSpelling>
+pub(crate) fn read_u64(bytes: &[u8]) -> Result<(u64, &[u8]), NoEncoding>
     ensures { Reads (λ x. (x.0, x.1.now)) result (number_at w64 bytes.now) }
 {
     if bytes.len() < 8 {
-        return Err(NoSpelling);
+        return Err(NoEncoding);
     }
     let (front, rest) = bytes.split_at(8);
     let number = u64::from_be_bytes([

@@ -2,7 +2,7 @@
 
 ghost use Rattle.std.specs.Prelude.{◌≡◌, IfOk, IfSome, Some, length};
 ghost use Rattle.route_model.specs.inner.Codec.{Gives, whole, route_at};
-ghost use Rattle.route_model.specs.Spelling.{route_octets, IsRoute, SpellsRoute};
+ghost use Rattle.route_model.specs.Encoding.{route_octets, IsRoute, EncodesRoute};
 
 use crate::address::Address;
 use crate::attribute::Attributes;
@@ -70,7 +70,7 @@ impl Route {
 
     /// The unique encoding of the route.
     pub fn encode(&self, alloc: Global) -> Result<Vec<u8>, AllocError>
-        ensures spelling { IfOk result (λ v. SpellsRoute self.now v.items) }
+        ensures encoding { IfOk result (λ v. EncodesRoute self.now v.items) }
     {
         let len = route_len(self);
         let mut out = Vec::with_capacity(alloc, len)?;
@@ -81,16 +81,16 @@ impl Route {
     /// The route that these octets encode, or none. The octets may be of any number: the limit of
     /// 3,072 is an admission's.
     pub fn decode(alloc: Global, octets: &[u8]) -> Result<Option<Route>, AllocError>
-        ensures found { IfOk result (λ o. IfSome o (λ r. SpellsRoute r octets.now)) }
-        ensures only { (r : Route) → SpellsRoute r octets.now → IfOk result (λ o. o ≡ Some r) }
+        ensures found { IfOk result (λ o. IfSome o (λ r. EncodesRoute r octets.now)) }
+        ensures only { (r : Route) → EncodesRoute r octets.now → IfOk result (λ o. o ≡ Some r) }
     {
         let route = match whole_route(alloc, octets) {
             Ok(route) => route,
-            Err(ReadError::Unspelled) => return Ok(None),
+            Err(ReadError::Unencoded) => return Ok(None),
             Err(ReadError::Memory) => return Err(AllocError),
         };
-        let spelling = route.encode(alloc)?;
-        if spelling.as_slice() == octets {
+        let encoding = route.encode(alloc)?;
+        if encoding.as_slice() == octets {
             Ok(Some(route))
         } else {
             Ok(None)
@@ -104,7 +104,7 @@ pub(crate) fn whole_route(alloc: Global, octets: &[u8]) -> Result<Route, ReadErr
 {
     let (route, rest) = read_route(alloc, octets)?;
     if !rest.is_empty() {
-        return Err(ReadError::Unspelled);
+        return Err(ReadError::Unencoded);
     }
     Ok(route)
 }

@@ -1,7 +1,7 @@
 //! Routes that several changes share.
 
 ghost use Rattle.std.specs.Prelude.{◌≡◌, IfOk, length};
-ghost use Rattle.route_model.specs.Spelling.{route_octets, SpellsRoute};
+ghost use Rattle.route_model.specs.Encoding.{route_octets, EncodesRoute};
 
 use crate::route::Route;
 use std::alloc::{AllocError, Global};
@@ -10,7 +10,7 @@ use std::sync::Arc;
 
 /// A route with its encoding.
 #[derive(Debug, Drop)]
-struct Spelled {
+struct Encoded {
     route: Route,
     octets: Vec<u8>,
 }
@@ -18,7 +18,7 @@ struct Spelled {
 /// A route that is kept once, with its encoding, however many changes announce it.
 #[derive(Debug, Drop)]
 pub struct SharedRoute {
-    shared: Arc<Spelled>,
+    shared: Arc<Encoded>,
 }
 
 impl Model for SharedRoute {
@@ -26,11 +26,11 @@ impl Model for SharedRoute {
 
     ghost Value = { Route };
 
-    ghost use Rattle.route_model.specs.Spelling.{SpellsRoute};
+    ghost use Rattle.route_model.specs.Encoding.{EncodesRoute};
 
     ghost view = { λ a. a.shared.value.route };
 
-    ghost invariant = { λ a. SpellsRoute a.shared.value.route a.shared.value.octets.items };
+    ghost invariant = { λ a. EncodesRoute a.shared.value.route a.shared.value.octets.items };
 }
 
 impl SharedRoute {
@@ -39,7 +39,7 @@ impl SharedRoute {
         ensures route { IfOk result (λ r. r ≡ route) }
     {
         let octets = route.encode(alloc)?;
-        let shared = Arc::new(alloc, Spelled { route, octets })?;
+        let shared = Arc::new(alloc, Encoded { route, octets })?;
         Ok(SharedRoute { shared })
     }
 
@@ -56,15 +56,15 @@ impl SharedRoute {
     pub fn route(&self) -> &Route
         ensures route { result.now ≡ self.now }
     {
-        let shared: &Spelled = &self.shared;
+        let shared: &Encoded = &self.shared;
         &shared.route
     }
 
     /// The unique encoding of the route, which is kept with it.
-    pub fn spelling(&self) -> &[u8]
-        ensures spelling { SpellsRoute self.now result.now }
+    pub fn encoding(&self) -> &[u8]
+        ensures encoding { EncodesRoute self.now result.now }
     {
-        let shared: &Spelled = &self.shared;
+        let shared: &Encoded = &self.shared;
         shared.octets.as_slice()
     }
 }

@@ -111,7 +111,7 @@ pub(crate) fn route_table<'a>(
     for c in changes {
         match c {
             Change::Announce(_, _, route) => {
-                enter_route(&mut rows, route.spelling())?;
+                enter_route(&mut rows, route.encoding())?;
             }
             Change::Withdraw(_, _) => {}
             Change::Down(_) => {}

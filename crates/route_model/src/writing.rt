@@ -3,7 +3,7 @@
 ghost use Rattle.std.specs.Prelude.{◌≡◌, ◌+◌, ◌*◌, ◌<◌, ◌++◌, ◌∷◌, [], OnOk, length, is_some};
 ghost use Rattle.std.specs.List.{flat_map};
 ghost use Rattle.std.specs.Int.{w16, w32, to_be_bytes};
-ghost use Rattle.route_model.specs.Spelling.{numbers_octets, segment, segments_octets, next_hop, optional, aggregator, attribute, attributes_octets, presence, flag, origin_octet, route_octets};
+ghost use Rattle.route_model.specs.Encoding.{numbers_octets, segment, segments_octets, next_hop, optional, aggregator, attribute, attributes_octets, presence, flag, origin_octet, route_octets};
 
 use crate::address::Address;
 use crate::attribute::{Attribute, Attributes};
@@ -154,7 +154,7 @@ fn octet_of(origin: Origin) -> u8
 }
 
 /// Writes the encoding of a route.
-#[tactic(auto, unfolding(crate::specs::Spelling::route_octets))]
+#[tactic(auto, unfolding(crate::specs::Encoding::route_octets))]
 pub(crate) fn put_route(out: &mut Vec<u8>, r: &Route) -> Result<(), AllocError>
     ensures { OnOk result (out.new.items ≡ out.old.items ++ route_octets r.now) }
 {

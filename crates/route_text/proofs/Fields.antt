@@ -19,7 +19,7 @@ use Rattle.route_model.specs.declared.route.NextHop.{NextHop}
 use Rattle.route_model.specs.declared.route.NextHop.TheVariants.{One, Pair}
 use Rattle.route_model.specs.Address.{IsAddress}
 use Rattle.route_model.specs.Octets.{AreOctets}
-use Rattle.route_model.specs.Spelling.{IsAggregator, IsNextHop, IsAttribute}
+use Rattle.route_model.specs.Encoding.{IsAggregator, IsNextHop, IsAttribute}
 use Rattle.route_text.specs.AddressText.{address_text, ipv6_text, IsIpv6Text, IsAddressText}
 use Rattle.route_text.specs.Octets.{Lacks}
 use Rattle.route_text.specs.RouteText.{next_hop_text, optional_text, aggregator_text, octet_text, attribute_text, attributes_text}

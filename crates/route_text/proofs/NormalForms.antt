@@ -6,7 +6,7 @@ use Rattle.std.proofs.lemmas.List.{take-append-drop, length-take-le, map-append}
 use Rattle.route_model.specs.declared.path.Segment.{Segment}
 use Rattle.route_model.specs.declared.path.Segment.TheVariants as segments
 use Rattle.route_model.specs.declared.route.Route.{Route}
-use Rattle.route_model.specs.Spelling.{AreNumbers, IsSegment, IsRoute}
+use Rattle.route_model.specs.Encoding.{AreNumbers, IsSegment, IsRoute}
 use Rattle.route_text.specs.declared.step.Step.{Step}
 use Rattle.route_text.specs.declared.step.Step.TheVariants.{Number, Set}
 use Rattle.route_text.specs.NormalPath.{IsNormalPath}

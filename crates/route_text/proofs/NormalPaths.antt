@@ -4,7 +4,7 @@ use Rattle.std.specs.List.{AllByRecursion}
 use Rattle.std.proofs.lemmas.List.{append-nil}
 use Rattle.route_model.specs.declared.path.Segment.{Segment}
 use Rattle.route_model.specs.declared.path.Segment.TheVariants as segments
-use Rattle.route_model.specs.Spelling.{AreNumbers, IsSegment}
+use Rattle.route_model.specs.Encoding.{AreNumbers, IsSegment}
 use Rattle.route_text.specs.NormalPath.{MayPrecede, IsNormalPath}
 use Rattle.route_text.specs.inner.Steps.{run, IsBuilt}
 use Rattle.route_text.proofs.Separated.{AllByRecursion-push, AllByRecursion-append}

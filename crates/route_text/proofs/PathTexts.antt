@@ -4,7 +4,7 @@ use Rattle.std.specs.List.{AllByRecursion, join_with_byte}
 use Rattle.std.proofs.lemmas.List.{append-nil, map-append}
 use Rattle.route_model.specs.declared.path.Segment.{Segment}
 use Rattle.route_model.specs.declared.path.Segment.TheVariants as segments
-use Rattle.route_model.specs.Spelling.{IsSegment}
+use Rattle.route_model.specs.Encoding.{IsSegment}
 use Rattle.route_text.specs.declared.step.Step.{Step}
 use Rattle.route_text.specs.declared.step.Step.TheVariants.{Number, Set}
 use Rattle.route_text.specs.NormalPath.{IsNormalPath}

@@ -10,7 +10,7 @@ use Rattle.route_model.specs.declared.route.NextHop.{NextHop}
 use Rattle.route_model.specs.declared.route.NextHop.TheVariants.{One, Pair}
 use Rattle.route_model.specs.declared.route.Aggregator.{Aggregator}
 use Rattle.route_model.specs.declared.route.Route.{Route}
-use Rattle.route_model.specs.Spelling.{IsRoute, IsSegment, IsNextHop, IsAggregator}
+use Rattle.route_model.specs.Encoding.{IsRoute, IsSegment, IsNextHop, IsAggregator}
 use Rattle.route_text.specs.Octets.{Lacks}
 use Rattle.route_text.specs.RouteText.{path_text, origin_text, next_hop_text, optional_text, aggregate_text, aggregator_text, attributes_text, route_text}
 use Rattle.route_text.specs.inner.Steps.{step_text, IsStep, steps}
@@ -22,29 +22,29 @@ use Rattle.route_text.proofs.PathTexts.{Lacks-step_text, steps_valid, path_text-
 
 -- ---- what follows each bar
 
-abbrev pub behind_aggregate : Route → List ℕ
-behind_aggregate r = aggregator_text r.aggregator ++ 124 ∷ attributes_text r.others
+abbrev pub after_aggregate : Route → List ℕ
+after_aggregate r = aggregator_text r.aggregator ++ 124 ∷ attributes_text r.others
 
-abbrev pub behind_local_pref : Route → List ℕ
-behind_local_pref r = aggregate_text r.atomic_aggregate ++ 124 ∷ behind_aggregate r
+abbrev pub after_local_pref : Route → List ℕ
+after_local_pref r = aggregate_text r.atomic_aggregate ++ 124 ∷ after_aggregate r
 
-abbrev pub behind_med : Route → List ℕ
-behind_med r = optional_text r.local_pref ++ 124 ∷ behind_local_pref r
+abbrev pub after_med : Route → List ℕ
+after_med r = optional_text r.local_pref ++ 124 ∷ after_local_pref r
 
-abbrev pub behind_next_hop : Route → List ℕ
-behind_next_hop r = optional_text r.med ++ 124 ∷ behind_med r
+abbrev pub after_next_hop : Route → List ℕ
+after_next_hop r = optional_text r.med ++ 124 ∷ after_med r
 
-abbrev pub behind_origin : Route → List ℕ
-behind_origin r = next_hop_text r.next_hop ++ 124 ∷ behind_next_hop r
+abbrev pub after_origin : Route → List ℕ
+after_origin r = next_hop_text r.next_hop ++ 124 ∷ after_next_hop r
 
-abbrev pub behind_path : Route → List ℕ
-behind_path r = origin_text r.origin ++ 124 ∷ behind_origin r
+abbrev pub after_path : Route → List ℕ
+after_path r = origin_text r.origin ++ 124 ∷ after_origin r
 
 -- eight texts with an octet between two of them, in three parts
 regroup : (p o h m l a g t : List ℕ) (c : ℕ) → (((p ++ c ∷ []) ++ o) ++ c ∷ []) ++ h ++ c ∷ [] ++ ((((m ++ c ∷ []) ++ l) ++ c ∷ []) ++ a) ++ c ∷ [] ++ ((g ++ c ∷ []) ++ t) ≡ p ++ c ∷ (o ++ c ∷ (h ++ c ∷ (m ++ c ∷ (l ++ c ∷ (a ++ c ∷ (g ++ c ∷ t))))))
 regroup p o h m l a g t c = simp append_assoc
 
-pub route_text_bars : (r : Route) → route_text r ≡ path_text r.path ++ 124 ∷ behind_path r
+pub route_text_bars : (r : Route) → route_text r ≡ path_text r.path ++ 124 ∷ after_path r
 route_text_bars r = regroup (path_text r.path) (origin_text r.origin) (next_hop_text r.next_hop) (optional_text r.med) (optional_text r.local_pref) (aggregate_text r.atomic_aggregate) (aggregator_text r.aggregator) (attributes_text r.others) 124
 
 -- ---- no field holds a bar

@@ -1,6 +1,6 @@
 -- The words of a path's text.
 use Rattle.std.proofs.Common.{◌≡◌, ◌≢◌, ℕ, ◌<◌, ◌^◌, List, [], ◌∷◌, ◌++◌, decimal, refl, sym, ◌∙◌, arith}
-use Rattle.route_model.specs.Spelling.{AreNumbers}
+use Rattle.route_model.specs.Encoding.{AreNumbers}
 use Rattle.route_text.specs.declared.step.Step.{Step}
 use Rattle.route_text.specs.declared.step.Step.TheVariants.{Number, Set}
 use Rattle.route_text.specs.RouteText.{numbers_text}

@@ -23,7 +23,7 @@ address_text (V6 octets) = ipv6_text octets
 -- Without a dot no text ends in an IPv4 address.
 pub record IsIpv6Text (text octets : List ℕ) : Type 0 where
   pub groups : List ℕ
-  pub spelled : IsColonHex text groups
+  pub encoded : IsColonHex text groups
   pub no_dot : Lacks 46 text
   pub value : octets ≡ octets_of groups
 

@@ -11,7 +11,7 @@ pub record IsTimestamp (text : List ℕ) (seconds : ℕ) : Type 0 where
 -- the text writes at most `last` seconds, as a number or as a timestamp
 pub record IsInstant (last : ℕ) (text : List ℕ) (seconds : ℕ) : Type 0 where
   pub within : seconds ≤ last
-  pub spelled : (text ≡ decimal seconds) ⊎ IsTimestamp text seconds
+  pub encoded : (text ≡ decimal seconds) ⊎ IsTimestamp text seconds
 
 -- the text writes this moment
 abbrev pub IsMomentText : List ℕ → ℕ → Type 0

@@ -14,7 +14,7 @@ prefix_text p = address_text p.address ++ codes "/" ++ decimal p.length
 pub record IsPrefixText (text : List ℕ) (p : IpPrefix) : Type 0 where
   pub address : Address
   pub address_text : List ℕ
-  pub spelled : text ≡ address_text ++ codes "/" ++ decimal p.length
+  pub encoded : text ≡ address_text ++ codes "/" ++ decimal p.length
   pub read : IsAddressText address_text address
   pub fits : p.length ≤ 8 * prelude.length (octets address)
   pub cleared : p.address ≡ cleared_address p.length address

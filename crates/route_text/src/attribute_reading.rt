@@ -4,7 +4,7 @@ ghost use Rattle.std.specs.Prelude.{◌≡◌, ◌<◌, ◌^◌, ℕ, List, IfOk
 ghost use Rattle.std.specs.List.{AllByRecursion, flat_map};
 ghost use Rattle.route_model.specs.declared.attribute.Attribute.{Attribute};
 ghost use Rattle.route_model.specs.Octets.{AreOctets};
-ghost use Rattle.route_model.specs.Spelling.{IsAttribute, is_ascending};
+ghost use Rattle.route_model.specs.Encoding.{IsAttribute, is_ascending};
 ghost use Rattle.route_text.specs.Reads.{Reads, ReadsBy};
 ghost use Rattle.route_text.specs.RouteText.{attribute_text, attributes_text, octet_text};
 

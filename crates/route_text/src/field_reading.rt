@@ -5,7 +5,7 @@ ghost use Rattle.route_model.specs.declared.route.Aggregator.{Aggregator};
 ghost use Rattle.route_model.specs.declared.route.NextHop.{NextHop};
 ghost use Rattle.route_model.specs.declared.route.NextHop.TheVariants.{Pair};
 ghost use Rattle.route_model.specs.declared.route.Origin.{Origin};
-ghost use Rattle.route_model.specs.Spelling.{IsAggregator, IsNextHop};
+ghost use Rattle.route_model.specs.Encoding.{IsAggregator, IsNextHop};
 ghost use Rattle.route_text.specs.RouteText.{origin_text, next_hop_text, optional_text, aggregate_text, aggregator_text};
 
 use crate::address::{read_address, read_ipv4, read_ipv6};

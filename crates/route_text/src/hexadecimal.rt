@@ -82,8 +82,8 @@ pub(crate) fn read_octets(alloc: Global, text: &[u8]) -> Result<Vec<u8>, TextErr
 {
     let mut octets = Vec::with_capacity(alloc, text.len() / 2)?;
     let mut rest = text;
-    while let Some((high, behind)) = rest.split_first() {
-        let Some((low, after)) = behind.split_first() else {
+    while let Some((high, beyond)) = rest.split_first() {
+        let Some((low, after)) = beyond.split_first() else {
             return Err(TextError::BadText);
         };
         octets.push(octet_of(*high, *low)?)?;

@@ -3,7 +3,7 @@
 ghost use Rattle.std.specs.Prelude.{◌≡◌, ◌≤◌, ◌++◌, ◌∷◌, [], IfOk, OnOk, length};
 ghost use Rattle.std.specs.List.{AllByRecursion};
 ghost use Rattle.route_model.specs.declared.path.Segment.TheVariants as segments;
-ghost use Rattle.route_model.specs.Spelling.{AreNumbers, IsSegment};
+ghost use Rattle.route_model.specs.Encoding.{AreNumbers, IsSegment};
 ghost use Rattle.route_text.specs.NormalPath.{IsNormalPath};
 ghost use Rattle.route_text.specs.declared.step.Step.TheVariants.{Number, Set};
 ghost use Rattle.route_text.specs.inner.Steps.{IsStep, steps, run, IsBuilt};

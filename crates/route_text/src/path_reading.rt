@@ -3,7 +3,7 @@
 ghost use Rattle.std.specs.Prelude.{◌≡◌, ◌<◌, ◌^◌, ◌++◌, List, IfOk, length, map};
 ghost use Rattle.std.specs.List.{AllByRecursion, join_with_byte};
 ghost use Rattle.route_model.specs.declared.path.Segment.{Segment};
-ghost use Rattle.route_model.specs.Spelling.{IsSegment};
+ghost use Rattle.route_model.specs.Encoding.{IsSegment};
 ghost use Rattle.route_text.specs.NormalPath.{IsNormalPath};
 ghost use Rattle.route_text.specs.Reads.{Reads, ReadsBy};
 ghost use Rattle.route_text.specs.RouteText.{path_text};

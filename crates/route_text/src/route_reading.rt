@@ -2,7 +2,7 @@
 
 ghost use Rattle.std.specs.Prelude.{◌≡◌, ◌≢◌, IfOk, IsErrOf, IsSomeAnd};
 ghost use Rattle.route_model.specs.declared.route.Route.{Route};
-ghost use Rattle.route_model.specs.Spelling.{IsRoute};
+ghost use Rattle.route_model.specs.Encoding.{IsRoute};
 ghost use Rattle.route_text.specs.inner.Fields.{AreFieldsOf};
 ghost use Rattle.route_text.specs.NormalPath.{IsNormalPath};
 ghost use Rattle.route_text.specs.Reads.{Reads};
@@ -83,13 +83,13 @@ struct Fields<'a> {
 fn fields_of(text: &str) -> Option<Fields<'_>>
     ensures only { (r : Route) → IsRoute r → text.now ≡ route_text r → IsSomeAnd result (λ f. AreFieldsOf r f.path.now f.origin.now f.next_hop.now f.med.now f.local_pref.now f.aggregate.now f.aggregator.now f.others.now) }
 {
-    let (path, behind) = cut_at_first(text, '|')?;
-    let (origin, behind) = cut_at_first(behind, '|')?;
-    let (next_hop, behind) = cut_at_first(behind, '|')?;
-    let (med, behind) = cut_at_first(behind, '|')?;
-    let (local_pref, behind) = cut_at_first(behind, '|')?;
-    let (aggregate, behind) = cut_at_first(behind, '|')?;
-    let (aggregator, others) = cut_at_first(behind, '|')?;
+    let (path, beyond) = cut_at_first(text, '|')?;
+    let (origin, beyond) = cut_at_first(beyond, '|')?;
+    let (next_hop, beyond) = cut_at_first(beyond, '|')?;
+    let (med, beyond) = cut_at_first(beyond, '|')?;
+    let (local_pref, beyond) = cut_at_first(beyond, '|')?;
+    let (aggregate, beyond) = cut_at_first(beyond, '|')?;
+    let (aggregator, others) = cut_at_first(beyond, '|')?;
     Some(Fields {
         path,
         origin,

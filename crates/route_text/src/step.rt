@@ -2,7 +2,7 @@
 
 ghost use Rattle.std.specs.Prelude.{◌≡◌, ◌<◌, ◌^◌, ℕ, List, IfOk, length};
 ghost use Rattle.std.specs.List.{AllByRecursion};
-ghost use Rattle.route_model.specs.Spelling.{AreNumbers};
+ghost use Rattle.route_model.specs.Encoding.{AreNumbers};
 ghost use Rattle.route_text.specs.Reads.{Reads, ReadsBy};
 ghost use Rattle.route_text.specs.RouteText.{numbers_text};
 ghost use Rattle.route_text.specs.inner.Steps.{IsStep, step_text};

@@ -2,6 +2,6 @@ pub mod Firsts
 pub mod Releasing
 pub mod Leasts
 pub mod Running
-pub mod Told
+pub mod Reported
 pub mod Aheads
 pub mod api

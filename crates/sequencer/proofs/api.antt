@@ -2,4 +2,4 @@ pub mod Sieving
 pub mod Setting
 pub mod Rising
 pub mod Calls
-pub mod Behind
+pub mod Beyond

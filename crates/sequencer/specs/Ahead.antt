@@ -7,7 +7,7 @@ abbrev pub later : ℕ → Waiting → Waiting
 later n w = record { mark = w.mark; times = drop n w.times; room = w.room }
 
 -- what waits of the collectors 0, 1 and so on, each after the given number of its times; of one for which no number is given, all
-abbrev pub behind : List ℕ → List Waiting → List Waiting
-behind [] lanes = lanes
-behind (n ∷ ns) [] = []
-behind (n ∷ ns) (w ∷ lanes) = later n w ∷ behind ns lanes
+abbrev pub beyond : List ℕ → List Waiting → List Waiting
+beyond [] lanes = lanes
+beyond (n ∷ ns) [] = []
+beyond (n ∷ ns) (w ∷ lanes) = later n w ∷ beyond ns lanes

@@ -1,7 +1,7 @@
 //! A look ahead: what is next once some times are taken, while all of them wait still.
 
 ghost use Rattle.std.specs.Prelude.{◌≡◌, length, IfSome, IfNone};
-ghost use Rattle.sequencer.specs.Ahead.{behind};
+ghost use Rattle.sequencer.specs.Ahead.{beyond};
 ghost use Rattle.sequencer.specs.First.{IsFirstLane};
 ghost use Rattle.sequencer.specs.Lanes.{marks, waiting_times};
 ghost use Rattle.sequencer.specs.inner.Searching.{NoneWaits};
@@ -26,14 +26,14 @@ impl Model for Ahead {
 }
 
 /// The collector whose first time that isn't passed over goes before each other's.
-pub(crate) fn first_behind(lanes: &[Lane], passed: &[usize]) -> Option<Candidate>
+pub(crate) fn first_after(lanes: &[Lane], passed: &[usize]) -> Option<Candidate>
     requires { length passed.now ≡ length lanes.now }
-    ensures some { IfSome result (λ r. IsFirstLane (behind passed.now lanes.now) r.number r.time) }
-    ensures none { IfNone result (NoneWaits (behind passed.now lanes.now)) }
+    ensures some { IfSome result (λ r. IsFirstLane (beyond passed.now lanes.now) r.number r.time) }
+    ensures none { IfNone result (NoneWaits (beyond passed.now lanes.now)) }
 {
     let mut found: Option<Candidate> = None;
     for (number, lane) in lanes.iter().enumerate() {
-        found = better(found, number, lane.behind(passed[number]));
+        found = better(found, number, lane.beyond(passed[number]));
     }
     found
 }
@@ -42,7 +42,7 @@ pub(crate) fn first_behind(lanes: &[Lane], passed: &[usize]) -> Option<Candidate
 pub(crate) fn pop_passed(lanes: &mut [Lane], passed: &[usize])
     requires { length passed.now ≡ length lanes.old }
     ensures marks { marks lanes.new ≡ marks lanes.old }
-    ensures times { waiting_times lanes.new ≡ waiting_times (behind passed.now lanes.old) }
+    ensures times { waiting_times lanes.new ≡ waiting_times (beyond passed.now lanes.old) }
     ensures count { length lanes.new ≡ length lanes.old }
 {
     for (number, &count) in passed.iter().enumerate() {

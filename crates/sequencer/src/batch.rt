@@ -20,8 +20,8 @@ pub fn times_of(alloc: Global, batch: &[Admission]) -> Result<Vec<Moment>, Alloc
 }
 
 /// Whether the next of the late ones, after the first `passed`, is at this place.
-fn is_told(late: &[Late], passed: usize, index: usize) -> bool
-    ensures told { IsTrue result ↔ (slice_get (map (λ one. one.index) late.now) passed ≡ Some index) }
+fn is_reported(late: &[Late], passed: usize, index: usize) -> bool
+    ensures reported { IsTrue result ↔ (slice_get (map (λ one. one.index) late.now) passed ≡ Some index) }
     ensures inside { IsTrue result → passed < length late.now }
 {
     passed < late.len() && late[passed].index == index
@@ -40,7 +40,7 @@ pub fn timely_of(
     let mut kept = Vec::new(alloc);
     let mut passed = 0;
     for (index, admission) in batch.iter().enumerate() {
-        if is_told(late, passed, index) {
+        if is_reported(late, passed, index) {
             passed += 1;
         } else {
             kept.push(admission.share(alloc)?)?;

@@ -61,7 +61,7 @@ impl Lane {
     }
 
     /// The first time that waits after the first `passed` ones.
-    pub(crate) fn behind(&self, passed: usize) -> Option<Moment>
+    pub(crate) fn beyond(&self, passed: usize) -> Option<Moment>
         ensures { result ≡ slice_get self.now.times passed }
     {
         self.times.get(passed).copied()

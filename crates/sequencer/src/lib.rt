@@ -11,7 +11,7 @@
 //! is reported with it is the greatest of the collector's mark and all earlier times of the batch.
 //!
 //! Times wait in a queue for each collector, so taking the first costs the same however many wait; the next collector
-//! is found by looking at each first time, of which an archive has at most 16. A look ahead (`ahead`, `next_behind`,
+//! is found by looking at each first time, of which an archive has at most 16. A look ahead (`ahead`, `next_after`,
 //! `pass`) counts for each collector how many first times are passed over, so that a step of many changes can be
 //! planned without moving the sequencer; `take_passed` takes them once the commit is done. A step that is refused
 //! then needs no undoing.

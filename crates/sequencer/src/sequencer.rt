@@ -2,13 +2,13 @@
 
 ghost use Rattle.std.specs.Prelude.{map, ◌≡◌, ◌<◌, ◌≤◌, ◌++◌, [], ℕ, List, IfOk, IfSome, IfNone, OnOk, OnErr, Some, IsErr, slice_get, length, replicate, ◌↔◌};
 ghost use Rattle.std.specs.List.{AllByRecursion};
-ghost use Rattle.sequencer.specs.Ahead.{behind};
+ghost use Rattle.sequencer.specs.Ahead.{beyond};
 ghost use Rattle.sequencer.specs.Lanes.{Waiting, Releases, NoneOpen, SameLanes, Raises, HasMarkAbove, marks, waiting_times, bound_of};
 ghost use Rattle.route_meaning.specs.History.{least};
 ghost use Rattle.sequencer.specs.First.{IsNext};
 ghost use Rattle.sequencer.specs.Taking.{IsSieved, MayTakeIn, TakesIn};
 
-use crate::ahead::{Ahead, first_behind, pop_passed};
+use crate::ahead::{Ahead, first_after, pop_passed};
 use crate::first::{first_lane, is_open, least_bound};
 use crate::lane::Lane;
 use crate::late::{Sieved, sieve};
@@ -153,7 +153,7 @@ impl Sequencer {
     /// A look ahead from here: no time is passed over.
     pub fn ahead(&self, alloc: Global) -> Result<Ahead, AllocError>
         ensures count { IfOk result (λ ahead. length ahead ≡ length self.now) }
-        ensures same { IfOk result (λ ahead. behind ahead self.now ≡ self.now) }
+        ensures same { IfOk result (λ ahead. beyond ahead self.now ≡ self.now) }
     {
         let mut passed = Vec::with_capacity(alloc, self.lanes.len())?;
         for _ in 0..self.lanes.len() {
@@ -164,12 +164,12 @@ impl Sequencer {
 
     /// The collector whose first time that isn't passed over is the next of all of these, where that time is below every mark. Of
     /// equal times that of the lowest collector goes first.
-    pub fn next_behind(&self, ahead: &Ahead) -> Option<usize>
+    pub fn next_after(&self, ahead: &Ahead) -> Option<usize>
         requires count { length ahead.now ≡ length self.now }
-        ensures some { IfSome result (IsNext (behind ahead.now self.now)) }
-        ensures none { IfNone result (NoneOpen (behind ahead.now self.now)) }
+        ensures some { IfSome result (IsNext (beyond ahead.now self.now)) }
+        ensures none { IfNone result (NoneOpen (beyond ahead.now self.now)) }
     {
-        let Some(first) = first_behind(&self.lanes, &ahead.passed) else {
+        let Some(first) = first_after(&self.lanes, &ahead.passed) else {
             return None;
         };
         if !is_open(&self.lanes, first.time) {
@@ -178,12 +178,12 @@ impl Sequencer {
         Some(first.number)
     }
 
-    /// Passes over one more time of the collector that [`Sequencer::next_behind`] returns.
+    /// Passes over one more time of the collector that [`Sequencer::next_after`] returns.
     pub fn pass(&self, ahead: &mut Ahead, collector: usize)
         requires count { length ahead.old ≡ length self.now }
-        requires next { IsNext (behind ahead.old self.now) collector }
+        requires next { IsNext (beyond ahead.old self.now) collector }
         ensures count { length ahead.new ≡ length self.now }
-        ensures released { Releases (behind ahead.old self.now) collector (behind ahead.new self.now) }
+        ensures released { Releases (beyond ahead.old self.now) collector (beyond ahead.new self.now) }
     {
         let passed = &mut ahead.passed[collector];
         if *passed < self.lanes[collector].waiting() {
@@ -194,7 +194,7 @@ impl Sequencer {
     /// Takes all that is passed over.
     pub fn take_passed(&mut self, ahead: &Ahead)
         requires count { length ahead.now ≡ length self.old }
-        ensures taken { SameLanes (behind ahead.now self.old) self.new }
+        ensures taken { SameLanes (beyond ahead.now self.old) self.new }
         ensures count { length self.new ≡ length self.old }
     {
         pop_passed(&mut self.lanes, &ahead.passed);

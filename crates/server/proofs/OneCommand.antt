@@ -26,12 +26,12 @@ differ a b xs ys words apart h k =
     absurd cc
 
 -- words that begin with another word than requests do are no request
-no_request : (word : Text) (behind words : List Text) (request : Request) → bytes_eq (codes "at") word ≡ false → bytes_eq (codes "history") word ≡ false → bytes_eq (codes "watermark") word ≡ false → bytes_eq (codes "durable") word ≡ false
-    → words ≡ word ∷ behind → AreRequestWords words request → ⊥
-no_request word behind words (Question (Rows q)) at history watermark durable are h = differ _ _ _ _ words at h.are are
-no_request word behind words (Question (Events q)) at history watermark durable are h = differ _ _ _ _ words history h.are are
-no_request word behind words Watermark at history watermark durable are h = differ _ _ _ _ words watermark h are
-no_request word behind words (Durable collector) at history watermark durable are h = differ _ _ _ _ words durable h.are are
+no_request : (word : Text) (beyond words : List Text) (request : Request) → bytes_eq (codes "at") word ≡ false → bytes_eq (codes "history") word ≡ false → bytes_eq (codes "watermark") word ≡ false → bytes_eq (codes "durable") word ≡ false
+    → words ≡ word ∷ beyond → AreRequestWords words request → ⊥
+no_request word beyond words (Question (Rows q)) at history watermark durable are h = differ _ _ _ _ words at h.are are
+no_request word beyond words (Question (Events q)) at history watermark durable are h = differ _ _ _ _ words history h.are are
+no_request word beyond words Watermark at history watermark durable are h = differ _ _ _ _ words watermark h are
+no_request word beyond words (Durable collector) at history watermark durable are h = differ _ _ _ _ words durable h.are are
 
 one_collector : (a b : Text) (c d : ℕ) → a ≡ b → IsCollectorText a c → IsCollectorText b d → c ≡ d
 one_collector a b c d e h k = decimal_injective c d (omega (arith, h.few)) (omega (arith, k.few)) (sym h.number ∙ e ∙ k.number)
@@ -44,16 +44,16 @@ one_mark a b m n e h k = one_instant 4294967296 (omega arith) b m n (subst (λ (
 
 marks_agree : (words : List Text) (c d m n : ℕ) → AreMarkWords words c m → AreMarkWords words d n → commands.Mark c m ≡ commands.Mark d n
 marks_agree words c d m n h k =
-    let behind = rest_of _ _ _ _ (sym h.are ∙ k.are) in
-    let collectors = one_collector _ _ c d (first_of _ _ _ _ behind) h.collector_is k.collector_is in
-    let marks = one_mark _ _ m n (first_of _ _ _ _ (rest_of _ _ _ _ behind)) h.mark_is k.mark_is in
+    let beyond = rest_of _ _ _ _ (sym h.are ∙ k.are) in
+    let collectors = one_collector _ _ c d (first_of _ _ _ _ beyond) h.collector_is k.collector_is in
+    let marks = one_mark _ _ m n (first_of _ _ _ _ (rest_of _ _ _ _ beyond)) h.mark_is k.mark_is in
     λ i. commands.Mark (collectors i) (marks i)
 
 feeds_agree : (words : List Text) (c d m n : ℕ) → AreFeedWords words c m → AreFeedWords words d n → commands.Feed c m ≡ commands.Feed d n
 feeds_agree words c d m n h k =
-    let behind = rest_of _ _ _ _ (sym h.are ∙ k.are) in
-    let collectors = one_collector _ _ c d (first_of _ _ _ _ behind) h.collector_is k.collector_is in
-    let limits = one_limit _ _ m n (first_of _ _ _ _ (rest_of _ _ _ _ behind)) h.limit_is k.limit_is in
+    let beyond = rest_of _ _ _ _ (sym h.are ∙ k.are) in
+    let collectors = one_collector _ _ c d (first_of _ _ _ _ beyond) h.collector_is k.collector_is in
+    let limits = one_limit _ _ m n (first_of _ _ _ _ (rest_of _ _ _ _ beyond)) h.limit_is k.limit_is in
     λ i. commands.Feed (collectors i) (limits i)
 
 one_of_words : (line : Text) (a b : Command) → AreCommandWords (words_of line) a → AreCommandWords (words_of line) b → a ≡ b

@@ -29,6 +29,6 @@ read_only_lines promised port n line next v w was now only (inr read) = read_onl
 
 pub read_only_connections : (promised : Type 0) → ReadOnlyConnections promised
 read_only_connections promised port n endings.Done octets v was rest w now left only ended = inl refl
-read_only_connections promised port n (endings.Feed c l) octets v was rest w now left only ended = absurd (read_only_lines promised port n ended.line (nexts.Feed c l) ended.w w ended.now ended.told only ended.answers)
-read_only_connections promised port n endings.Stop octets v was rest w now left only ended = absurd (read_only_lines promised port n ended.line nexts.Stop ended.w w ended.now ended.told only ended.answers)
+read_only_connections promised port n (endings.Feed c l) octets v was rest w now left only ended = absurd (read_only_lines promised port n ended.line (nexts.Feed c l) ended.w w ended.now ended.reported only ended.answers)
+read_only_connections promised port n endings.Stop octets v was rest w now left only ended = absurd (read_only_lines promised port n ended.line nexts.Stop ended.w w ended.now ended.reported only ended.answers)
 read_only_connections promised port n endings.Failed octets v was rest w now left only ended = inr refl

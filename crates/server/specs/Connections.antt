@@ -3,7 +3,7 @@ use Rattle.std.specs.Prelude.{◌≡◌, ◌⊎◌, ◌<◌, ℕ, List, [], Opti
 use Rattle.std.specs.Io.KnownBytes.{IsAtEnd}
 use Rattle.board.specs.Views.{View}
 use Rattle.line_reader.specs.Lines.{HasNoEnd, BeginsWithLine}
-use Rattle.service.specs.Outputs.{OutputState, Tells}
+use Rattle.service.specs.Outputs.{OutputState, Reports}
 use Rattle.service.specs.Refusals.{refusal_line}
 use Rattle.service.specs.declared.refusal.Refusal.TheVariants as refusals
 use Rattle.server.specs.declared.answering.Next.{Next}
@@ -17,7 +17,7 @@ use Rattle.server.specs.Answers.{AnswersLine}
 -- follow them. So what is seen and what is written went on.
 pub data AnswersAll (promised : Type 0) (port : Port) (collectors : ℕ) (octets : List ℕ) (v : View) (was : OutputState) : List ℕ → View → OutputState → Type 0 where
   Begun : AnswersAll promised port collectors octets v was octets v was
-  Answered : (mid line rest : List ℕ) (w x : View) (now told out : OutputState) → AnswersAll promised port collectors octets v was mid w now → BeginsWithLine mid line rest → AnswersLine promised port collectors line nexts.Line w x now told → Tells told out []
+  Answered : (mid line rest : List ℕ) (w x : View) (now reported out : OutputState) → AnswersAll promised port collectors octets v was mid w now → BeginsWithLine mid line rest → AnswersLine promised port collectors line nexts.Line w x now reported → Reports reported out []
       → AnswersAll promised port collectors octets v was rest x out
 
 -- the lines before the last were answered, and so was that one, after which the connection does this
@@ -26,11 +26,11 @@ pub record AnswersUntil (promised : Type 0) (port : Port) (collectors : ℕ) (oc
   pub line : List ℕ
   pub w : View
   pub now : OutputState
-  pub told : OutputState
+  pub reported : OutputState
   pub before : AnswersAll promised port collectors octets v was mid w now
   pub begins : BeginsWithLine mid line rest
-  pub answers : AnswersLine promised port collectors line next w x now told
-  pub flushed : Tells told out []
+  pub answers : AnswersLine promised port collectors line next w x now reported
+  pub flushed : Reports reported out []
 
 -- all lines were answered; what follows has no end, and the connection sent no more
 pub record AnswersAllSent (promised : Type 0) (port : Port) (collectors : ℕ) (octets : List ℕ) (v : View) (was : OutputState) (rest : List ℕ) (w : View) (now : OutputState) (left : Option (List ℕ)) : Type 0 where
@@ -44,7 +44,7 @@ pub record RefusesLong (promised : Type 0) (port : Port) (collectors : ℕ) (oct
   pub before : AnswersAll promised port collectors octets v was rest w now
   pub none : HasNoEnd rest
   pub long : length rest ≡ 4096
-  pub told : Tells now out (refusal_line refusals.BadRequest)
+  pub reported : Reports now out (refusal_line refusals.BadRequest)
 
 -- a read failed after lines that were answered, or a write after the last of them
 abbrev pub Fails : Type 0 → Port → ℕ → List ℕ → View → OutputState → List ℕ → View → OutputState → Type 0

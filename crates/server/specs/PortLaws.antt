@@ -9,14 +9,14 @@ use Rattle.server.specs.declared.command.Command.TheVariants as commands
 use Rattle.server.specs.declared.connection.Ending.{Ending}
 use Rattle.server.specs.declared.connection.Ending.TheVariants as endings
 use Rattle.server.specs.declared.port.Port.{Port}
-use Rattle.server.specs.Answers.{AnswersLine, AnswersRequest, TellsNone}
+use Rattle.server.specs.Answers.{AnswersLine, AnswersRequest, ReportsNone}
 use Rattle.server.specs.Connections.{EndsSo}
 use Rattle.server.specs.Ports.{AsksOn}
 
 -- how a line is answered by which nothing changes: it is a request or asks nothing, or its connection ends after it
 abbrev pub OnlyReads : Type 0 → Port → ℕ → List ℕ → Next → View → View → OutputState → OutputState → Type 0
 OnlyReads promised port collectors line nexts.Line v w was now =
-    ((request : Request) × AsksOn port line (commands.Request request) × AnswersRequest promised collectors request v w was now) ⊎ TellsNone port line v w was now
+    ((request : Request) × AsksOn port line (commands.Request request) × AnswersRequest promised collectors request v w was now) ⊎ ReportsNone port line v w was now
 OnlyReads promised port collectors line (nexts.Feed collector limit) v w was now = ⊥
 OnlyReads promised port collectors line nexts.Quit v w was now = w ≡ v
 OnlyReads promised port collectors line nexts.Stop v w was now = ⊥

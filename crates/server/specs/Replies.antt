@@ -16,7 +16,7 @@ use Rattle.service.specs.declared.faults.Unanswered.TheVariants as whys
 -- these are the lines of some answer to the question
 pub record IsSomeAnswer (query : Query) (text : List ℕ) : Type 0 where
   pub answer : Answer
-  pub told : text ≡ reply_text (skip_of query) answer
+  pub reported : text ≡ reply_text (skip_of query) answer
 
 -- they are the lines of some answer; of a promised archive, of the answer over what is applied in the past that the pass sees
 pub record IsAnswerOver (promised : Type 0) (v : View) (query : Query) (text : List ℕ) : Type 0 where
@@ -38,7 +38,7 @@ NamesOneOf collectors (Durable collector) = collector < collectors
 -- Why there is no reply, of an archive with this many collectors: the question's last moment isn't below the settled watermark, which is
 -- returned; there is no such collector; or the archive reported another trouble.
 abbrev pub IsRefusedOver : Type 0 → ℕ → View → Request → Unanswered → Type 0
-IsRefusedOver promised collectors v (Question query) (whys.AboveWatermark told) = promised → (told ≡ settled v.past.history) × (settled v.past.history ≤ last_moment query)
+IsRefusedOver promised collectors v (Question query) (whys.AboveWatermark reported) = promised → (reported ≡ settled v.past.history) × (settled v.past.history ≤ last_moment query)
 IsRefusedOver promised collectors v (Durable collector) whys.NoCollector = collectors ≤ collector
 IsRefusedOver promised collectors v request (whys.Trouble trouble) = ⊤
 IsRefusedOver promised collectors v request why = ⊥
@@ -51,5 +51,5 @@ SeesBy (Durable collector) v w = (w ≡ v) ⊎ ((w ≡ with_seen v (suc collecto
 
 -- a question is refused as above the watermark only where it isn't below one that the pass has seen before
 abbrev pub IsNotBelow : View → Request → Unanswered → Type 0
-IsNotBelow v (Question query) (whys.AboveWatermark told) = watermark_of v ≤ last_moment query
+IsNotBelow v (Question query) (whys.AboveWatermark reported) = watermark_of v ≤ last_moment query
 IsNotBelow v request why = ⊤

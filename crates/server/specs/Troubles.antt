@@ -1,6 +1,6 @@
 -- What calls on a shared archive return, in the words of lines.
-use Rattle.archive_calls.specs.declared.refusal.Trouble.{Trouble as Told}
-use Rattle.archive_calls.specs.declared.refusal.Trouble.TheVariants as told
+use Rattle.archive_calls.specs.declared.refusal.Trouble.{Trouble as Reported}
+use Rattle.archive_calls.specs.declared.refusal.Trouble.TheVariants as reported
 use Rattle.query_threads.specs.declared.refusal.Trouble.{Trouble}
 use Rattle.query_threads.specs.declared.refusal.Trouble.TheVariants as troubles
 use Rattle.query_threads.specs.declared.refusal.AskError.{AskError}
@@ -13,16 +13,16 @@ use Rattle.service.specs.declared.faults.Unanswered.{Unanswered}
 use Rattle.service.specs.declared.faults.Unanswered.TheVariants as whys
 
 -- what a shared archive couldn't do
-abbrev pub of_shared : Trouble → Told
-of_shared troubles.Fault = told.Fault
-of_shared troubles.NeedsRecovery = told.NeedsRecovery
-of_shared (troubles.DamagedPage page) = told.BadNode page
-of_shared (troubles.DamagedBlock block) = told.Damaged block
-of_shared troubles.CounterFull = told.CounterFull
-of_shared troubles.TooHigh = told.TooHigh
-of_shared troubles.PagesFull = told.PagesFull
-of_shared troubles.OnceFull = told.OnceFull
-of_shared troubles.OutOfMemory = told.OutOfMemory
+abbrev pub of_shared : Trouble → Reported
+of_shared troubles.Fault = reported.Fault
+of_shared troubles.NeedsRecovery = reported.NeedsRecovery
+of_shared (troubles.DamagedPage page) = reported.BadNode page
+of_shared (troubles.DamagedBlock block) = reported.Damaged block
+of_shared troubles.CounterFull = reported.CounterFull
+of_shared troubles.TooHigh = reported.TooHigh
+of_shared troubles.PagesFull = reported.PagesFull
+of_shared troubles.OnceFull = reported.OnceFull
+of_shared troubles.OutOfMemory = reported.OutOfMemory
 
 -- why a question isn't answered
 abbrev pub of_ask : AskError → Unanswered

@@ -3,7 +3,7 @@
 ghost use Rattle.std.specs.Prelude.{◌≡◌, Err, IfOk, IsSome};
 ghost use Rattle.board.specs.Past.{Among, GoesOnAs};
 ghost use Rattle.service.specs.AnswerLines.{number_line};
-ghost use Rattle.service.specs.Outputs.{Tells};
+ghost use Rattle.service.specs.Outputs.{Reports};
 ghost use Rattle.service.specs.Refusals.{refusal_line};
 ghost use Rattle.server.specs.Answers.{AnswersLine, AnswersMark, AnswersRead, AnswersRequest};
 ghost use Rattle.server.specs.Lines.{of_request};
@@ -58,7 +58,7 @@ fn number_of(numbers: &AtomicU64, request: &Request) -> u64 {
 
 /// Writes a letter, a bar, the number and LF.
 fn write_number_line<W: Write>(out: &mut Output<W>, letter: &str, number: u64)
-    ensures line { Tells out.old out.new (number_line letter.now number) }
+    ensures line { Reports out.old out.new (number_line letter.now number) }
 {
     out.text(letter);
     out.text("|");

@@ -5,7 +5,7 @@ ghost use Rattle.server.specs.Commands.{AreFeedWords, AreMarkWords, IsCollectorT
 
 use route_model::Mark;
 use route_text::{BadText, read_mark, read_number};
-use service::{LAST_COLLECTOR, words_behind};
+use service::{LAST_COLLECTOR, words_after};
 
 /// The most admissions of a batch that a line can ask for.
 const MOST_ADMISSIONS: u64 = 1000;
@@ -36,10 +36,10 @@ pub(crate) fn read_mark_words(words: &[&str]) -> Result<(u8, Mark), BadText>
     ensures found { IfOk result (λ asked. AreMarkWords (map (λ x. x.now) words.now) asked.0 asked.1) }
     ensures none { OnErr result ((collector mark : ℕ) → AreMarkWords (map (λ x. x.now) words.now) collector mark → ⊥) }
 {
-    let Some(behind) = words_behind(words, "mark") else {
+    let Some(beyond) = words_after(words, "mark") else {
         return Err(BadText);
     };
-    let [collector, mark] = behind else {
+    let [collector, mark] = beyond else {
         return Err(BadText);
     };
     let collector = read_collector(collector)?;
@@ -52,10 +52,10 @@ pub(crate) fn read_feed_words(words: &[&str]) -> Result<(u8, u16), BadText>
     ensures found { IfOk result (λ asked. AreFeedWords (map (λ x. x.now) words.now) asked.0 asked.1) }
     ensures none { OnErr result ((collector limit : ℕ) → AreFeedWords (map (λ x. x.now) words.now) collector limit → ⊥) }
 {
-    let Some(behind) = words_behind(words, "feed") else {
+    let Some(beyond) = words_after(words, "feed") else {
         return Err(BadText);
     };
-    let [collector, limit] = behind else {
+    let [collector, limit] = beyond else {
         return Err(BadText);
     };
     let collector = read_collector(collector)?;

@@ -4,7 +4,7 @@ ghost use Rattle.std.specs.Prelude.{ℕ, List, ◌++◌, IsSome};
 ghost use Rattle.std.specs.Io.KnownBytes.{Consumes};
 ghost use Rattle.board.specs.Past.{Among};
 ghost use Rattle.server.specs.Connections.{EndsSo};
-ghost use Rattle.server.specs.inner.Ends.{TellsEnd};
+ghost use Rattle.server.specs.inner.Ends.{ReportsEnd};
 
 use crate::answering::{Next, answer_line};
 use crate::port::Port;
@@ -33,7 +33,7 @@ pub enum Ending {
 
 /// How a connection goes on whose next line can't be read.
 fn end_of<W: Write>(why: LineError, out: &mut Output<W>) -> Ending
-    ensures told { TellsEnd why result out.old out.new }
+    ensures reported { ReportsEnd why result out.old out.new }
 {
     match why {
         LineError::TooLong => {
@@ -60,7 +60,7 @@ pub fn serve_lines<A: Store, N: Named + OnDisk<A::Disk>, G: Gate + Drop, R: Read
 ) -> Ending
     requires reader { IsSome N.disk → Among reader.old pass.old.past.blocks }
     ensures reader { IsSome N.disk → Among reader.new pass.new.past.blocks }
-    ensures ended { (gave : List ℕ) × Consumes (R.remaining lines.old.reader) (R.remaining lines.new.reader) gave × EndsSo (IsSome N.disk) port shared.now.collectors result (lines.old.behind ++ gave) pass.old out.old lines.new.behind pass.new out.new (R.remaining lines.new.reader) }
+    ensures ended { (gave : List ℕ) × Consumes (R.remaining lines.old.reader) (R.remaining lines.new.reader) gave × EndsSo (IsSome N.disk) port shared.now.collectors result (lines.old.beyond ++ gave) pass.old out.old lines.new.beyond pass.new out.new (R.remaining lines.new.reader) }
 {
     for _ in rt.forever() {
         match lines.read_line() {

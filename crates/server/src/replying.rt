@@ -88,12 +88,12 @@ fn load_count<A: Store, N: Named + OnDisk<A::Disk>, G: Gate + Drop>(
 }
 
 /// The line of the watermark, as the pass sees it then.
-fn tell_watermark<A: Store, N: Named + OnDisk<A::Disk>, G: Gate + Drop>(
+fn report_watermark<A: Store, N: Named + OnDisk<A::Disk>, G: Gate + Drop>(
     alloc: Global,
     shared: &Shared<A, N, G>,
     pass: &mut Pass<N>,
 ) -> Result<String, Unanswered>
-    ensures told { IfOk result (λ text. IsReplyOver (IsSome N.disk) pass.new Request.Watermark (string_bytes text)) }
+    ensures reported { IfOk result (λ text. IsReplyOver (IsSome N.disk) pass.new Request.Watermark (string_bytes text)) }
     ensures refused { IfErr result (IsRefusedOver (IsSome N.disk) shared.now.collectors pass.new Request.Watermark) }
     ensures sees { SeesBy Request.Watermark pass.old pass.new }
 {
@@ -105,13 +105,13 @@ fn tell_watermark<A: Store, N: Named + OnDisk<A::Disk>, G: Gate + Drop>(
 }
 
 /// The line of how many records of the collector are admitted, as the pass sees it then.
-fn tell_count<A: Store, N: Named + OnDisk<A::Disk>, G: Gate + Drop>(
+fn report_count<A: Store, N: Named + OnDisk<A::Disk>, G: Gate + Drop>(
     alloc: Global,
     shared: &Shared<A, N, G>,
     pass: &mut Pass<N>,
     collector: u8,
 ) -> Result<String, Unanswered>
-    ensures told { IfOk result (λ text. IsReplyOver (IsSome N.disk) pass.new (Request.Durable collector) (string_bytes text)) }
+    ensures reported { IfOk result (λ text. IsReplyOver (IsSome N.disk) pass.new (Request.Durable collector) (string_bytes text)) }
     ensures found { OnOk result (collector < shared.now.collectors) }
     ensures refused { IfErr result (IsRefusedOver (IsSome N.disk) shared.now.collectors pass.new (Request.Durable collector)) }
     ensures sees { SeesBy (Request.Durable collector) pass.old pass.new }
@@ -149,7 +149,7 @@ pub fn reply_to<A: Store, N: Named + OnDisk<A::Disk>, G: Gate + Drop>(
         Request::Question(query) => {
             answer_question(rt, alloc, shared, pass, reader, number, query)
         }
-        Request::Watermark => tell_watermark(alloc, shared, pass),
-        Request::Durable(collector) => tell_count(alloc, shared, pass, collector),
+        Request::Watermark => report_watermark(alloc, shared, pass),
+        Request::Durable(collector) => report_count(alloc, shared, pass, collector),
     }
 }

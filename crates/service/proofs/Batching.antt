@@ -6,7 +6,7 @@ use Rattle.route_model.specs.Admission.{Admitted, IsAdmission, admission_octets}
 use Rattle.mrt_records.proofs.api.Streams.{all-append}
 use Rattle.archive_calls.specs.Limits.{batch_octets}
 use Rattle.resolve.specs.declared.fault.ResolveFault.{ResolveFault}
-use Rattle.service.specs.Turns.{IsWithinLimits, admissions_of, is_crowded, is_full, offer_where, wait_unless, waiting_with, turns_at, waits_after, turns_for, waits_behind, last_turns, feed_turns}
+use Rattle.service.specs.Turns.{IsWithinLimits, admissions_of, is_crowded, is_full, offer_where, wait_unless, waiting_with, turns_at, waits_after, turns_for, waits_beyond, last_turns, feed_turns}
 use Rattle.service.proofs.Gathering.{not_above}
 use Rattle.service.specs.declared.limits.BatchLimits.{BatchLimits}
 
@@ -41,10 +41,10 @@ waits_still false limit waiting full some one f = elim (leb_tells limit.records 
 may_fit : (limit : BatchLimits) (waiting : List Admitted) → MayWait limit waiting → FitsBatch limit waiting
 may_fit limit waiting may = let few = may.few in record { few = omega (arith, few); fit = may.fit }
 
--- the turns for these records, and what waits behind them
+-- the turns for these records, and what waits after them
 record Within (limit : BatchLimits) (place : ℕ) (waiting : List Admitted) (results : List (Result (Option Admitted) ResolveFault)) : Type 0 where
   pub turns : AllByRecursion (IsWithinLimits limit) (turns_for limit place waiting results)
-  pub waits : MayWait limit (waits_behind limit waiting results)
+  pub waits : MayWait limit (waits_beyond limit waiting results)
 
 turns_within : (limit : BatchLimits) (place : ℕ) (waiting : List Admitted) (results : List (Result (Option Admitted) ResolveFault)) → 1 ≤ limit.records → 131076 ≤ limit.octets → MayWait limit waiting → AllByRecursion IsAdmission (admissions_of results) → Within limit place waiting results
 turns_within limit place waiting [] some one may each = record { turns = tt; waits = may }
@@ -68,4 +68,4 @@ last_within limit (a ∷ waiting) f = ((f.few, f.fit), tt)
 pub feed_within : (limit : BatchLimits) (results : List (Result (Option Admitted) ResolveFault)) → 1 ≤ limit.records → 131076 ≤ limit.octets → AllByRecursion IsAdmission (admissions_of results) → AllByRecursion (IsWithinLimits limit) (feed_turns limit results)
 feed_within limit results some one each =
     let within = turns_within limit 0 [] results some one (record { few = omega (arith, some); fit = omega (arith, one) }) each in
-    all-append (IsWithinLimits limit) (turns_for limit 0 [] results) _ within.turns (last_within limit (waits_behind limit [] results) (may_fit limit _ within.waits))
+    all-append (IsWithinLimits limit) (turns_for limit 0 [] results) _ within.turns (last_within limit (waits_beyond limit [] results) (may_fit limit _ within.waits))

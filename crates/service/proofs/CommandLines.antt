@@ -24,13 +24,13 @@ use Rattle.service.specs.declared.invocation.CommandError.TheVariants.{Usage, Ou
 
 -- ---- words joined
 
-behind_each : {X : Type 0} (f : X → List ℕ) (sep : List ℕ) (xs : List X) → flat_map (λ x. sep ++ f x) xs ≡ flat_map (λ t. sep ++ t) (map f xs)
-behind_each f sep [] = refl
-behind_each f sep (x ∷ xs) = ap (λ (t : List ℕ). (sep ++ f x) ++ t) (behind_each f sep xs)
+after_each : {X : Type 0} (f : X → List ℕ) (sep : List ℕ) (xs : List X) → flat_map (λ x. sep ++ f x) xs ≡ flat_map (λ t. sep ++ t) (map f xs)
+after_each f sep [] = refl
+after_each f sep (x ∷ xs) = ap (λ (t : List ℕ). (sep ++ f x) ++ t) (after_each f sep xs)
 
 pub joined : {X : Type 0} (f : X → List ℕ) (sep : List ℕ) (xs : List X) → join_by f sep xs ≡ join_by (λ t. t) sep (map f xs)
 joined f sep [] = refl
-joined f sep (x ∷ xs) = ap (λ (t : List ℕ). f x ++ t) (behind_each f sep xs)
+joined f sep (x ∷ xs) = ap (λ (t : List ℕ). f x ++ t) (after_each f sep xs)
 
 -- ---- the command that is named
 
@@ -160,9 +160,9 @@ pub shown_kind : (app : App) (words : List Text) (error e : Error) (r : CommandE
     → (is_simple_and_free app ≡ true → HasKind (fault_of app words) error)
     → (kind_of error ≡ kind.OutOfMemory → r ≡ OutOfMemory) → (kind_of error ≡ kind.OutOfMemory) ⊎ (r ≡ Usage error)
     → r ≡ Usage e → IsAmong (kind_of e) (fault_of program words)
-shown_kind app words error e r is fails memory told shown =
+shown_kind app words error e r is fails memory reported shown =
     let bad : kind_of error ≡ kind.OutOfMemory → ⊥ = λ m. not_both e (sym shown ∙ memory m) in
-    let same : error ≡ e = ⊎_elim (λ m. absurd (bad m)) (λ u. same_error error e (sym u ∙ shown)) told in
+    let same : error ≡ e = ⊎_elim (λ m. absurd (bad m)) (λ u. same_error error e (sym u ∙ shown)) reported in
     let among : IsAmong (kind_of error) (fault_of app words) = ⊎_elim (λ m. absurd (bad m)) (λ k. k) (fails (ap is_simple_and_free is)) in
     subst (λ (x : Error). IsAmong (kind_of x) (fault_of program words)) same (subst (λ (a : App). IsAmong (kind_of error) (fault_of a words)) is among)
   where

@@ -5,7 +5,7 @@ use Rattle.route_meaning.specs.History.{Intake}
 use Rattle.interleaving_core.specs.declared.reply.Resume.{Resume}
 use Rattle.interleaving_core.specs.World.{resume_of}
 
--- where it goes on, so many are admitted
+-- where it goes on, this many are admitted
 pub counted : (intakes : List Intake) (c : ℕ) (resume : Resume) → Some resume ≡ slice_get (map resume_of intakes) c
     → (intake : Intake) × (slice_get intakes c ≡ Some intake) × (resume.admitted ≡ length intake.admitted)
 counted [] c resume e = absurd cc

@@ -4,7 +4,7 @@ use Rattle.std.specs.List.{slice_get}
 use Rattle.route_model.specs.Admission.{Admitted}
 use Rattle.route_meaning.specs.History.{Intake}
 use Rattle.interleaving_core.specs.World.{resume_of}
-use Rattle.mrt_records.specs.Values.{Told}
+use Rattle.mrt_records.specs.Values.{Reported}
 use Rattle.resolve.specs.Meanings.{IsMeaning}
 use Rattle.resolve.specs.declared.fault.ResolveFault.{ResolveFault}
 use Rattle.resolve.specs.declared.fault.ResolveFault.TheVariants as faults
@@ -12,13 +12,13 @@ use Rattle.resolve.proofs.api.Feeds.{one_more}
 use Rattle.resolve.specs.declared.without_hop.WithoutHop.{WithoutHop}
 use Rattle.service.specs.Turns.{admissions_of}
 use Rattle.service.specs.FeedTexts.{intake_in}
-use Rattle.service.specs.Resuming.{MeansFrom, dropped_where, left_after, left_behind, taken_at, without_first}
+use Rattle.service.specs.Resuming.{MeansFrom, dropped_where, left_after, left_over, taken_at, without_first}
 
-pub taken_snoc : (n : ℕ) (meanings : List (Result (Option Admitted) ResolveFault)) (m : Result (Option Admitted) ResolveFault) → without_first n (meanings ++ m ∷ []) ≡ without_first n meanings ++ taken_at (left_behind n meanings) m ∷ []
+pub taken_snoc : (n : ℕ) (meanings : List (Result (Option Admitted) ResolveFault)) (m : Result (Option Admitted) ResolveFault) → without_first n (meanings ++ m ∷ []) ≡ without_first n meanings ++ taken_at (left_over n meanings) m ∷ []
 taken_snoc n [] m = refl
 taken_snoc n (q ∷ meanings) m = ap (λ (t : List _). taken_at n q ∷ t) (taken_snoc (left_after n q) meanings m)
 
-left_snoc : (n : ℕ) (meanings : List (Result (Option Admitted) ResolveFault)) (m : Result (Option Admitted) ResolveFault) → left_behind n (meanings ++ m ∷ []) ≡ left_after (left_behind n meanings) m
+left_snoc : (n : ℕ) (meanings : List (Result (Option Admitted) ResolveFault)) (m : Result (Option Admitted) ResolveFault) → left_over n (meanings ++ m ∷ []) ≡ left_after (left_over n meanings) m
 left_snoc n [] m = refl
 left_snoc n (q ∷ meanings) m = left_snoc (left_after n q) meanings m
 
@@ -27,27 +27,27 @@ as_many_taken n [] = refl
 as_many_taken n (q ∷ meanings) = ap suc (as_many_taken (left_after n q) meanings)
 
 -- something is taken of each record
-pub taken_count : (rule : WithoutHop) (c dropped : ℕ) (records : List Told) (results : List (Result (Option Admitted) ResolveFault)) → MeansFrom rule c dropped records results → length results ≡ length records
+pub taken_count : (rule : WithoutHop) (c dropped : ℕ) (records : List Reported) (results : List (Result (Option Admitted) ResolveFault)) → MeansFrom rule c dropped records results → length results ≡ length records
 taken_count rule c dropped records results m = ap length m.taken ∙ as_many_taken dropped m.meanings ∙ m.means.count
 
 -- one more record
-abbrev pub meant_more : (rule : WithoutHop) (c dropped : ℕ) (records : List Told) (results : List (Result (Option Admitted) ResolveFault)) (r : Told) (x y : Result (Option Admitted) ResolveFault) (m : MeansFrom rule c dropped records results)
-    → IsMeaning rule c records r x → y ≡ taken_at (left_behind dropped m.meanings) x → MeansFrom rule c dropped (records ++ r ∷ []) (results ++ y ∷ [])
+abbrev pub meant_more : (rule : WithoutHop) (c dropped : ℕ) (records : List Reported) (results : List (Result (Option Admitted) ResolveFault)) (r : Reported) (x y : Result (Option Admitted) ResolveFault) (m : MeansFrom rule c dropped records results)
+    → IsMeaning rule c records r x → y ≡ taken_at (left_over dropped m.meanings) x → MeansFrom rule c dropped (records ++ r ∷ []) (results ++ y ∷ [])
 meant_more rule c dropped records results r x y m is taken = record {
   meanings = m.meanings ++ x ∷ [];
   means = one_more rule c records m.meanings r x m.means is;
   taken = (λ k. m.taken k ++ taken k ∷ []) ∙ sym (taken_snoc dropped m.meanings x);
 }
 
--- so many are dropped behind it
-pub drops_more : (dropped n now : ℕ) (meanings : List (Result (Option Admitted) ResolveFault)) (x : Result (Option Admitted) ResolveFault) → n ≡ left_behind dropped meanings → now ≡ left_after n x → now ≡ left_behind dropped (meanings ++ x ∷ [])
+-- this many are dropped after it
+pub drops_more : (dropped n now : ℕ) (meanings : List (Result (Option Admitted) ResolveFault)) (x : Result (Option Admitted) ResolveFault) → n ≡ left_over dropped meanings → now ≡ left_after n x → now ≡ left_over dropped (meanings ++ x ∷ [])
 drops_more dropped n now meanings x was is = is ∙ ap (λ (t : ℕ). left_after t x) was ∙ sym (left_snoc dropped meanings x)
 
--- want of memory isn't dropped
-pub still_wanting : (n : ℕ) (x : Result (Option Admitted) ResolveFault) → x ≡ Err faults.OutOfMemory → taken_at n x ≡ Err faults.OutOfMemory
-still_wanting n (Err fault) e = e
-still_wanting n (Ok None) e = absurd cc
-still_wanting n (Ok (Some a)) e = absurd cc
+-- running out of memory isn't dropped
+pub still_out_of_memory : (n : ℕ) (x : Result (Option Admitted) ResolveFault) → x ≡ Err faults.OutOfMemory → taken_at n x ≡ Err faults.OutOfMemory
+still_out_of_memory n (Err fault) e = e
+still_out_of_memory n (Ok None) e = absurd cc
+still_out_of_memory n (Ok (Some a)) e = absurd cc
 
 -- where nothing is dropped, all is taken
 pub all_taken : (meanings : List (Result (Option Admitted) ResolveFault)) → without_first 0 meanings ≡ meanings

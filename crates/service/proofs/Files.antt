@@ -5,7 +5,7 @@ use Rattle.std.proofs.Math.Seq.{get_or-append_seam, set-append_seam}
 use Rattle.std.proofs.Math.ListN.{drop_of_length-le, get_or-map}
 use Rattle.route_meaning.specs.History.{History}
 use Rattle.resolve.specs.declared.without_hop.WithoutHop.{WithoutHop}
-use Rattle.service.specs.Carried.{Carried}
+use Rattle.service.specs.Represented.{Represented}
 use Rattle.service.specs.Outputs.{OutputState}
 use Rattle.service.specs.Feeds.{MayGive, Sums, limits_for}
 use Rattle.service.specs.Loads.{IsLoaded, IsLoadEnd}
@@ -17,8 +17,8 @@ use Rattle.service.specs.declared.settings.LoadSettings.{LoadSettings}
 use Rattle.service.specs.declared.status.Status.{Status}
 use Rattle.service.specs.declared.status.Status.TheVariants as statuses
 
--- of all that is carried, this history alone
-only : (rule : WithoutHop) (c dropped : ℕ) (limit : BatchLimits) (mark : Option ℕ) (h : History) (bytes : List ℕ) (cut : Option FeedCut) (sums : Sums) (archive : Carried) (was now : OutputState) (l : IsLoaded rule c dropped limit mark h bytes cut sums archive was now)
+-- of all that is represented, this history alone
+only : (rule : WithoutHop) (c dropped : ℕ) (limit : BatchLimits) (mark : Option ℕ) (h : History) (bytes : List ℕ) (cut : Option FeedCut) (sums : Sums) (archive : Represented) (was now : OutputState) (l : IsLoaded rule c dropped limit mark h bytes cut sums archive was now)
     → IsLoaded rule c dropped limit mark h bytes cut sums (λ g. g ≡ l.applied.now) was now
 only rule c dropped limit mark h bytes cut sums archive was now l = record {
   rest = l.rest;
@@ -26,19 +26,19 @@ only rule c dropped limit mark h bytes cut sums archive was now l = record {
   results = l.results;
   feed = l.feed;
   cut_is = l.cut_is;
-  applied = record { now = l.applied.now; intakes_are = l.applied.intakes_are; idle = l.applied.idle; carried = refl };
+  applied = record { now = l.applied.now; intakes_are = l.applied.intakes_are; idle = l.applied.idle; represented = refl };
   wrote = l.wrote;
   summed = l.summed;
 }
 
 -- what the load of a file that is done leaves
-pub record IsDone (how : LoadSettings) (most dropped left : ℕ) (h : History) (bytes : List ℕ) (lost_was lost : Bool) (report : LoadReport) (archive : Carried) (was now err_was err_now : OutputState) : Type 0 where
+pub record IsDone (how : LoadSettings) (most dropped left : ℕ) (h : History) (bytes : List ℕ) (lost_was lost : Bool) (report : LoadReport) (archive : Represented) (was now err_was err_now : OutputState) : Type 0 where
   pub next : History
-  pub carried : archive next
+  pub represented : archive next
   pub quiet : err_now ≡ err_was
   pub ended : IsFileEnd how most dropped left h bytes lost_was lost statuses.Done report (λ g. g ≡ next) was now err_was err_was
 
-done_with : (held : Bool) (plain status : Status) (how : LoadSettings) (most dropped left : ℕ) (h : History) (bytes : List ℕ) (sums : Sums) (lost_was lost : Bool) (report : LoadReport) (archive : Carried) (was now err_was err_now : OutputState)
+done_with : (held : Bool) (plain status : Status) (how : LoadSettings) (most dropped left : ℕ) (h : History) (bytes : List ℕ) (sums : Sums) (lost_was lost : Bool) (report : LoadReport) (archive : Represented) (was now err_was err_now : OutputState)
     → status ≡ statuses.Done → status ≡ refused_if held plain → report.is_held ≡ held → left ≡ sums.left → IsReported how dropped sums report
     → IsLoadEnd how.feed.rule how.feed.collector dropped (limits_for how.feed most) (mark_unless held how.mark) h bytes sums lost_was lost plain archive was now err_was err_now
     → IsDone how most dropped left h bytes lost_was lost report archive was now err_was err_now
@@ -55,7 +55,7 @@ done_with false statuses.Done status how most dropped left h bytes sums lost_was
     let limit = limits_for how.feed most in
     record {
       next = l.applied.now;
-      carried = l.applied.carried;
+      represented = l.applied.represented;
       quiet = e.4;
       ended = record {
         sums = sums;
@@ -69,7 +69,7 @@ done_with false statuses.Done status how most dropped left h bytes sums lost_was
       };
     }
 
-pub done_by : (status : Status) (how : LoadSettings) (most dropped left : ℕ) (h : History) (bytes : List ℕ) (lost_was lost : Bool) (report : LoadReport) (archive : Carried) (was now err_was err_now : OutputState)
+pub done_by : (status : Status) (how : LoadSettings) (most dropped left : ℕ) (h : History) (bytes : List ℕ) (lost_was lost : Bool) (report : LoadReport) (archive : Represented) (was now err_was err_now : OutputState)
     → status ≡ statuses.Done → IsFileEnd how most dropped left h bytes lost_was lost status report archive was now err_was err_now
     → IsDone how most dropped left h bytes lost_was lost report archive was now err_was err_now
 done_by status how most dropped left h bytes lost_was lost report archive was now err_was err_now done e = done_with report.is_held e.plain status how most dropped left h bytes e.sums lost_was lost report archive was now err_was err_now done e.status_is refl e.drops e.reported e.ended
@@ -91,9 +91,9 @@ one_more how most dropped between left h g next (x ∷ xs) [] file file_now was 
 one_more how most dropped between left h g next (x ∷ xs) (y ∷ ys) file file_now was mid now err a w = (a.0, a.1, a.2, a.3, one_more how most a.0 between left a.1 g next xs ys file file_now a.2 mid now err a.4 w)
 
 -- the files before this place were loaded without a mark
-pub record IsAt (how : LoadSettings) (most dropped left : ℕ) (h : History) (files files_now : List FileState) (place : ℕ) (archive : Carried) (was now err_was err_now : OutputState) : Type 0 where
+pub record IsAt (how : LoadSettings) (most dropped left : ℕ) (h : History) (files files_now : List FileState) (place : ℕ) (archive : Represented) (was now err_was err_now : OutputState) : Type 0 where
   pub next : History
-  pub carried : archive next
+  pub represented : archive next
   pub front_now : List FileState
   pub count : length front_now ≡ place
   pub are : files_now ≡ front_now ++ drop place files
@@ -101,11 +101,11 @@ pub record IsAt (how : LoadSettings) (most dropped left : ℕ) (h : History) (fi
   pub quiet : err_now ≡ err_was
 
 -- none yet
-pub at_first : (how : LoadSettings) (most dropped : ℕ) (h : History) (files : List FileState) (archive : Carried) (was err : OutputState) → archive h → IsAt how most dropped dropped h files files 0 archive was was err err
-at_first how most dropped h files archive was err carried = record { next = h; carried = carried; front_now = []; count = refl; are = refl; whole = (refl, refl, refl); quiet = refl }
+pub at_first : (how : LoadSettings) (most dropped : ℕ) (h : History) (files : List FileState) (archive : Represented) (was err : OutputState) → archive h → IsAt how most dropped dropped h files files 0 archive was was err err
+at_first how most dropped h files archive was err represented = record { next = h; represented = represented; front_now = []; count = refl; are = refl; whole = (refl, refl, refl); quiet = refl }
 
 -- the next file is the one that stood there first
-pub next_file : (how : LoadSettings) (most dropped left : ℕ) (h : History) (files files_now : List FileState) (place : ℕ) (file d : FileState) (archive : Carried) (was now err_was err_now : OutputState)
+pub next_file : (how : LoadSettings) (most dropped left : ℕ) (h : History) (files files_now : List FileState) (place : ℕ) (file d : FileState) (archive : Represented) (was now err_was err_now : OutputState)
     → IsAt how most dropped left h files files_now place archive was now err_was err_now → place < length files → file ≡ get_or files_now place d → drop place files ≡ file ∷ drop (place + 1) files
 next_file how most dropped left h files files_now place file d archive was now err_was err_now a lt is =
     let there = drop_more files place d lt in
@@ -115,7 +115,7 @@ next_file how most dropped left h files files_now place file d archive was now e
     there ∙ ap (λ (t : FileState). t ∷ drop (place + 1) files) (sym same)
 
 -- and the files with its new state
-pub with_next : (how : LoadSettings) (most dropped left : ℕ) (h : History) (files files_now : List FileState) (place : ℕ) (file file_now : FileState) (archive : Carried) (was now err_was err_now : OutputState)
+pub with_next : (how : LoadSettings) (most dropped left : ℕ) (h : History) (files files_now : List FileState) (place : ℕ) (file file_now : FileState) (archive : Represented) (was now err_was err_now : OutputState)
     → (a : IsAt how most dropped left h files files_now place archive was now err_was err_now) → drop place files ≡ file ∷ drop (place + 1) files
     → set files_now place file_now ≡ a.front_now ++ file_now ∷ drop (place + 1) files
 with_next how most dropped left h files files_now place file file_now archive was now err_was err_now a there =
@@ -123,7 +123,7 @@ with_next how most dropped left h files files_now place file file_now archive wa
     ∙ ap (λ (n : ℕ). set (a.front_now ++ file ∷ drop (place + 1) files) n file_now) (sym a.count) ∙ set-append_seam a.front_now file (drop (place + 1) files) file_now
 
 -- one more is loaded
-pub at_next : (how : LoadSettings) (most dropped between left : ℕ) (h : History) (files files_now : List FileState) (place : ℕ) (file file_now : FileState) (archive later : Carried) (was mid now err_was err_mid err_now : OutputState)
+pub at_next : (how : LoadSettings) (most dropped between left : ℕ) (h : History) (files files_now : List FileState) (place : ℕ) (file file_now : FileState) (archive later : Represented) (was mid now err_was err_mid err_now : OutputState)
     → (a : IsAt how most dropped between h files files_now place archive was mid err_was err_mid) → place < length files → drop place files ≡ file ∷ drop (place + 1) files
     → (bytes : List ℕ) × MayGive file.input.left bytes × IsDone (record how { mark = None }) most between left a.next bytes file.input.failed file_now.input.failed file_now.report later mid now err_mid err_now
     → IsAt how most dropped left h files (set files_now place file_now) (place + 1) later was now err_was err_now
@@ -131,7 +131,7 @@ at_next how most dropped between left h files files_now place file file_now arch
     let d = e.2 in
     record {
       next = d.next;
-      carried = d.carried;
+      represented = d.represented;
       front_now = a.front_now ++ file_now ∷ [];
       count = length-append a.front_now (file_now ∷ []) ∙ ap (λ (n : ℕ). n + 1) a.count;
       are = with_next how most dropped between h files files_now place file file_now archive was mid err_was err_mid a there ∙ sym (append_assoc a.front_now (file_now ∷ []) (drop (place + 1) files));
@@ -160,7 +160,7 @@ marked_by true how at place files d last other ends more = last refl ∙ sym (ap
 marked_by false how at place files d last other ends more = other refl ∙ sym (ap (λ (t : List FileState). with_mark_at t how) (drop_more files (place + 1) d (more refl)))
 
 -- the load ends at this file
-pub ended_at : (how at : LoadSettings) (most most_now dropped left left_now : ℕ) (h : History) (files files_now : List FileState) (place : ℕ) (file file_now : FileState) (status : Status) (archive later : Carried) (was mid now err_was err_mid err_now : OutputState)
+pub ended_at : (how at : LoadSettings) (most most_now dropped left left_now : ℕ) (h : History) (files files_now : List FileState) (place : ℕ) (file file_now : FileState) (status : Status) (archive later : Represented) (was mid now err_was err_mid err_now : OutputState)
     → (a : IsAt how most dropped left h files files_now place archive was mid err_was err_mid) → drop place files ≡ file ∷ drop (place + 1) files
     → at ≡ with_mark_at (drop (place + 1) files) how → most_now ≡ most → (status ≡ statuses.Done → drop (place + 1) files ≡ [])
     → (bytes : List ℕ) × MayGive file.input.left bytes × IsFileEnd at most_now left left_now a.next bytes file.input.failed file_now.input.failed status file_now.report later mid now err_mid err_now
@@ -193,18 +193,18 @@ none_whole how most dropped left h next [] [] was now err none a = (a.1, a.2)
 none_whole how most dropped left h next [] (y ∷ ys) was now err none a = absurd a
 none_whole how most dropped left h next (x ∷ xs) files_now was now err none a = absurd cc
 
-pub none_loaded : (how : LoadSettings) (most dropped left : ℕ) (h : History) (files files_now : List FileState) (place : ℕ) (archive : Carried) (was now err_was err_now : OutputState)
+pub none_loaded : (how : LoadSettings) (most dropped left : ℕ) (h : History) (files files_now : List FileState) (place : ℕ) (archive : Represented) (was now err_was err_now : OutputState)
     → files ≡ [] → IsAt how most dropped left h files files_now place archive was now err_was err_now → archive h × (now ≡ was) × (err_now ≡ err_was)
 none_loaded how most dropped left h files files_now place archive was now err_was err_now none a =
     let w = none_whole how most dropped left h a.next (take place files) a.front_now was now err_was (ap (λ (t : List FileState). take place t) none ∙ none_taken place) a.whole in
-    (subst archive w.0 a.carried, w.1, a.quiet)
+    (subst archive w.0 a.represented, w.1, a.quiet)
   where
     none_taken : (n : ℕ) → ◌≡◌ {A = List FileState} (take n []) []
     none_taken zero = refl
     none_taken (suc n) = refl
 
 -- the load of a file that isn't the last is done
-pub done_next : (status : Status) (how at : LoadSettings) (most most_now between left : ℕ) (g : History) (bytes : List ℕ) (lost_was lost : Bool) (report : LoadReport) (later : Carried) (mid now err_mid err_now : OutputState)
+pub done_next : (status : Status) (how at : LoadSettings) (most most_now between left : ℕ) (g : History) (bytes : List ℕ) (lost_was lost : Bool) (report : LoadReport) (later : Represented) (mid now err_mid err_now : OutputState)
     → at ≡ record how { mark = None } → most_now ≡ most → status ≡ statuses.Done → IsFileEnd at most_now between left g bytes lost_was lost status report later mid now err_mid err_now
     → IsDone (record how { mark = None }) most between left g bytes lost_was lost report later mid now err_mid err_now
 done_next status how at most most_now between left g bytes lost_was lost report later mid now err_mid err_now unmarked same done e =

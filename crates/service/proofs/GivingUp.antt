@@ -2,15 +2,15 @@
 use Rattle.std.proofs.Common.{◌≡◌, ℕ, ◌+◌, ◌<◌, ◌≤◌, List, [], ◌∷◌, ◌++◌, length, map, take, drop, get_or, Option, None, Result, Ok, Err, IfErr, OnErr, inl, refl, sym, ap, ◌∙◌, subst, append_assoc, arith}
 use Rattle.std.specs.List.{AllByRecursion, slice_get}
 use Rattle.resolve.specs.declared.without_hop.WithoutHop.{WithoutHop}
-use Rattle.service.specs.Outputs.{OutputState, Tells}
-use Rattle.service.proofs.Outputs.{Tells-trans}
+use Rattle.service.specs.Outputs.{OutputState, Reports}
+use Rattle.service.proofs.Outputs.{Reports-trans}
 use Rattle.std.proofs.lemmas.List.{append-nil, map-append, take-append-drop}
 use Rattle.route_model.specs.Admission.{Admitted}
 use Rattle.route_model.specs.Sequence.{Each, joined}
 use Rattle.route_model.proofs.api.Sequences.{joined-append}
 use Rattle.route_model.proofs.api.Admissions.{take_item}
 use Rattle.route_meaning.specs.History.{History}
-use Rattle.mrt_records.specs.Values.{Told, told}
+use Rattle.mrt_records.specs.Values.{Reported, reported}
 use Rattle.mrt_records.specs.Records.{IsRecord}
 use Rattle.mrt_records.specs.Streams.{IsItem, GainsFrames}
 use Rattle.mrt_records.specs.declared.item.Item.{Item}
@@ -25,13 +25,13 @@ use Rattle.resolve.specs.Records.{Gives}
 use Rattle.resolve.specs.declared.fault.ResolveFault.{ResolveFault}
 use Rattle.resolve.specs.declared.fault.ResolveFault.TheVariants as faults
 use Rattle.resolve.specs.Tables.{Feed}
-use Rattle.service.proofs.Dropping.{meant_more, still_wanting}
+use Rattle.service.proofs.Dropping.{meant_more, still_out_of_memory}
 use Rattle.service.specs.Resuming.{MeansFrom, taken_at}
 use Rattle.service.specs.Faults.{of_stop}
-use Rattle.service.specs.Turns.{Turn, Offer, offered, turns_at, turns_for, waits_behind, last_turns}
+use Rattle.service.specs.Turns.{Turn, Offer, offered, turns_at, turns_for, waits_beyond, last_turns}
 use Rattle.service.specs.Refusals.{refusal_line}
 use Rattle.service.specs.Feeds.{IsReason, IsGivenUp, Sums}
-use Rattle.service.specs.inner.Feeding.{of_admit, HasDone, IsBehind, TakesNext, Reads, GivesUp, StopsAmong, StopsWithin}
+use Rattle.service.specs.inner.Feeding.{of_admit, HasDone, IsAfter, TakesNext, Reads, GivesUp, StopsAmong, StopsWithin}
 use Rattle.service.specs.declared.feed_lines.FeedCounts.{FeedCounts}
 use Rattle.service.specs.declared.feeding.Feeding.{Feeding}
 use Rattle.service.specs.declared.faults.FeedStop.{FeedStop}
@@ -39,7 +39,7 @@ use Rattle.service.specs.declared.faults.FeedStop.TheVariants as stops
 use Rattle.service.proofs.Turning.{as_many}
 use Rattle.service.proofs.Following.{turns_snoc}
 use Rattle.service.specs.declared.limits.BatchLimits.{BatchLimits}
-use Rattle.service.specs.Carried.{Carried}
+use Rattle.service.specs.Represented.{Represented}
 use Rattle.archive_calls.specs.declared.refusal.Trouble.TheVariants as troubles
 
 -- a reason stays one where more turns would have followed
@@ -50,34 +50,34 @@ reason_more c h made unmade later stops.IntakeFull r = r
 reason_more c h made unmade later (stops.Trouble trouble) r = tt
 reason_more c h made unmade later stops.Outside r = tt
 
-pub gives_more : (c : ℕ) (h : History) (turns later : List Turn) (archive : Carried) (was now : OutputState) (why : FeedStop) → GivesUp c h turns archive was now why → GivesUp c h (turns ++ later) archive was now why
+pub gives_more : (c : ℕ) (h : History) (turns later : List Turn) (archive : Represented) (was now : OutputState) (why : FeedStop) → GivesUp c h turns archive was now why → GivesUp c h (turns ++ later) archive was now why
 gives_more c h turns later archive was now why g = record {
   made = g.made;
   unmade = g.unmade ++ later;
   parts = ap (λ (t : List Turn). t ++ later) g.parts ∙ append_assoc g.made g.unmade later;
-  carried = g.carried;
+  represented = g.represented;
   reason = reason_more c h g.made g.unmade later why g.reason;
   wrote = g.wrote;
   there = g.there;
 }
 
--- all of these turns were made and written, and memory was wanting for what comes then, or the device failed
-pub gives_all : (c : ℕ) (h : History) (turns : List Turn) (counts : FeedCounts) (archive : Carried) (was now : OutputState) (why : FeedStop) → IsReason c h turns [] why → HasDone c h turns counts archive was now → GivesUp c h turns archive was now why
-gives_all c h turns counts archive was now why reason d = record { made = turns; unmade = []; parts = sym (append-nil turns); carried = d.carried; reason = reason; wrote = d.wrote; there = d.there }
+-- all of these turns were made and written, and memory ran out for what comes then, or the device failed
+pub gives_all : (c : ℕ) (h : History) (turns : List Turn) (counts : FeedCounts) (archive : Represented) (was now : OutputState) (why : FeedStop) → IsReason c h turns [] why → HasDone c h turns counts archive was now → GivesUp c h turns archive was now why
+gives_all c h turns counts archive was now why reason d = record { made = turns; unmade = []; parts = sym (append-nil turns); represented = d.represented; reason = reason; wrote = d.wrote; there = d.there }
 
--- memory was wanting for a record that is refused: its line isn't written
-pub gives_wanting : (t : Result (Unit {0}) FeedStop) (c : ℕ) (h : History) (turns : List Turn) (counts : FeedCounts) (archive : Carried) (was mid now : OutputState)
+-- memory ran out for a record that is refused: its line isn't written
+pub gives_out_of_memory : (t : Result (Unit {0}) FeedStop) (c : ℕ) (h : History) (turns : List Turn) (counts : FeedCounts) (archive : Represented) (was mid now : OutputState)
     → IfErr t (λ why. why ≡ stops.Trouble troubles.OutOfMemory) → OnErr t (now ≡ mid) → HasDone c h turns counts archive was mid → IfErr t (GivesUp c h turns archive was now)
-gives_wanting (Ok done_) c h turns counts archive was mid now wanting untold d = tt
-gives_wanting (Err why) c h turns counts archive was mid now wanting untold d =
-    subst (λ (e : FeedStop). GivesUp c h turns archive was now e) (sym wanting) (subst (λ (o : OutputState). GivesUp c h turns archive was o (stops.Trouble troubles.OutOfMemory)) (sym untold) (gives_all c h turns counts archive was mid (stops.Trouble troubles.OutOfMemory) tt d))
+gives_out_of_memory (Ok done_) c h turns counts archive was mid now lacking unreported d = tt
+gives_out_of_memory (Err why) c h turns counts archive was mid now lacking unreported d =
+    subst (λ (e : FeedStop). GivesUp c h turns archive was now e) (sym lacking) (subst (λ (o : OutputState). GivesUp c h turns archive was o (stops.Trouble troubles.OutOfMemory)) (sym unreported) (gives_all c h turns counts archive was mid (stops.Trouble troubles.OutOfMemory) tt d))
 
 not_outside : (◌≡◌ {A = FeedStop} (stops.Trouble troubles.OutOfMemory) stops.Outside) → ⊥
 not_outside e = absurd cc
 
 pub never_outside : (t : Result (Unit {0}) FeedStop) → IfErr t (λ why. why ≡ stops.Trouble troubles.OutOfMemory) → t ≡ Err stops.Outside → ⊥
-never_outside (Ok done_) wanting e = absurd cc
-never_outside (Err why) wanting e = let is : why ≡ stops.Outside = cc in not_outside (sym wanting ∙ is)
+never_outside (Ok done_) lacking e = absurd cc
+never_outside (Err why) lacking e = let is : why ≡ stops.Outside = cc in not_outside (sym lacking ∙ is)
 
 -- why a batch wasn't taken
 why_not : (b c : ℕ) (h : History) (turns : List Turn) (batch given_ : List Admitted) (at after : History) (e : AdmitError) → b ≡ c → given_ ≡ batch → batch_octets batch ≤ 262144
@@ -95,28 +95,28 @@ why_not b c h turns batch given_ at after admits.IntakeFull one same fit alike r
 why_not b c h turns batch given_ at after (admits.Trouble trouble) one same fit alike r full = tt
 
 -- a batch wasn't taken
-pub gives_refused : (b c : ℕ) (h : History) (turns : List Turn) (batch given_ : List Admitted) (counts : FeedCounts) (archive later : Carried) (was now : OutputState) (e : AdmitError)
+pub gives_refused : (b c : ℕ) (h : History) (turns : List Turn) (batch given_ : List Admitted) (counts : FeedCounts) (archive later : Represented) (was now : OutputState) (e : AdmitError)
     → b ≡ c → given_ ≡ batch → batch_octets batch ≤ 262144
     → ((g : History) → archive g → IsTaken later b given_ (Err e) g)
     → HasDone c h turns counts archive was now → GivesUp c h (turns ++ Offer batch ∷ []) later was now (of_admit e)
 gives_refused b c h turns batch given_ counts archive later was now e one same fit takes d =
-    let w = d.carried in
-    let t = takes w.now w.carried in
+    let w = d.represented in
+    let t = takes w.now w.represented in
     let alike = t.intakes ∙ w.are in
     record {
       made = turns;
       unmade = Offer batch ∷ [];
       parts = refl;
-      carried = record { now = t.after; are = ap (λ (x : History). x.intakes) t.done.0 ∙ alike; carried = t.carried };
+      represented = record { now = t.after; are = ap (λ (x : History). x.intakes) t.done.0 ∙ alike; represented = t.represented };
       reason = why_not b c h turns batch given_ t.at t.after e one same fit alike t.done.1 (λ is. t.full (ap Err is));
       wrote = d.wrote;
       there = d.there;
     }
 
 -- the feed is given up at this record, whose meaning is known
-pub stops_at : (t : Result (Unit {0}) FeedStop) (rule : WithoutHop) (c dropped : ℕ) (limit : BatchLimits) (h : History) (records : List Told) (item : Item) (x : Result (Option Admitted) ResolveFault) (next : Feed) (left : ℕ) (old : Feeding) (archive later : Carried) (was mid now : OutputState)
-    (b : IsBehind rule c dropped limit h records old archive was mid)
-    → TakesNext old.rule old.resolver next old.dropping left (told item) x → (x ≡ Err faults.OutOfMemory → ⊥)
+pub stops_at : (t : Result (Unit {0}) FeedStop) (rule : WithoutHop) (c dropped : ℕ) (limit : BatchLimits) (h : History) (records : List Reported) (item : Item) (x : Result (Option Admitted) ResolveFault) (next : Feed) (left : ℕ) (old : Feeding) (archive later : Represented) (was mid now : OutputState)
+    (b : IsAfter rule c dropped limit h records old archive was mid)
+    → TakesNext old.rule old.resolver next old.dropping left (reported item) x → (x ≡ Err faults.OutOfMemory → ⊥)
     → IfErr t (GivesUp c h (turns_for limit 0 [] b.results ++ turns_at old.limit (length b.results) old.gathered.items x) later was now)
     → IfErr t (StopsAmong rule c dropped limit h records (item ∷ []) later was now)
 stops_at (Ok done_) rule c dropped limit h records item x next left old archive later was mid now b takes enough g = tt
@@ -128,12 +128,12 @@ stops_at (Err why) rule c dropped limit h records item x next left old archive l
       parts = refl;
       results = b.results ++ x ∷ [];
       means =
-          meant_more rule c dropped records b.results (told item) takes.meaning x b.means
+          meant_more rule c dropped records b.results (reported item) takes.meaning x b.means
           (record {
             table = old.resolver.table;
             last = b.known;
-            gives = subst (λ (w : WithoutHop). Gives w c old.resolver.table (told item) takes.meaning) b.ruled (subst (λ (k : ℕ). Gives old.rule k old.resolver.table (told item) takes.meaning) b.fed takes.gives);
-            wanting = λ e. enough (takes.taken_is ∙ still_wanting old.dropping takes.meaning e);
+            gives = subst (λ (w : WithoutHop). Gives w c old.resolver.table (reported item) takes.meaning) b.ruled (subst (λ (k : ℕ). Gives old.rule k old.resolver.table (reported item) takes.meaning) b.fed takes.gives);
+            lacking = λ e. enough (takes.taken_is ∙ still_out_of_memory old.dropping takes.meaning e);
           })
           (takes.taken_is ∙ ap (λ (k : ℕ). taken_at k takes.meaning) b.drops);
       gives_up =
@@ -142,16 +142,16 @@ stops_at (Err why) rule c dropped limit h records item x next left old archive l
     }
 
 -- the feed is given up before this record has a meaning
-pub stops_before : (t : Result (Unit {0}) FeedStop) (rule : WithoutHop) (c dropped : ℕ) (limit : BatchLimits) (h : History) (records : List Told) (item : Item) (old : Feeding) (archive later : Carried) (was mid now : OutputState)
-    (b : IsBehind rule c dropped limit h records old archive was mid)
+pub stops_before : (t : Result (Unit {0}) FeedStop) (rule : WithoutHop) (c dropped : ℕ) (limit : BatchLimits) (h : History) (records : List Reported) (item : Item) (old : Feeding) (archive later : Represented) (was mid now : OutputState)
+    (b : IsAfter rule c dropped limit h records old archive was mid)
     → IfErr t (GivesUp c h (turns_for limit 0 [] b.results) later was now) → IfErr t (StopsAmong rule c dropped limit h records (item ∷ []) later was now)
 stops_before (Ok done_) rule c dropped limit h records item old archive later was mid now b g = tt
 stops_before (Err why) rule c dropped limit h records item old archive later was mid now b g =
-    record { front = []; back = item ∷ []; parts = refl; results = b.results; means = subst (λ (t : List Told). MeansFrom rule c dropped t b.results) (sym (append-nil records)) b.means; gives_up = g }
+    record { front = []; back = item ∷ []; parts = refl; results = b.results; means = subst (λ (t : List Reported). MeansFrom rule c dropped t b.results) (sym (append-nil records)) b.means; gives_up = g }
 
--- the feed is given up at one of the items, behind those that were taken
-pub stops_among : (rule : WithoutHop) (c dropped : ℕ) (limit : BatchLimits) (h : History) (records : List Told) (items : List Item) (i : ℕ) (item : Item) (archive : Carried) (was now : OutputState) (why : FeedStop)
-    → i < length items → item ≡ get_or items i item → StopsAmong rule c dropped limit h (records ++ map told (take i items)) (item ∷ []) archive was now why → StopsAmong rule c dropped limit h records items archive was now why
+-- the feed is given up at one of the items, after those that were taken
+pub stops_among : (rule : WithoutHop) (c dropped : ℕ) (limit : BatchLimits) (h : History) (records : List Reported) (items : List Item) (i : ℕ) (item : Item) (archive : Represented) (was now : OutputState) (why : FeedStop)
+    → i < length items → item ≡ get_or items i item → StopsAmong rule c dropped limit h (records ++ map reported (take i items)) (item ∷ []) archive was now why → StopsAmong rule c dropped limit h records items archive was now why
 stops_among rule c dropped limit h records items i item archive was now why lt is s =
     let first = take i items in
     let rest = drop (i + 1) items in
@@ -163,8 +163,8 @@ stops_among rule c dropped limit h records items i item archive was now why lt i
           ∙ ap (λ (t : List Item). first ++ (t ++ rest)) s.parts ∙ ap (λ (t : List Item). first ++ t) (append_assoc s.front s.back rest) ∙ sym (append_assoc first s.front (s.back ++ rest));
       results = s.results;
       means =
-          subst (λ (t : List Told). MeansFrom rule c dropped t s.results)
-          (append_assoc records (map told first) (map told s.front) ∙ ap (λ (t : List Told). records ++ t) (sym (map-append told first s.front))) s.means;
+          subst (λ (t : List Reported). MeansFrom rule c dropped t s.results)
+          (append_assoc records (map reported first) (map reported s.front) ∙ ap (λ (t : List Reported). records ++ t) (sym (map-append reported first s.front))) s.means;
       gives_up = s.gives_up;
     }
 
@@ -190,8 +190,8 @@ framed_front bytes rest front back g =
     )
 
 -- the feed is given up among the items of the whole records of the octets
-pub stops_within : (rule : WithoutHop) (c dropped : ℕ) (limit : BatchLimits) (h : History) (bytes rest : List ℕ) (before items : List Item) (archive : Carried) (was now : OutputState) (why : FeedStop)
-    → GainsFrames bytes rest [] (before ++ items) → StopsAmong rule c dropped limit h (map told before) items archive was now why → StopsWithin rule c dropped limit h bytes archive was now why
+pub stops_within : (rule : WithoutHop) (c dropped : ℕ) (limit : BatchLimits) (h : History) (bytes rest : List ℕ) (before items : List Item) (archive : Represented) (was now : OutputState) (why : FeedStop)
+    → GainsFrames bytes rest [] (before ++ items) → StopsAmong rule c dropped limit h (map reported before) items archive was now why → StopsWithin rule c dropped limit h bytes archive was now why
 stops_within rule c dropped limit h bytes rest before items archive was now why framed s =
     let f = framed_front bytes rest (before ++ s.front) s.back (subst (λ (t : List Item). GainsFrames bytes rest [] t) (ap (λ (t : List Item). before ++ t) s.parts ∙ sym (append_assoc before s.front s.back)) framed) in
     record {
@@ -201,21 +201,21 @@ stops_within rule c dropped limit h bytes rest before items archive was now why 
       items = before ++ s.front;
       framed = f.3;
       results = s.results;
-      means = subst (λ (t : List Told). MeansFrom rule c dropped t s.results) (sym (map-append told before s.front)) s.means;
-      gives_up = gives_more c h (turns_for limit 0 [] s.results) (last_turns (waits_behind limit [] s.results)) archive was now why s.gives_up;
+      means = subst (λ (t : List Reported). MeansFrom rule c dropped t s.results) (sym (map-append reported before s.front)) s.means;
+      gives_up = gives_more c h (turns_for limit 0 [] s.results) (last_turns (waits_beyond limit [] s.results)) archive was now why s.gives_up;
     }
 
--- what comes behind is left too
-pub within_more : (rule : WithoutHop) (c dropped : ℕ) (limit : BatchLimits) (h : History) (bytes more : List ℕ) (archive : Carried) (was now : OutputState) (why : FeedStop) → StopsWithin rule c dropped limit h bytes archive was now why → StopsWithin rule c dropped limit h (bytes ++ more) archive was now why
+-- what comes after is left too
+pub within_more : (rule : WithoutHop) (c dropped : ℕ) (limit : BatchLimits) (h : History) (bytes more : List ℕ) (archive : Represented) (was now : OutputState) (why : FeedStop) → StopsWithin rule c dropped limit h bytes archive was now why → StopsWithin rule c dropped limit h (bytes ++ more) archive was now why
 within_more rule c dropped limit h bytes more archive was now why s =
     record { seen = s.seen; later = s.later ++ more; parts = ap (λ (t : List ℕ). t ++ more) s.parts ∙ append_assoc s.seen s.later more; items = s.items; framed = s.framed; results = s.results; means = s.means; gives_up = s.gives_up }
 
--- the feed is given up behind all that was read, and nothing of it is untold
-pub stops_behind : (rule : WithoutHop) (c dropped : ℕ) (limit : BatchLimits) (h : History) (bytes rest : List ℕ) (feeding : Feeding) (archive : Carried) (was now : OutputState) (why : FeedStop)
+-- the feed is given up after all that was read, and nothing of it is unreported
+pub stops_after : (rule : WithoutHop) (c dropped : ℕ) (limit : BatchLimits) (h : History) (bytes rest : List ℕ) (feeding : Feeding) (archive : Represented) (was now : OutputState) (why : FeedStop)
     → ((made : List Turn) → IsReason c h made [] why) → Reads rule c dropped limit h bytes rest feeding archive was now → StopsWithin rule c dropped limit h bytes archive was now why
-stops_behind rule c dropped limit h bytes rest feeding archive was now why reason r =
+stops_after rule c dropped limit h bytes rest feeding archive was now why reason r =
     let f = framed_front bytes rest r.items [] (subst (λ (t : List Item). GainsFrames bytes rest [] t) (sym (append-nil r.items)) r.framed) in
-    let b = r.behind in
+    let b = r.beyond in
     let turns = turns_for limit 0 [] b.results in
     record {
       seen = f.0;
@@ -225,16 +225,16 @@ stops_behind rule c dropped limit h bytes rest feeding archive was now why reaso
       framed = f.3;
       results = b.results;
       means = b.means;
-      gives_up = gives_more c h turns (last_turns (waits_behind limit [] b.results)) archive was now why (gives_all c h turns feeding.counts archive was now why (reason turns) b.done);
+      gives_up = gives_more c h turns (last_turns (waits_beyond limit [] b.results)) archive was now why (gives_all c h turns feeding.counts archive was now why (reason turns) b.done);
     }
 
--- the feed is given up while its last batch is offered, or its end told
-pub stops_last : (rule : WithoutHop) (c dropped : ℕ) (limit : BatchLimits) (h : History) (bytes rest : List ℕ) (feeding : Feeding) (archive later : Carried) (was mid now : OutputState) (why : FeedStop)
+-- the feed is given up while its last batch is offered, or its end reported
+pub stops_last : (rule : WithoutHop) (c dropped : ℕ) (limit : BatchLimits) (h : History) (bytes rest : List ℕ) (feeding : Feeding) (archive later : Represented) (was mid now : OutputState) (why : FeedStop)
     (r : Reads rule c dropped limit h bytes rest feeding archive was mid)
-    → GivesUp c h (turns_for limit 0 [] r.behind.results ++ last_turns feeding.gathered.items) later was now why → StopsWithin rule c dropped limit h bytes later was now why
+    → GivesUp c h (turns_for limit 0 [] r.beyond.results ++ last_turns feeding.gathered.items) later was now why → StopsWithin rule c dropped limit h bytes later was now why
 stops_last rule c dropped limit h bytes rest feeding archive later was mid now why r g =
     let f = framed_front bytes rest r.items [] (subst (λ (t : List Item). GainsFrames bytes rest [] t) (sym (append-nil r.items)) r.framed) in
-    let b = r.behind in
+    let b = r.beyond in
     record {
       seen = f.0;
       later = f.1;
@@ -247,23 +247,23 @@ stops_last rule c dropped limit h bytes rest feeding archive later was mid now w
     }
 
 -- the feed is given up, and the refusal was written
-pub given_up_told : (rule : WithoutHop) (c dropped : ℕ) (limit : BatchLimits) (h : History) (bytes : List ℕ) (sums : Sums) (archive : Carried) (was mid now : OutputState) (why : FeedStop)
-    → StopsWithin rule c dropped limit h bytes archive was mid why → Tells mid now (refusal_line (of_stop why)) → sums.counts ≡ None → IsGivenUp rule c dropped limit h bytes why sums archive was now
-given_up_told rule c dropped limit h bytes sums archive was mid now why s line none =
+pub given_up_reported : (rule : WithoutHop) (c dropped : ℕ) (limit : BatchLimits) (h : History) (bytes : List ℕ) (sums : Sums) (archive : Represented) (was mid now : OutputState) (why : FeedStop)
+    → StopsWithin rule c dropped limit h bytes archive was mid why → Reports mid now (refusal_line (of_stop why)) → sums.counts ≡ None → IsGivenUp rule c dropped limit h bytes why sums archive was now
+given_up_reported rule c dropped limit h bytes sums archive was mid now why s line none =
     let g = s.gives_up in
     record {
       seen = s.seen;
       later = s.later;
       parts = s.parts;
-      records = map told s.items;
+      records = map reported s.items;
       results = s.results;
-      feed = record { items = s.items; framed = s.framed; told_are = refl; means = s.means };
+      feed = record { items = s.items; framed = s.framed; reported_are = refl; means = s.means };
       made = g.made;
       unmade = g.unmade;
       turns = g.parts;
-      carried = g.carried;
+      represented = g.represented;
       reason = g.reason;
-      wrote = Tells-trans was mid now _ (refusal_line (of_stop why)) g.wrote line;
+      wrote = Reports-trans was mid now _ (refusal_line (of_stop why)) g.wrote line;
       uncounted = none;
       there = g.there;
     }

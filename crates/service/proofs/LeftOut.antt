@@ -1,13 +1,13 @@
 -- How many entries of a feed's records are left out.
 use Rattle.std.proofs.Common.{◌≡◌, ℕ, ◌+◌, List, [], ◌∷◌, ◌++◌, length, Option, Result, arith}
 use Rattle.route_model.specs.Admission.{Admitted}
-use Rattle.mrt_records.specs.Values.{Told}
+use Rattle.mrt_records.specs.Values.{Reported}
 use Rattle.resolve.specs.Records.{counted, left_out}
 use Rattle.resolve.specs.declared.fault.ResolveFault.{ResolveFault}
 use Rattle.service.specs.FeedTexts.{capped}
 use Rattle.service.specs.Feeds.{entries_lost}
 
-lost_snoc : (records : List Told) (meanings : List (Result (Option Admitted) ResolveFault)) (r : Told) (m : Result (Option Admitted) ResolveFault) → length meanings ≡ length records
+lost_snoc : (records : List Reported) (meanings : List (Result (Option Admitted) ResolveFault)) (r : Reported) (m : Result (Option Admitted) ResolveFault) → length meanings ≡ length records
     → entries_lost (records ++ r ∷ []) (meanings ++ m ∷ []) ≡ entries_lost records meanings + left_out r m
 lost_snoc [] [] r m same = omega arith
 lost_snoc [] (y ∷ meanings) r m same = absurd (omega (arith, same))
@@ -17,7 +17,7 @@ lost_snoc (x ∷ records) (y ∷ meanings) r m same =
     omega (arith, ih)
 
 -- with one more record
-pub lost_more : (records : List Told) (meanings : List (Result (Option Admitted) ResolveFault)) (r : Told) (m : Result (Option Admitted) ResolveFault) (was now : ℕ) → length meanings ≡ length records
+pub lost_more : (records : List Reported) (meanings : List (Result (Option Admitted) ResolveFault)) (r : Reported) (m : Result (Option Admitted) ResolveFault) (was now : ℕ) → length meanings ≡ length records
     → was ≡ capped (entries_lost records meanings) → now ≡ counted was (left_out r m) → now ≡ capped (entries_lost (records ++ r ∷ []) (meanings ++ m ∷ []))
 lost_more records meanings r m was now same before more =
     let sum = lost_snoc records meanings r m same in

@@ -32,7 +32,7 @@ Lacks-colon text octets h i within e =
 -- where a text is cut at its first colon, the address and the port are the two sides
 pub listen_parts : (text : List ℕ) (r : Option (Bor (List ℕ) × Bor (List ℕ))) (listen : SocketAddrV4) (h : IsListenText text listen) → IsSplitOnceResult 58 text r → MatchOption r ⊥ (λ x. (x.0.now ≡ h.address) × (x.1.now ≡ decimal (v4_port listen)))
 listen_parts text r listen h is =
-    split_after 58 text h.address (decimal (v4_port listen)) r is (omega arith) (h.spelled ∙ append_assoc h.address (codes ":") (decimal (v4_port listen))) (Lacks-colon h.address _ h.is_address)
+    split_after 58 text h.address (decimal (v4_port listen)) r is (omega arith) (h.encoded ∙ append_assoc h.address (codes ":") (decimal (v4_port listen))) (Lacks-colon h.address _ h.is_address)
 
 -- a text without a colon is no such one
 pub listen_none : (text : List ℕ) (listen : SocketAddrV4) → IsSplitOnceResult 58 text None → IsListenText text listen → ⊥

@@ -59,14 +59,14 @@ same_prefix a b p q e h k = one_prefix b p q (subst (λ (x : Text). IsPrefixText
 
 one_spot : (words : List Text) (s t : Spot) → AreSpotWords words s → AreSpotWords words t → s ≡ t
 one_spot words s t h k =
-    let behind = sym h.are ∙ k.are in
-    let collector : h.collector ≡ k.collector = first_of _ _ _ _ behind in
-    let behind-2 = rest_of _ _ _ _ behind in
-    let address : h.address ≡ k.address = first_of _ _ _ _ behind-2 in
-    let behind-3 = rest_of _ _ _ _ behind-2 in
-    let as_number : h.as_number ≡ k.as_number = first_of _ _ _ _ behind-3 in
-    let behind-4 = rest_of _ _ _ _ behind-3 in
-    let prefix : h.prefix ≡ k.prefix = first_of _ _ _ _ behind-4 in
+    let beyond = sym h.are ∙ k.are in
+    let collector : h.collector ≡ k.collector = first_of _ _ _ _ beyond in
+    let beyond-2 = rest_of _ _ _ _ beyond in
+    let address : h.address ≡ k.address = first_of _ _ _ _ beyond-2 in
+    let beyond-3 = rest_of _ _ _ _ beyond-2 in
+    let as_number : h.as_number ≡ k.as_number = first_of _ _ _ _ beyond-3 in
+    let beyond-4 = rest_of _ _ _ _ beyond-3 in
+    let prefix : h.prefix ≡ k.prefix = first_of _ _ _ _ beyond-4 in
     let peers = same_peer _ _ _ _ _ _ s.peer t.peer collector address as_number h.peer_is k.peer_is in
     let prefixes = same_prefix _ _ s.prefix t.prefix prefix h.prefix_is k.prefix_is in
     λ i. record { peer = peers i; prefix = prefixes i }
@@ -83,28 +83,28 @@ one_after words (Some s) (Some t) h k = ap Some (same_spot h.0 k.0 s t (rest_of 
 same_after : (xs ys : List Text) (a b : Option Spot) → xs ≡ ys → AreAfterWords xs a → AreAfterWords ys b → a ≡ b
 same_after xs ys a b e h k = one_after ys a b (subst (λ (x : List Text). AreAfterWords x a) e h) k
 
--- ---- which rows are wanted
+-- ---- which rows are asked for
 
 one_route : (words : List Text) (s t : Spot) → AreRouteWords words s → AreRouteWords words t → s ≡ t
 one_route words s t h k = same_spot h.named k.named s t (rest_of _ _ _ _ (sym h.are ∙ k.are)) h.spot_is k.spot_is
 
 one_by_prefix : (words : List Text) (p q : IpPrefix) (a b : Option Spot) → ArePrefixWords words p a → ArePrefixWords words q b → (p ≡ q) × (a ≡ b)
 one_by_prefix words p q a b h k =
-    let behind = rest_of _ _ _ _ (sym h.are ∙ k.are) in
-    (same_prefix _ _ p q (first_of _ _ _ _ behind) h.prefix_is k.prefix_is, same_after _ _ a b (rest_of _ _ _ _ behind) h.after_is k.after_is)
+    let beyond = rest_of _ _ _ _ (sym h.are ∙ k.are) in
+    (same_prefix _ _ p q (first_of _ _ _ _ beyond) h.prefix_is k.prefix_is, same_after _ _ a b (rest_of _ _ _ _ beyond) h.after_is k.after_is)
 
 one_covering : (words : List Text) (p q : Address) (a b : Option Spot) → AreCoverWords words p a → AreCoverWords words q b → (p ≡ q) × (a ≡ b)
 one_covering words p q a b h k =
-    let behind = rest_of _ _ _ _ (sym h.are ∙ k.are) in
-    let text : h.text ≡ k.text = first_of _ _ _ _ behind in
-    (IsAddressText_unique k.text p q (subst (λ (x : Text). IsAddressText x p) text h.address_is) k.address_is, same_after _ _ a b (rest_of _ _ _ _ behind) h.after_is k.after_is)
+    let beyond = rest_of _ _ _ _ (sym h.are ∙ k.are) in
+    let text : h.text ≡ k.text = first_of _ _ _ _ beyond in
+    (IsAddressText_unique k.text p q (subst (λ (x : Text). IsAddressText x p) text h.address_is) k.address_is, same_after _ _ a b (rest_of _ _ _ _ beyond) h.after_is k.after_is)
 
 one_table : (words : List Text) (p q : Peer) (a b : Option Spot) → ArePeerTableWords words p a → ArePeerTableWords words q b → (p ≡ q) × (a ≡ b)
 one_table words p q a b h k =
-    let behind = rest_of _ _ _ _ (sym h.are ∙ k.are) in
-    let behind-2 = rest_of _ _ _ _ behind in
-    let behind-3 = rest_of _ _ _ _ behind-2 in
-    (same_peer _ _ _ _ _ _ p q (first_of _ _ _ _ behind) (first_of _ _ _ _ behind-2) (first_of _ _ _ _ behind-3) h.peer_is k.peer_is, same_after _ _ a b (rest_of _ _ _ _ behind-3) h.after_is k.after_is)
+    let beyond = rest_of _ _ _ _ (sym h.are ∙ k.are) in
+    let beyond-2 = rest_of _ _ _ _ beyond in
+    let beyond-3 = rest_of _ _ _ _ beyond-2 in
+    (same_peer _ _ _ _ _ _ p q (first_of _ _ _ _ beyond) (first_of _ _ _ _ beyond-2) (first_of _ _ _ _ beyond-3) h.peer_is k.peer_is, same_after _ _ a b (rest_of _ _ _ _ beyond-3) h.after_is k.after_is)
 
 one_all : (words : List Text) (a b : Option Spot) → AreAllWords words a → AreAllWords words b → a ≡ b
 one_all words a b h k = same_after _ _ a b (rest_of _ _ _ _ (sym h.are ∙ k.are)) h.after_is k.after_is
@@ -142,11 +142,11 @@ one_select words All All a b h k = (refl, one_all words a b h k)
 
 one_rows : (words : List Text) (q r : RowsQuestion) → AreRowsWords words q → AreRowsWords words r → q ≡ r
 one_rows words q r h k =
-    let behind = rest_of _ _ _ _ (sym h.are ∙ k.are) in
-    let moment : h.moment ≡ k.moment = first_of _ _ _ _ behind in
-    let wanted : h.wanted ≡ k.wanted = rest_of _ _ _ _ behind in
+    let beyond = rest_of _ _ _ _ (sym h.are ∙ k.are) in
+    let moment : h.moment ≡ k.moment = first_of _ _ _ _ beyond in
+    let asked : h.asked ≡ k.asked = rest_of _ _ _ _ beyond in
     let moments = same_moment _ _ q.moment r.moment moment h.moment_is k.moment_is in
-    let selects = one_select k.wanted q.select r.select q.after r.after (subst (λ (x : List Text). AreSelectWords x q.select q.after) wanted h.select_is) k.select_is in
+    let selects = one_select k.asked q.select r.select q.after r.after (subst (λ (x : List Text). AreSelectWords x q.select q.after) asked h.select_is) k.select_is in
     let select = selects.0 in
     let after = selects.1 in
     λ i. record { moment = moments i; select = select i; after = after i }
@@ -166,20 +166,20 @@ one_skip words a b h k =
 
 one_events : (words : List Text) (q r : EventsQuestion) → AreEventsWords words q → AreEventsWords words r → q ≡ r
 one_events words q r h k =
-    let behind = rest_of _ _ _ _ (sym h.are ∙ k.are) in
-    let from : h.from ≡ k.from = first_of _ _ _ _ behind in
-    let behind-2 = rest_of _ _ _ _ behind in
-    let to : h.to ≡ k.to = first_of _ _ _ _ behind-2 in
-    let behind-3 = rest_of _ _ _ _ behind-2 in
-    let behind-4 = rest_of _ _ _ _ behind-3 in
-    let behind-5 = rest_of _ _ _ _ behind-4 in
-    let behind-6 = rest_of _ _ _ _ behind-5 in
-    let behind-7 : h.behind ≡ k.behind = rest_of _ _ _ _ behind-6 in
+    let beyond = rest_of _ _ _ _ (sym h.are ∙ k.are) in
+    let from : h.from ≡ k.from = first_of _ _ _ _ beyond in
+    let beyond-2 = rest_of _ _ _ _ beyond in
+    let to : h.to ≡ k.to = first_of _ _ _ _ beyond-2 in
+    let beyond-3 = rest_of _ _ _ _ beyond-2 in
+    let beyond-4 = rest_of _ _ _ _ beyond-3 in
+    let beyond-5 = rest_of _ _ _ _ beyond-4 in
+    let beyond-6 = rest_of _ _ _ _ beyond-5 in
+    let beyond-7 : h.beyond ≡ k.beyond = rest_of _ _ _ _ beyond-6 in
     let froms = same_moment _ _ q.from r.from from h.from_is k.from_is in
     let tos = same_moment _ _ q.to r.to to h.to_is k.to_is in
-    let peers = same_peer _ _ _ _ _ _ q.peer r.peer (first_of _ _ _ _ behind-3) (first_of _ _ _ _ behind-4) (first_of _ _ _ _ behind-5) h.peer_is k.peer_is in
-    let prefixes = same_prefix _ _ q.prefix r.prefix (first_of _ _ _ _ behind-6) h.prefix_is k.prefix_is in
-    let skips = one_skip k.behind q.skip r.skip (subst (λ (x : List Text). AreSkipWords x q.skip) behind-7 h.skip_is) k.skip_is in
+    let peers = same_peer _ _ _ _ _ _ q.peer r.peer (first_of _ _ _ _ beyond-3) (first_of _ _ _ _ beyond-4) (first_of _ _ _ _ beyond-5) h.peer_is k.peer_is in
+    let prefixes = same_prefix _ _ q.prefix r.prefix (first_of _ _ _ _ beyond-6) h.prefix_is k.prefix_is in
+    let skips = one_skip k.beyond q.skip r.skip (subst (λ (x : List Text). AreSkipWords x q.skip) beyond-7 h.skip_is) k.skip_is in
     λ i. record { from = froms i; to = tos i; peer = peers i; prefix = prefixes i; skip = skips i }
 
 -- ---- requests

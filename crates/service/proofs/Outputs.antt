@@ -4,19 +4,19 @@ use Rattle.std.proofs.lemmas.List.{nil_from_length}
 use Rattle.std.proofs.lemmas.Bool.Decides.{Decides-eqb}
 use Rattle.std.specs.Io.KnownBytes.{Appends, Keeps}
 use Rattle.std.proofs.KnownBytes.{Appends-nil, Appends-trans}
-use Rattle.service.specs.Outputs.{OutputState, Tells}
-use Rattle.service.specs.Refusals.{TellsFailure}
+use Rattle.service.specs.Outputs.{OutputState, Reports}
+use Rattle.service.specs.Refusals.{ReportsFailure}
 
 pub is_nil : (octets : List ℕ) (r : Bool) → r ≡ eqb (length octets) 0 → r ≡ true → octets ≡ []
 is_nil octets r e t = nil_from_length octets ((Decides-eqb (length octets) 0).0 (sym e ∙ t))
 
 -- nothing is written
-pub Tells-nil : (was : OutputState) → Tells was was []
-Tells-nil was = record { front = []; rest = []; parts = refl; wrote = Appends-nil was.held; whole = λ e. refl; stays = λ e. (e, refl) }
+pub Reports-nil : (was : OutputState) → Reports was was []
+Reports-nil was = record { front = []; rest = []; parts = refl; wrote = Appends-nil was.held; whole = λ e. refl; stays = λ e. (e, refl) }
 
--- nothing is written behind a write that failed
-pub Tells-none : (was : OutputState) (text : List ℕ) → was.failed ≡ true → Tells was was text
-Tells-none was text failed = record { front = []; rest = text; parts = refl; wrote = Appends-nil was.held; whole = λ sound. absurd cc; stays = λ e. (e, refl) }
+-- nothing is written after a write that failed
+pub Reports-none : (was : OutputState) (text : List ℕ) → was.failed ≡ true → Reports was was text
+Reports-none was text failed = record { front = []; rest = text; parts = refl; wrote = Appends-nil was.held; whole = λ sound. absurd cc; stays = λ e. (e, refl) }
 
 -- of the octets some are written, and these are left
 pub record Put (octets rest : List ℕ) (was now : Option (List ℕ)) : Type 0 where
@@ -34,16 +34,16 @@ put_more octets rest left count was mid now is more p = subst (λ (t : List ℕ)
   wrote = Appends-trans was mid now p.done (take count rest) p.wrote more;
 })
 
--- known octets that stay are those with none behind them
+-- known octets that stay are those with none after them
 pub kept_none : (old new : Option (List ℕ)) → Keeps old new → Appends old new []
 kept_none None new kept = tt
 kept_none (Some xs) None kept = absurd kept
 kept_none (Some xs) (Some ys) kept = kept ∙ sym (append-nil xs)
 
-pub put_all : (octets rest : List ℕ) (was now : OutputState) → was.failed ≡ false → rest ≡ [] → Put octets rest was.held now.held → Tells was now octets
+pub put_all : (octets rest : List ℕ) (was now : OutputState) → was.failed ≡ false → rest ≡ [] → Put octets rest was.held now.held → Reports was now octets
 put_all octets rest was now sound none p = record { front = p.done; rest = rest; parts = p.parts; wrote = p.wrote; whole = λ e. none; stays = λ failed. absurd cc }
 
-pub put_some : (octets rest : List ℕ) (was mid now : OutputState) → was.failed ≡ false → now.failed ≡ true → Put octets rest was.held mid.held → Appends mid.held now.held [] → Tells was now octets
+pub put_some : (octets rest : List ℕ) (was mid now : OutputState) → was.failed ≡ false → now.failed ≡ true → Put octets rest was.held mid.held → Appends mid.held now.held [] → Reports was now octets
 put_some octets rest was mid now sound failed p none = record {
   front = p.done;
   rest = rest;
@@ -54,7 +54,7 @@ put_some octets rest was mid now sound failed p none = record {
 }
 
 -- a text, and then another
-trans_by : (failed : Bool) (was mid now : OutputState) (a b : List ℕ) → mid.failed ≡ failed → Tells was mid a → Tells mid now b → Tells was now (a ++ b)
+trans_by : (failed : Bool) (was mid now : OutputState) (a b : List ℕ) → mid.failed ≡ failed → Reports was mid a → Reports mid now b → Reports was now (a ++ b)
 trans_by true was mid now a b e p q =
     let stayed = q.stays e in
     record {
@@ -76,13 +76,13 @@ trans_by false was mid now a b e p q =
       stays = λ f. let t = (p.stays f).0 in absurd cc;
     }
 
-pub Tells-trans : (was mid now : OutputState) (a b : List ℕ) → Tells was mid a → Tells mid now b → Tells was now (a ++ b)
-Tells-trans was mid now a b p q = trans_by mid.failed was mid now a b refl p q
+pub Reports-trans : (was mid now : OutputState) (a b : List ℕ) → Reports was mid a → Reports mid now b → Reports was now (a ++ b)
+Reports-trans was mid now a b p q = trans_by mid.failed was mid now a b refl p q
 
 -- standard error stays as it was where standard output hasn't failed
-pub still_failed : (failed err_failed : Bool) (err_was err_now : OutputState) → failed ≡ false → err_was.failed ≡ err_failed → TellsFailure failed err_was err_now → err_now.failed ≡ err_failed
+pub still_failed : (failed err_failed : Bool) (err_was err_now : OutputState) → failed ≡ false → err_was.failed ≡ err_failed → ReportsFailure failed err_was err_now → err_now.failed ≡ err_failed
 still_failed failed err_failed err_was err_now sound e t = ap (λ (s : OutputState). s.failed) (t.quiet sound) ∙ e
 
 -- a text, and then what is buffered
-pub Tells-flushed : (was mid now : OutputState) (text : List ℕ) → Tells was mid text → Tells mid now [] → Tells was now text
-Tells-flushed was mid now text p q = subst (Tells was now) (append-nil text) (Tells-trans was mid now text [] p q)
+pub Reports-flushed : (was mid now : OutputState) (text : List ℕ) → Reports was mid text → Reports mid now [] → Reports was now text
+Reports-flushed was mid now text p q = subst (Reports was now) (append-nil text) (Reports-trans was mid now text [] p q)

@@ -17,7 +17,7 @@ all_done Done e = refl
 all_done Refused e = absurd cc
 all_done Failed e = absurd cc
 
--- and so has one behind which all was written out with that exit status
+-- and so has one after which all was written out with that exit status
 pub done_where_0 : (ended : Status) (code : ℕ) (was now err_was err_now : OutputState) → IsWrittenOut ended code was now err_was err_now → code ≡ 0 → ended ≡ Done
 done_where_0 ended code was now err_was err_now h none = by_failed now.failed refl
   where

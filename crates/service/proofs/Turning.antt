@@ -1,8 +1,8 @@
 -- Turns that are made one after another.
 use Rattle.std.proofs.Common.{◌≡◌, ℕ, ◌+◌, ◌-◌, ◌<◌, List, [], ◌∷◌, ◌++◌, length, zero, suc, get_or, Some, None, Option, Result, Ok, Err, Bool, true, false, refl, sym, ap, ◌∙◌, subst, append_assoc, length-append, arith}
 use Rattle.std.specs.List.{flat_map, slice_get}
-use Rattle.service.specs.Outputs.{OutputState, Tells}
-use Rattle.service.proofs.Outputs.{Tells-trans}
+use Rattle.service.specs.Outputs.{OutputState, Reports}
+use Rattle.service.proofs.Outputs.{Reports-trans}
 use Rattle.std.proofs.lemmas.List.{append-nil}
 use Rattle.route_model.specs.Admission.{Admitted, admission_octets}
 use Rattle.route_meaning.specs.Holds.{admitted_time}
@@ -16,7 +16,7 @@ use Rattle.resolve.specs.declared.fault.ResolveFault.{ResolveFault}
 use Rattle.service.specs.Faults.{of_record}
 use Rattle.service.specs.FeedLines.{admitted_text, batch_line, late_line}
 use Rattle.service.specs.Refusals.{refused_record_line}
-use Rattle.service.specs.Turns.{Turn, Offer, Refuse, offered, refusals, admissions_of, is_crowded, is_full, offer_where, wait_unless, waiting_with, turns_at, waits_after, turns_for, waits_behind, last_turns, feed_turns}
+use Rattle.service.specs.Turns.{Turn, Offer, Refuse, offered, refusals, admissions_of, is_crowded, is_full, offer_where, wait_unless, waiting_with, turns_at, waits_after, turns_for, waits_beyond, last_turns, feed_turns}
 use Rattle.service.specs.FeedTexts.{capped, intake_in, admitted_of, batch_text, turns_text}
 use Rattle.service.specs.inner.Feeding.{HasDone}
 use Rattle.service.specs.inner.Taking.{IsTaken}
@@ -24,7 +24,7 @@ use Rattle.std.proofs.lemmas.Option.{slice_get_within}
 use Rattle.service.specs.declared.feed_lines.FeedCounts.{FeedCounts}
 use Rattle.interleaving_core.proofs.api.Joining.{timely_both, lates_both, with_both, with_none, given_both}
 use Rattle.service.specs.declared.limits.BatchLimits.{BatchLimits}
-use Rattle.service.specs.Carried.{Carried, HasIntakes}
+use Rattle.service.specs.Represented.{Represented, HasIntakes}
 
 pub offered_both : (xs ys : List Turn) → offered (xs ++ ys) ≡ offered xs ++ offered ys
 offered_both [] ys = refl
@@ -63,7 +63,7 @@ capped_more a b = omega arith
 pub reply_text : (i : Intake) (c : ℕ) (batch : List Admitted) (reply : Reply) → IsReply i c batch reply → admitted_text reply ≡ batch_text i batch
 reply_text i c batch reply r = λ k. batch_line (r.from k) (r.to k) (r.offered k) ++ flat_map late_line (r.late k)
 
--- so many of a batch are counted as admitted
+-- this many of a batch are counted as admitted
 pub kept_count : (i : Intake) (c : ℕ) (batch : List Admitted) (reply : Reply) → IsReply i c batch reply → reply.receipt.to - reply.receipt.from ≡ length (admitted_of i batch)
 kept_count i c batch reply r = let to = r.to in let from = r.from in omega (arith, to, from)
 
@@ -75,10 +75,10 @@ one_intake : (i j : Intake) → Some i ≡ Some j → i ≡ j
 one_intake i j e = cc
 
 -- a batch more
-pub done_offer : (b c : ℕ) (h : History) (turns : List Turn) (batch given_ : List Admitted) (old new : FeedCounts) (reply : Reply) (archive later : Carried) (was mid now : OutputState)
+pub done_offer : (b c : ℕ) (h : History) (turns : List Turn) (batch given_ : List Admitted) (old new : FeedCounts) (reply : Reply) (archive later : Represented) (was mid now : OutputState)
     → b ≡ c → given_ ≡ batch
     → ((g : History) → archive g → IsTaken later b given_ (Ok reply) g)
-    → Tells mid now (admitted_text reply)
+    → Reports mid now (admitted_text reply)
     → new.admitted ≡ capped (old.admitted + (reply.receipt.to - reply.receipt.from)) → new.late ≡ capped (old.late + length reply.late.items) → new.refused ≡ old.refused
     → HasDone c h turns old archive was mid → HasDone c h (turns ++ Offer batch ∷ []) new later was now
 done_offer b c h turns batch given_ old new reply archive later was mid now one same takes wrote admitted late refused d =
@@ -86,8 +86,8 @@ done_offer b c h turns batch given_ old new reply archive later was mid now one 
     let i = intake_in h.intakes c in
     let j = with_batch (offered turns) i in
     let all : offered (turns ++ Offer batch ∷ []) ≡ offered turns ++ batch = offered_both turns (Offer batch ∷ []) ∙ ap (λ (t : List Admitted). offered turns ++ t) (append-nil batch) in
-    let w = d.carried in
-    let t = takes w.now w.carried in
+    let w = d.represented in
+    let t = takes w.now w.represented in
     let alike : t.at.intakes ≡ g.intakes = t.intakes ∙ w.are in
     let in_all : slice_get g.intakes b ≡ Some t.done.intake = ap (λ (is : List Intake). slice_get is b) (sym alike) ∙ t.done.here in
     let within : c < length h.intakes = let n = slice_get_within g.intakes b t.done.intake in_all in let m = as_many c (with_batch (offered turns)) h.intakes in omega (arith, n, m, one) in
@@ -97,14 +97,14 @@ done_offer b c h turns batch given_ old new reply archive later was mid now one 
     let kept = kept_count j b batch reply r in
     let gone = ap length r.late in
     record {
-      carried = record {
+      represented = record {
         now = t.after;
         are = ap (λ (x : History). x.intakes) t.done.after ∙ given_alike b c batch given_ t.at.intakes g.intakes one same alike ∙ ap (λ (x : History). x.intakes) (given_both h c (offered turns) batch ∙ ap (given h c) (sym all));
-        carried = t.carried;
+        represented = t.represented;
       };
       wrote =
-          subst (λ (t : List ℕ). Tells was now t) (ap (λ (t : List ℕ). turns_text i turns ++ t) (reply_text j b batch reply r ∙ sym (append-nil (batch_text j batch))) ∙ sym (turns_text_both i turns (Offer batch ∷ [])))
-          (Tells-trans was mid now (turns_text i turns) (admitted_text reply) d.wrote wrote);
+          subst (λ (t : List ℕ). Reports was now t) (ap (λ (t : List ℕ). turns_text i turns ++ t) (reply_text j b batch reply r ∙ sym (append-nil (batch_text j batch))) ∙ sym (turns_text_both i turns (Offer batch ∷ [])))
+          (Reports-trans was mid now (turns_text i turns) (admitted_text reply) d.wrote wrote);
       admitted =
           let sum : length (admitted_of i (offered (turns ++ Offer batch ∷ []))) ≡ length (admitted_of i (offered turns)) + length (admitted_of j batch) =
           ap (λ (t : List Admitted). length (admitted_of i t)) all ∙ ap length (timely_both admitted_time i.mark (offered turns) batch) ∙ length-append _ _ in
@@ -120,13 +120,13 @@ done_offer b c h turns batch given_ old new reply archive later was mid now one 
     }
 
 -- nothing more is done
-pub done_no_more : (c : ℕ) (h : History) (turns : List Turn) (counts : FeedCounts) (archive : Carried) (was now : OutputState)
+pub done_no_more : (c : ℕ) (h : History) (turns : List Turn) (counts : FeedCounts) (archive : Represented) (was now : OutputState)
     → HasDone c h turns counts archive was now → HasDone c h (turns ++ []) counts archive was now
 done_no_more c h turns counts archive was now d = subst (λ (t : List Turn). HasDone c h t counts archive was now) (sym (append-nil turns)) d
 
 -- a record more is refused
-pub done_refuse : (c : ℕ) (h : History) (turns : List Turn) (old new : FeedCounts) (archive : Carried) (was mid now : OutputState) (place n : ℕ) (fault : ResolveFault)
-    → place ≡ capped n → Tells mid now (refused_record_line (of_record fault) place)
+pub done_refuse : (c : ℕ) (h : History) (turns : List Turn) (old new : FeedCounts) (archive : Represented) (was mid now : OutputState) (place n : ℕ) (fault : ResolveFault)
+    → place ≡ capped n → Reports mid now (refused_record_line (of_record fault) place)
     → new.admitted ≡ old.admitted → new.late ≡ old.late → new.refused ≡ capped (old.refused + 1)
     → HasDone c h turns old archive was mid → HasDone c h (turns ++ Refuse n fault ∷ []) new archive was now
 done_refuse c h turns old new archive was mid now place n fault is wrote admitted late refused d =
@@ -134,10 +134,10 @@ done_refuse c h turns old new archive was mid now place n fault is wrote admitte
     let line = refused_record_line (of_record fault) (capped n) in
     let same : offered (turns ++ Refuse n fault ∷ []) ≡ offered turns = offered_both turns (Refuse n fault ∷ []) ∙ append-nil (offered turns) in
     record {
-      carried = subst (λ (t : List Admitted). HasIntakes (given h c t).intakes archive) (sym same) d.carried;
+      represented = subst (λ (t : List Admitted). HasIntakes (given h c t).intakes archive) (sym same) d.represented;
       wrote =
-          subst (λ (t : List ℕ). Tells was now t) (ap (λ (t : List ℕ). turns_text i turns ++ t) (ap (refused_record_line (of_record fault)) is ∙ sym (append-nil line)) ∙ sym (turns_text_both i turns (Refuse n fault ∷ [])))
-          (Tells-trans was mid now (turns_text i turns) (refused_record_line (of_record fault) place) d.wrote wrote);
+          subst (λ (t : List ℕ). Reports was now t) (ap (λ (t : List ℕ). turns_text i turns ++ t) (ap (refused_record_line (of_record fault)) is ∙ sym (append-nil line)) ∙ sym (turns_text_both i turns (Refuse n fault ∷ [])))
+          (Reports-trans was mid now (turns_text i turns) (refused_record_line (of_record fault) place) d.wrote wrote);
       admitted = admitted ∙ d.admitted ∙ ap (λ (t : List Admitted). capped (length (admitted_of i t))) (sym same);
       late = late ∙ d.late ∙ ap (λ (t : List Admitted). capped (length (lates admitted_time i.mark [] 0 t))) (sym same);
       refused = let sum = refusals_both turns (Refuse n fault ∷ []) in let before = d.refused in omega (arith, refused, sum, before);
@@ -165,14 +165,14 @@ admission_turns limit place waiting a =
 
 -- what is offered and what waits still are what waited and what came
 pub offered_turns : (limit : BatchLimits) (place : ℕ) (waiting : List Admitted) (results : List (Result (Option Admitted) ResolveFault))
-    → offered (turns_for limit place waiting results) ++ waits_behind limit waiting results ≡ waiting ++ admissions_of results
+    → offered (turns_for limit place waiting results) ++ waits_beyond limit waiting results ≡ waiting ++ admissions_of results
 offered_turns limit place waiting [] = sym (append-nil waiting)
 offered_turns limit place waiting (Ok (Some a) ∷ results) =
     let r : Result (Option Admitted) ResolveFault = Ok (Some a) in
     let next = waits_after limit waiting r in
     let here = turns_at limit place waiting r in
-    ap (λ (t : List Admitted). t ++ waits_behind limit next results) (offered_both here (turns_for limit (suc place) next results))
-    ∙ append_assoc (offered here) (offered (turns_for limit (suc place) next results)) (waits_behind limit next results)
+    ap (λ (t : List Admitted). t ++ waits_beyond limit next results) (offered_both here (turns_for limit (suc place) next results))
+    ∙ append_assoc (offered here) (offered (turns_for limit (suc place) next results)) (waits_beyond limit next results)
     ∙ ap (λ (t : List Admitted). offered here ++ t) (offered_turns limit (suc place) next results)
     ∙ sym (append_assoc (offered here) next (admissions_of results))
     ∙ ap (λ (t : List Admitted). t ++ admissions_of results) (admission_turns limit place waiting a)
@@ -187,6 +187,6 @@ offered_last (a ∷ waiting) = append-nil (a ∷ waiting)
 -- a feed offers its admissions, in their order
 pub offered_feed : (limit : BatchLimits) (results : List (Result (Option Admitted) ResolveFault)) → offered (feed_turns limit results) ≡ admissions_of results
 offered_feed limit results =
-    offered_both (turns_for limit 0 [] results) (last_turns (waits_behind limit [] results))
-    ∙ ap (λ (t : List Admitted). offered (turns_for limit 0 [] results) ++ t) (offered_last (waits_behind limit [] results))
+    offered_both (turns_for limit 0 [] results) (last_turns (waits_beyond limit [] results))
+    ∙ ap (λ (t : List Admitted). offered (turns_for limit 0 [] results) ++ t) (offered_last (waits_beyond limit [] results))
     ∙ offered_turns limit 0 [] results

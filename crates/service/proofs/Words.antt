@@ -20,15 +20,15 @@ word_at (w ∷ ws) (suc k) d (x ∷ xs) e h =
     let within : k < length xs = omega (arith, h) in
     word_at ws k d xs rest within
 
--- the words behind a place
-pub words_behind : (ws : Words) (k : ℕ) (xs : List (List ℕ)) → texts ws ≡ xs → texts (drop k ws) ≡ drop k xs
-words_behind ws zero xs e = e
-words_behind [] (suc k) [] e = refl
-words_behind [] (suc k) (x ∷ xs) e = absurd cc
-words_behind (w ∷ ws) (suc k) [] e = absurd cc
-words_behind (w ∷ ws) (suc k) (x ∷ xs) e =
+-- the words after a place
+pub words_after : (ws : Words) (k : ℕ) (xs : List (List ℕ)) → texts ws ≡ xs → texts (drop k ws) ≡ drop k xs
+words_after ws zero xs e = e
+words_after [] (suc k) [] e = refl
+words_after [] (suc k) (x ∷ xs) e = absurd cc
+words_after (w ∷ ws) (suc k) [] e = absurd cc
+words_after (w ∷ ws) (suc k) (x ∷ xs) e =
     let rest : texts ws ≡ xs = cc in
-    words_behind ws k xs rest
+    words_after ws k xs rest
 
 -- the first of two lists that are the same, and the others
 pub first_of : (a b : List ℕ) (xs ys : List (List ℕ)) → ◌≡◌ {A = List (List ℕ)} (a ∷ xs) (b ∷ ys) → a ≡ b
@@ -42,17 +42,17 @@ pub nothing : (word : List ℕ) (named : List (List ℕ)) → ◌≡◌ {A = Lis
 nothing word named e = absurd cc
 
 -- the second word
-pub second_word : (words behind rest : Words) (first other : List ℕ) (text : Bor (List ℕ)) (xs : List (List ℕ))
-    → texts words ≡ first ∷ texts behind → behind ≡ text ∷ rest → texts words ≡ first ∷ other ∷ xs → text.now ≡ other
-second_word words behind rest first other text xs is parts are =
-    let e : texts behind ≡ text.now ∷ texts rest = ap texts parts in
+pub second_word : (words beyond rest : Words) (first other : List ℕ) (text : Bor (List ℕ)) (xs : List (List ℕ))
+    → texts words ≡ first ∷ texts beyond → beyond ≡ text ∷ rest → texts words ≡ first ∷ other ∷ xs → text.now ≡ other
+second_word words beyond rest first other text xs is parts are =
+    let e : texts beyond ≡ text.now ∷ texts rest = ap texts parts in
     cc
 
--- what stands behind the second word
-pub behind_second : (words behind rest : Words) (first other : List ℕ) (text : Bor (List ℕ)) (xs : List (List ℕ))
-    → texts words ≡ first ∷ texts behind → behind ≡ text ∷ rest → texts words ≡ first ∷ other ∷ xs → texts rest ≡ xs
-behind_second words behind rest first other text xs is parts are =
-    let e : texts behind ≡ text.now ∷ texts rest = ap texts parts in
+-- what stands after the second word
+pub after_second : (words beyond rest : Words) (first other : List ℕ) (text : Bor (List ℕ)) (xs : List (List ℕ))
+    → texts words ≡ first ∷ texts beyond → beyond ≡ text ∷ rest → texts words ≡ first ∷ other ∷ xs → texts rest ≡ xs
+after_second words beyond rest first other text xs is parts are =
+    let e : texts beyond ≡ text.now ∷ texts rest = ap texts parts in
     cc
 
 -- two words that weren't found to differ are the same

@@ -12,7 +12,7 @@ use Rattle.route_meaning.specs.declared.question.EventsAnswer.{EventsAnswer}
 use Rattle.interleaving_core.specs.declared.query.Query.{Query}
 use Rattle.interleaving_core.specs.declared.query.Query.TheVariants.{Rows, Events}
 use Rattle.interleaving_core.specs.declared.query.Answer.{Answer}
-use Rattle.interleaving_core.specs.declared.query.Answer.TheVariants.{Rows as RowsTold, Events as EventsTold}
+use Rattle.interleaving_core.specs.declared.query.Answer.TheVariants.{Rows as RowsReported, Events as EventsReported}
 use Rattle.route_text.specs.AddressText.{address_text}
 use Rattle.route_text.specs.PrefixText.{prefix_text}
 use Rattle.route_text.specs.RouteText.{route_text}
@@ -59,7 +59,7 @@ change_line time (Down peer) = timed_text (codes "D") time ++ line_end
 abbrev pub event_line : Event → List ℕ
 event_line e = change_line e.time e.change
 
--- how many events there are, where no more follow; else how many the next question skips, of which this one skipped so many
+-- how many events there are, where no more follow; else how many the next question skips, of which this one skipped this many
 abbrev pub events_ending : ℕ → List Event → Bool → List ℕ
 events_ending skip events false = codes "E|" ++ decimal (length events) ++ line_end
 events_ending skip events true = codes "M|" ++ decimal (skip + length events) ++ line_end
@@ -73,10 +73,10 @@ abbrev pub skip_of : Query → ℕ
 skip_of (Rows q) = 0
 skip_of (Events q) = q.skip
 
--- the lines of an answer to a question that skips so many events
+-- the lines of an answer to a question that skips this many events
 abbrev pub reply_text : ℕ → Answer → List ℕ
-reply_text skip (RowsTold a) = answer_text a
-reply_text skip (EventsTold a) = events_text skip a
+reply_text skip (RowsReported a) = answer_text a
+reply_text skip (EventsReported a) = events_text skip a
 
 -- a letter, a bar, a number and the end of the line
 abbrev pub number_line : List ℕ → ℕ → List ℕ

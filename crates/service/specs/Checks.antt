@@ -5,32 +5,32 @@ use Rattle.archive_calls.specs.Does.{IsUnchecked, applied_changes}
 use Rattle.archive_calls.specs.declared.refusal.Trouble.{Trouble}
 use Rattle.service.specs.FeedLines.{numbers_line}
 use Rattle.service.specs.Faults.{of_trouble}
-use Rattle.service.specs.Outputs.{OutputState, Tells}
-use Rattle.service.specs.Refusals.{TellsError, TellsFailure}
+use Rattle.service.specs.Outputs.{OutputState, Reports}
+use Rattle.service.specs.Refusals.{ReportsError, ReportsFailure}
 use Rattle.service.specs.declared.status.Status.{Status}
 use Rattle.service.specs.declared.status.Status.TheVariants as statuses
 
--- so many changes are applied, and this is the settled watermark
+-- this many changes are applied, and this is the settled watermark
 abbrev pub checked_line : ℕ → ℕ → List ℕ
 checked_line changes settled = numbers_line (codes "ok") (changes ∷ settled ∷ [])
 
 -- how many changes of the history are applied was printed, and its settled watermark
-abbrev pub TellsCount : History → OutputState → OutputState → Type 0
-TellsCount h was now = Tells was now (checked_line (applied_changes h) (settled h))
+abbrev pub ReportsCount : History → OutputState → OutputState → Type 0
+ReportsCount h was now = Reports was now (checked_line (applied_changes h) (settled h))
 
 -- standard error has why the changes aren't counted, and standard output nothing
-pub record TellsUnchecked (h : History) (was now err_was err_now : OutputState) : Type 0 where
+pub record ReportsUnchecked (h : History) (was now err_was err_now : OutputState) : Type 0 where
   pub trouble : Trouble
   pub why : IsUnchecked h trouble
   pub unwritten : now ≡ was
-  pub told : TellsError (of_trouble trouble) err_was err_now
+  pub reported : ReportsError (of_trouble trouble) err_was err_now
 
 -- How a check ended, by its status. `Failed` is answered where not all could be written: where that was so before, nothing is done; else a
 -- front of what should have been written was, and standard error says where a write to standard output failed.
 abbrev pub IsCheckEnd : History → Status → OutputState → OutputState → OutputState → OutputState → Type 0
-IsCheckEnd h statuses.Done was now err_was err_now = TellsCount h was now × (now.failed ≡ false) × (err_now.failed ≡ false) × (err_now ≡ err_was)
-IsCheckEnd h statuses.Refused was now err_was err_now = TellsUnchecked h was now err_was err_now × (now.failed ≡ false) × (err_now.failed ≡ false)
+IsCheckEnd h statuses.Done was now err_was err_now = ReportsCount h was now × (now.failed ≡ false) × (err_now.failed ≡ false) × (err_now ≡ err_was)
+IsCheckEnd h statuses.Refused was now err_was err_now = ReportsUnchecked h was now err_was err_now × (now.failed ≡ false) × (err_now.failed ≡ false)
 IsCheckEnd h statuses.Failed was now err_was err_now =
     ((now.failed ≡ true) ⊎ (err_now.failed ≡ true))
     × (((was.failed ≡ true) × (now ≡ was) × (err_now ≡ err_was))
-    ⊎ ((was.failed ≡ false) × ((TellsCount h was now × TellsFailure now.failed err_was err_now) ⊎ TellsUnchecked h was now err_was err_now)))
+    ⊎ ((was.failed ≡ false) × ((ReportsCount h was now × ReportsFailure now.failed err_was err_now) ⊎ ReportsUnchecked h was now err_was err_now)))

@@ -81,7 +81,7 @@ peer_rule = record (new_rule (codes "peer")) {
   action = Some Set;
 }
 
--- WORD..: one word at least, and all that stand behind it
+-- WORD..: one word at least, and all that stand after it
 abbrev pub words_rule : Rule
 words_rule = record (new_rule (codes "WORD")) {
   action = Some Append;
@@ -174,7 +174,7 @@ program = with_subcommand (with_subcommand (with_subcommand archive_program dump
 abbrev pub spaced : List (List ℕ) → List ℕ
 spaced words = join_by (λ word. word) (codes " ") words
 
--- The number behind an option, which is within the limits: the one that its text writes, where the text is taken.
+-- The number after an option, which is within the limits: the one that its text writes, where the text is taken.
 pub record IsNumber (least most : ℕ) (text : Option (List ℕ)) (n : ℕ) : Type 0 where
   pub low : least ≤ n
   pub high : n ≤ most

@@ -3,7 +3,7 @@ use Rattle.std.specs.Prelude.{◌≡◌, ◌<◌, ◌⊎◌, ◌+◌, ◌*◌, �
 use Rattle.service.specs.declared.feed_lines.FeedCounts.{FeedCounts}
 use Rattle.service.specs.declared.doubts.TheConstants.{DAY}
 
--- nothing of a feed of these counts is kept, of whose admissions so many were dropped since they were kept before: records of it were skipped, and no other one has an admission
+-- nothing of a feed of these counts is kept, of whose admissions this many were dropped since they were kept before: records of it were skipped, and no other one has an admission
 abbrev pub IsSkipped : FeedCounts → ℕ → Type 0
 IsSkipped c dropped = (0 < c.skipped) × (c.admitted ≡ 0) × (dropped ≡ 0)
 
@@ -16,7 +16,7 @@ abbrev pub IsFar : Option ℕ → ℕ → Type 0
 IsFar None present = ⊥
 IsFar (Some mark) present = present + DAY < mark
 
--- A load is held back: it is strict, and its feed, of which so many admissions were dropped, came to its end with counts that are in doubt, or its mark is in doubt.
+-- A load is held back: it is strict, and its feed, of which this many admissions were dropped, came to its end with counts that are in doubt, or its mark is in doubt.
 abbrev pub IsHeld : Bool → Option ℕ → Option FeedCounts → ℕ → ℕ → Type 0
 IsHeld strict mark None dropped present = ⊥
 IsHeld strict mark (Some counts) dropped present = (strict ≡ true) × (IsDoubtful counts dropped ⊎ IsFar mark present)

@@ -10,7 +10,7 @@ use Rattle.service.specs.Refusals.{line_end}
 abbrev pub numbers_line : List ℕ → List ℕ → List ℕ
 numbers_line letter numbers = letter ++ flat_map (λ n. codes "|" ++ decimal n) numbers ++ line_end
 
--- a batch: the first number that its admissions got and the one behind their last, and how many records were offered for the collector until now
+-- a batch: the first number that its admissions got and the one after their last, and how many records were offered for the collector until now
 abbrev pub batch_line : ℕ → ℕ → ℕ → List ℕ
 batch_line from to offered = numbers_line (codes "B") (from ∷ to ∷ offered ∷ [])
 

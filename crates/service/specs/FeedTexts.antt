@@ -5,7 +5,7 @@ use Rattle.route_model.specs.Admission.{Admitted}
 use Rattle.route_meaning.specs.Holds.{admitted_time}
 use Rattle.route_meaning.specs.History.{Intake}
 use Rattle.sequencer.specs.Late.{timely, lates}
-use Rattle.mrt_records.specs.Values.{Told, Read, Skipped, Malformed}
+use Rattle.mrt_records.specs.Values.{Reported, Read, Skipped, Malformed}
 use Rattle.interleaving_core.specs.Steps.{with_batch}
 use Rattle.resolve.specs.declared.fault.ResolveFault.{ResolveFault}
 use Rattle.service.specs.Faults.{of_cut, of_record}
@@ -41,14 +41,14 @@ turns_text i (Offer batch ∷ turns) = batch_text i batch ++ turns_text (with_ba
 turns_text i (Refuse place fault ∷ turns) = refused_record_line (of_record fault) (capped place) ++ turns_text i turns
 
 -- how many records are skipped
-abbrev pub skips : List Told → ℕ
+abbrev pub skips : List Reported → ℕ
 skips [] = 0
 skips (Skipped kind subtype ∷ records) = suc (skips records)
 skips (Read reading ∷ records) = skips records
 skips (Malformed kind subtype ∷ records) = skips records
 
 -- what became of these records, of which these turns were made
-abbrev pub counts_of : Intake → List Told → List Turn → FeedCounts
+abbrev pub counts_of : Intake → List Reported → List Turn → FeedCounts
 counts_of i records turns = record {
   records = capped (length records);
   admitted = capped (length (admitted_of i (offered turns)));
@@ -63,6 +63,6 @@ cut_line None records = []
 cut_line (Some why) records = refused_record_line (of_cut why) records
 
 -- all that a feed writes: its turns, why it was cut if it was, and its counts
-abbrev pub feed_text : Intake → BatchLimits → List Told → List (Result (Option Admitted) ResolveFault) → Option FeedCut → List ℕ
+abbrev pub feed_text : Intake → BatchLimits → List Reported → List (Result (Option Admitted) ResolveFault) → Option FeedCut → List ℕ
 feed_text i limit records results cut =
     turns_text i (feed_turns limit results) ++ (cut_line cut (capped (length records)) ++ counts_line (counts_of i records (feed_turns limit results)))

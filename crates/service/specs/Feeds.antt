@@ -1,12 +1,12 @@
--- What a feed of MRT records is, and what an archive carries once it took it in.
+-- What a feed of MRT records is, and what an archive represents once it took it in.
 use Rattle.std.specs.Prelude.{◌≡◌, ◌⊎◌, ◌+◌, Bool, true, false, ℕ, map, length, List, [], ◌∷◌, ◌++◌, Option, Some, None, Result}
 use Rattle.resolve.specs.declared.without_hop.WithoutHop.{WithoutHop}
-use Rattle.service.specs.Carried.{Carried, HasIntakes}
-use Rattle.service.specs.Resuming.{MeansFrom, left_behind}
-use Rattle.service.specs.Outputs.{OutputState, Tells}
+use Rattle.service.specs.Represented.{Represented, HasIntakes}
+use Rattle.service.specs.Resuming.{MeansFrom, left_over}
+use Rattle.service.specs.Outputs.{OutputState, Reports}
 use Rattle.route_model.specs.Admission.{Admitted}
 use Rattle.route_meaning.specs.History.{History}
-use Rattle.mrt_records.specs.Values.{Told, told}
+use Rattle.mrt_records.specs.Values.{Reported, reported}
 use Rattle.mrt_records.specs.Records.{Over}
 use Rattle.mrt_records.specs.Streams.{GainsFrames}
 use Rattle.mrt_records.specs.declared.item.Item.{Item}
@@ -32,11 +32,11 @@ use Rattle.service.specs.declared.intake.End.TheVariants as ends
 abbrev pub limits_for : FeedSettings → ℕ → BatchLimits
 limits_for how most = record { records = how.limit; octets = most }
 
--- the octets are these whole records, of which this is taken where so many of their first admissions are dropped, and then a rest at whose front no whole record stands
-pub record IsFeed (rule : WithoutHop) (c dropped : ℕ) (bytes rest : List ℕ) (records : List Told) (results : List (Result (Option Admitted) ResolveFault)) : Type 0 where
+-- the octets are these whole records, of which this is taken where this many of their first admissions are dropped, and then a rest at whose front no whole record stands
+pub record IsFeed (rule : WithoutHop) (c dropped : ℕ) (bytes rest : List ℕ) (records : List Reported) (results : List (Result (Option Admitted) ResolveFault)) : Type 0 where
   pub items : List Item
   pub framed : GainsFrames bytes rest [] items
-  pub told_are : map told items ≡ records
+  pub reported_are : map reported items ≡ records
   pub means : MeansFrom rule c dropped records results
 
 -- The octets that a reader gives in all, where they are known before, as those of memory are. Of a file nothing is known: any octets may be those that it gave.
@@ -44,14 +44,14 @@ abbrev pub MayGive : Option (List ℕ) → List ℕ → Type 0
 MayGive None bytes = Unit {0}
 MayGive (Some all) bytes = bytes ≡ all
 
--- why a feed is cut short that has this rest behind its whole records: it ends inside a record, or the next record's Length is above the limit
+-- why a feed is cut short that has this rest after its whole records: it ends inside a record, or the next record's Length is above the limit
 abbrev pub IsCut : List ℕ → Option FeedCut → Type 0
 IsCut rest None = rest ≡ []
 IsCut rest (Some cuts.Truncated) = (rest ≡ [] → ⊥) × (Over rest → ⊥)
 IsCut rest (Some cuts.TooLong) = Over rest
 
 -- how many entries of these records are left out, where they mean this
-abbrev pub entries_lost : List Told → List (Result (Option Admitted) ResolveFault) → ℕ
+abbrev pub entries_lost : List Reported → List (Result (Option Admitted) ResolveFault) → ℕ
 entries_lost [] meanings = 0
 entries_lost (r ∷ records) [] = 0
 entries_lost (r ∷ records) (m ∷ meanings) = left_out r m + entries_lost records meanings
@@ -65,22 +65,22 @@ pub record Sums : Type 0 where
   pub mark : ℕ
 
 -- that of a feed of these records, which mean this and of which this was taken, that came to its end
-pub record IsSummed (c dropped : ℕ) (limit : BatchLimits) (h : History) (records : List Told) (results meanings : List (Result (Option Admitted) ResolveFault)) (sums : Sums) : Type 0 where
+pub record IsSummed (c dropped : ℕ) (limit : BatchLimits) (h : History) (records : List Reported) (results meanings : List (Result (Option Admitted) ResolveFault)) (sums : Sums) : Type 0 where
   pub counted : sums.counts ≡ Some (counts_of (intake_in h.intakes c) records (feed_turns limit results))
   pub lost : sums.left_out ≡ capped (entries_lost records meanings)
-  pub drops : sums.left ≡ left_behind dropped meanings
+  pub drops : sums.left ≡ left_over dropped meanings
   pub marks : sums.mark ≡ (intake_in (given h c (admissions_of results)).intakes c).mark
 
--- The archive carried h; now it carries all that the feed gives too, wherever it is applied, and what the feed writes was written. It
+-- The archive represented h; now it represents all that the feed gives too, wherever it is applied, and what the feed writes was written. It
 -- was cut short for this, or it wasn't. Where the feed gives anything, there is the collector.
-pub record IsFed (rule : WithoutHop) (c dropped : ℕ) (limit : BatchLimits) (h : History) (bytes : List ℕ) (cut : Option FeedCut) (sums : Sums) (archive : Carried) (was now : OutputState) : Type 0 where
+pub record IsFed (rule : WithoutHop) (c dropped : ℕ) (limit : BatchLimits) (h : History) (bytes : List ℕ) (cut : Option FeedCut) (sums : Sums) (archive : Represented) (was now : OutputState) : Type 0 where
   pub rest : List ℕ
-  pub records : List Told
+  pub records : List Reported
   pub results : List (Result (Option Admitted) ResolveFault)
   pub feed : IsFeed rule c dropped bytes rest records results
   pub cut_is : IsCut rest cut
-  pub carried : HasIntakes (given h c (admissions_of results)).intakes archive
-  pub wrote : Tells was now (feed_text (intake_in h.intakes c) limit records results cut)
+  pub represented : HasIntakes (given h c (admissions_of results)).intakes archive
+  pub wrote : Reports was now (feed_text (intake_in h.intakes c) limit records results cut)
   pub summed : IsSummed c dropped limit h records results feed.means.meanings sums
   pub there : (admissions_of results ≡ [] → ⊥) → IsCollector h c
 
@@ -94,36 +94,36 @@ IsReason c h made unmade stops.IntakeFull = IsCollector h c × (past : History) 
 IsReason c h made unmade (stops.Trouble trouble) = Unit {0}
 IsReason c h made unmade stops.Outside = Unit {0}
 
--- The archive carried h; now it carries what the first turns for the first records of the feed offer too, wherever it is applied. These
+-- The archive represented h; now it represents what the first turns for the first records of the feed offer too, wherever it is applied. These
 -- turns were written and then the refusal.
-pub record IsGivenUp (rule : WithoutHop) (c dropped : ℕ) (limit : BatchLimits) (h : History) (bytes : List ℕ) (why : FeedStop) (sums : Sums) (archive : Carried) (was now : OutputState) : Type 0 where
+pub record IsGivenUp (rule : WithoutHop) (c dropped : ℕ) (limit : BatchLimits) (h : History) (bytes : List ℕ) (why : FeedStop) (sums : Sums) (archive : Represented) (was now : OutputState) : Type 0 where
   pub seen : List ℕ
   pub later : List ℕ
   pub parts : bytes ≡ seen ++ later
-  pub records : List Told
+  pub records : List Reported
   pub results : List (Result (Option Admitted) ResolveFault)
   pub feed : IsFeed rule c dropped seen [] records results
   pub made : List Turn
   pub unmade : List Turn
   pub turns : feed_turns limit results ≡ made ++ unmade
-  pub carried : HasIntakes (given h c (offered made)).intakes archive
+  pub represented : HasIntakes (given h c (offered made)).intakes archive
   pub reason : IsReason c h made unmade why
-  pub wrote : Tells was now (turns_text (intake_in h.intakes c) made ++ refusal_line (of_stop why))
+  pub wrote : Reports was now (turns_text (intake_in h.intakes c) made ++ refusal_line (of_stop why))
   pub uncounted : sums.counts ≡ None
   pub there : (offered made ≡ [] → ⊥) → IsCollector h c
 
 -- how a feed of these octets ended: all of it was read, or it was cut short, or it was given up for this
-abbrev pub IsEnd : WithoutHop → ℕ → ℕ → BatchLimits → History → List ℕ → End → Sums → Carried → OutputState → OutputState → Type 0
+abbrev pub IsEnd : WithoutHop → ℕ → ℕ → BatchLimits → History → List ℕ → End → Sums → Represented → OutputState → OutputState → Type 0
 IsEnd rule c dropped limit h bytes ends.Well sums archive was now = IsFed rule c dropped limit h bytes None sums archive was now
 IsEnd rule c dropped limit h bytes ends.Cut sums archive was now = (why : FeedCut) × IsFed rule c dropped limit h bytes (Some why) sums archive was now
 IsEnd rule c dropped limit h bytes (ends.Refused why) sums archive was now = IsGivenUp rule c dropped limit h bytes why sums archive was now
 
 -- how a feed that ended so is answered: where not all of its lines were written, it is given up for the writer
-abbrev pub as_told : Bool → End → End
-as_told true end = ends.Refused stops.Outside
-as_told false end = end
+abbrev pub as_reported : Bool → End → End
+as_reported true end = ends.Refused stops.Outside
+as_reported false end = end
 
--- What a feed that ended so says of its reader, which had failed before it or not and has behind it or not, and of its writer: it was
+-- What a feed that ended so says of its reader, which had failed before it or not and has after it or not, and of its writer: it was
 -- given up for what is outside only where one of them has failed, and where it ended otherwise, no read of it failed.
 pub record FitsFailures (end : End) (lost_was lost failed : Bool) : Type 0 where
   pub outside : end ≡ ends.Refused stops.Outside → (lost ≡ true) ⊎ (failed ≡ true)

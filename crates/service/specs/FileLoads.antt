@@ -1,7 +1,7 @@
--- What an archive carries once files are loaded, one after another.
+-- What an archive represents once files are loaded, one after another.
 use Rattle.std.specs.Prelude.{◌≡◌, ◌⊎◌, ◌↔◌, ◌-◌, ℕ, Bool, true, false, IsTrue, List, [], ◌∷◌, ◌++◌, Option, None}
 use Rattle.route_meaning.specs.History.{History}
-use Rattle.service.specs.Carried.{Carried}
+use Rattle.service.specs.Represented.{Represented}
 use Rattle.service.specs.Doubts.{IsHeld}
 use Rattle.service.specs.Feeds.{MayGive, Sums, limits_for}
 use Rattle.service.specs.FeedTexts.{intake_in}
@@ -46,7 +46,7 @@ pub record IsReported (how : LoadSettings) (dropped : ℕ) (sums : Sums) (report
 
 -- How the load of a file of these octets ended, `dropped` of whose first admissions are dropped: as one that isn't strict; but where it is held back, no mark
 -- was set, and it is refused. `left` admissions are dropped of the next file.
-pub record IsFileEnd (how : LoadSettings) (most dropped left : ℕ) (h : History) (bytes : List ℕ) (lost_was lost : Bool) (status : Status) (report : LoadReport) (archive : Carried) (was now err_was err_now : OutputState) : Type 0 where
+pub record IsFileEnd (how : LoadSettings) (most dropped left : ℕ) (h : History) (bytes : List ℕ) (lost_was lost : Bool) (status : Status) (report : LoadReport) (archive : Represented) (was now err_was err_now : OutputState) : Type 0 where
   pub sums : Sums
   pub drops : left ≡ sums.left
   pub reported : IsReported how dropped sums report
@@ -54,7 +54,7 @@ pub record IsFileEnd (how : LoadSettings) (most dropped left : ℕ) (h : History
   pub status_is : status ≡ refused_if report.is_held plain
   pub ended : IsLoadEnd how.feed.rule how.feed.collector dropped (limits_for how.feed most) (mark_unless report.is_held how.mark) h bytes sums lost_was lost plain archive was now err_was err_now
 
--- The file was loaded without a mark, and its load was done: the archive carries `next`, and `left` admissions are dropped of the file after it.
+-- The file was loaded without a mark, and its load was done: the archive represents `next`, and `left` admissions are dropped of the file after it.
 pub record IsWhole (how : LoadSettings) (most dropped left : ℕ) (h next : History) (file file_now : FileState) (was now err : OutputState) : Type 0 where
   pub bytes : List ℕ
   pub given : MayGive file.input.left bytes
@@ -70,7 +70,7 @@ AreWhole how most dropped left h next (file ∷ files) [] was now err = ⊥
 
 -- How a load of files ended: each file of a front was loaded without a mark, and its load was done; then the load of the next one, with the mark where it is the last, ended so.
 -- Where that isn't done, those after it are as they were.
-pub record IsLoadedTo (how : LoadSettings) (most dropped : ℕ) (h : History) (files files_now : List FileState) (status : Status) (archive : Carried) (was now err_was err_now : OutputState) : Type 0 where
+pub record IsLoadedTo (how : LoadSettings) (most dropped : ℕ) (h : History) (files files_now : List FileState) (status : Status) (archive : Represented) (was now err_was err_now : OutputState) : Type 0 where
   pub front : List FileState
   pub front_now : List FileState
   pub file : FileState
@@ -89,7 +89,7 @@ pub record IsLoadedTo (how : LoadSettings) (most dropped : ℕ) (h : History) (f
   pub last : status ≡ statuses.Done → later ≡ []
 
 -- How a load of files ended. Where it goes on, as many of their admissions are dropped, one file after another, as were offered of the collector. Of no files it does nothing.
-abbrev pub AreLoaded : LoadSettings → ℕ → History → List FileState → List FileState → Status → Carried → OutputState → OutputState → OutputState → OutputState → Type 0
+abbrev pub AreLoaded : LoadSettings → ℕ → History → List FileState → List FileState → Status → Represented → OutputState → OutputState → OutputState → OutputState → Type 0
 AreLoaded how most h files files_now status archive was now err_was err_now =
     ((files ≡ []) × (status ≡ statuses.Done) × archive h × (now ≡ was) × (err_now ≡ err_was))
     ⊎ IsLoadedTo how most (dropped_where how.resume (intake_in h.intakes how.feed.collector)) h files files_now status archive was now err_was err_now

@@ -8,7 +8,7 @@ pub mod Faults
 pub mod Outputs
 pub mod Turns
 pub mod FeedTexts
-pub mod Carried
+pub mod Represented
 pub mod Resuming
 pub mod Feeds
 pub mod Loads
@@ -18,6 +18,6 @@ pub mod Listening
 pub mod CommandLines
 pub mod RequestLaws
 pub mod Running
-pub mod Telling
+pub mod Reporting
 pub mod Checks
 pub mod inner

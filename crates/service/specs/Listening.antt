@@ -5,13 +5,13 @@ use Rattle.std.specs.Net.Grammar.{IsDotted}
 use Rattle.std.specs.Net.Socket.{v4_ip, v4_port}
 use Rattle.std.specs.Net.Text.{socket_v4_text}
 use Rattle.std.specs.declared.net.socket_addr.SocketAddrV4.{SocketAddrV4}
-use Rattle.service.specs.Outputs.{OutputState, Tells}
-use Rattle.service.specs.Refusals.{TellsFailure, line_end}
+use Rattle.service.specs.Outputs.{OutputState, Reports}
+use Rattle.service.specs.Refusals.{ReportsFailure, line_end}
 
 -- the text is an IPv4 address in four numbers, a colon, and the number of a port, 0 to 65535
 pub record IsListenText (text : List ℕ) (listen : SocketAddrV4) : Type 0 where
   pub address : List ℕ
-  pub spelled : text ≡ address ++ codes ":" ++ decimal (v4_port listen)
+  pub encoded : text ≡ address ++ codes ":" ++ decimal (v4_port listen)
   pub is_address : IsDotted address (ipv4_octets (v4_ip listen))
   pub is_port : v4_port listen ≤ 65535
 
@@ -45,8 +45,8 @@ abbrev pub listening_line : SocketAddrV4 → Option SocketAddrV4 → List ℕ
 listening_line bound http = codes "listening " ++ socket_v4_text bound ++ http_text http ++ line_end
 
 -- That line was written, and what was buffered was written out. The exit status is 0 where all could be written, and else 1.
-pub record IsListeningTold (bound : SocketAddrV4) (http : Option SocketAddrV4) (code : ℕ) (was now err_was err_now : OutputState) : Type 0 where
-  pub wrote : Tells was now (listening_line bound http)
+pub record IsListeningReported (bound : SocketAddrV4) (http : Option SocketAddrV4) (code : ℕ) (was now err_was err_now : OutputState) : Type 0 where
+  pub wrote : Reports was now (listening_line bound http)
   pub sound : now.failed ≡ false → code ≡ 0
   pub failed : now.failed ≡ true → code ≡ 1
-  pub told : TellsFailure now.failed err_was err_now
+  pub reported : ReportsFailure now.failed err_was err_now

@@ -12,8 +12,8 @@ pub record InputState : Type 0 where
   pub left : Option (List ℕ)
   pub failed : Bool
 
--- The text was written; where a write failed, a front of it; behind a write that failed before, nothing.
-pub record Tells (was now : OutputState) (text : List ℕ) : Type 0 where
+-- The text was written; where a write failed, a front of it; after a write that failed before, nothing.
+pub record Reports (was now : OutputState) (text : List ℕ) : Type 0 where
   pub front : List ℕ
   pub rest : List ℕ
   pub parts : text ≡ front ++ rest

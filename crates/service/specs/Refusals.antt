@@ -1,6 +1,6 @@
 -- Refusals by number and name, and their lines. Each line ends in LF.
 use Rattle.std.specs.Prelude.{◌≡◌, ◌⊎◌, ℕ, Bool, true, false, List, [], ◌∷◌, ◌++◌, codes, decimal}
-use Rattle.service.specs.Outputs.{OutputState, Tells}
+use Rattle.service.specs.Outputs.{OutputState, Reports}
 use Rattle.service.specs.declared.refusal.Refusal.{Refusal}
 use Rattle.service.specs.declared.refusal.Refusal.TheVariants as refusals
 
@@ -65,11 +65,11 @@ abbrev pub line_end : List ℕ
 line_end = 10 ∷ []
 
 -- what the line of a refusal has after its name: the watermark of AboveWatermark, the block of Damaged, the page of BadNode
-abbrev pub told_of : Refusal → List ℕ
-told_of (refusals.AboveWatermark settled) = codes "|" ++ decimal settled
-told_of (refusals.Damaged block) = codes "|" ++ decimal block
-told_of (refusals.BadNode page) = codes "|" ++ decimal page
-told_of _ = []
+abbrev pub reported_of : Refusal → List ℕ
+reported_of (refusals.AboveWatermark settled) = codes "|" ++ decimal settled
+reported_of (refusals.Damaged block) = codes "|" ++ decimal block
+reported_of (refusals.BadNode page) = codes "|" ++ decimal page
+reported_of _ = []
 
 -- X, the number and the name
 abbrev pub refusal_head : Refusal → List ℕ
@@ -77,7 +77,7 @@ refusal_head r = codes "X|" ++ decimal (number_of r) ++ codes "|" ++ name_of r
 
 -- the same, and what comes after it
 abbrev pub refusal_line : Refusal → List ℕ
-refusal_line r = refusal_head r ++ told_of r ++ line_end
+refusal_line r = refusal_head r ++ reported_of r ++ line_end
 
 -- the same of a refused record, by its place in the feed, the first place being 0
 abbrev pub refused_record_line : Refusal → ℕ → List ℕ
@@ -96,10 +96,10 @@ abbrev pub reason_line : Refusal → List ℕ → List ℕ
 reason_line r why = error_head r ++ codes ": " ++ why ++ line_end
 
 -- standard error has the refusal, alone or with some reason after it
-abbrev pub TellsError : Refusal → OutputState → OutputState → Type 0
-TellsError r was now = Tells was now (error_line r) ⊎ ((why : List ℕ) × Tells was now (reason_line r why))
+abbrev pub ReportsError : Refusal → OutputState → OutputState → Type 0
+ReportsError r was now = Reports was now (error_line r) ⊎ ((why : List ℕ) × Reports was now (reason_line r why))
 
 -- standard error says that lines couldn't be written where it is so, and nothing where it isn't
-pub record TellsFailure (failed : Bool) (err_was err_now : OutputState) : Type 0 where
-  pub told : failed ≡ true → TellsError refusals.Outside err_was err_now
+pub record ReportsFailure (failed : Bool) (err_was err_now : OutputState) : Type 0 where
+  pub reported : failed ≡ true → ReportsError refusals.Outside err_was err_now
   pub quiet : failed ≡ false → err_now ≡ err_was

@@ -1,6 +1,6 @@
 -- What a history answers to a request line.
 use Rattle.std.specs.Prelude.{◌≡◌, ◌⊎◌, true, false, ℕ, ◌<◌, ◌≤◌, List, Some, length, slice_get}
-use Rattle.service.specs.Outputs.{OutputState, Tells}
+use Rattle.service.specs.Outputs.{OutputState, Reports}
 use Rattle.route_meaning.specs.History.{History, Intake, applied, settled}
 use Rattle.interleaving_core.specs.declared.query.Query.{Query}
 use Rattle.interleaving_core.specs.declared.query.Answer.{Answer}
@@ -8,7 +8,7 @@ use Rattle.interleaving_core.specs.Does.{last_moment}
 use Rattle.interleaving_core.specs.Headline.{IsAnswered}
 use Rattle.interleaving_core.specs.Steps.{IsCollector}
 use Rattle.service.specs.AnswerLines.{skip_of, reply_text, watermark_line, count_line}
-use Rattle.service.specs.Refusals.{refusal_line, TellsFailure}
+use Rattle.service.specs.Refusals.{refusal_line, ReportsFailure}
 use Rattle.service.specs.Requests.{IsRequestLine}
 use Rattle.service.specs.Faults.{of_unanswered}
 use Rattle.service.specs.declared.request.Request.{Request}
@@ -23,9 +23,9 @@ pub record IsAnswerText (h : History) (query : Query) (text : List ℕ) : Type 0
   pub answer : Answer
   pub below : last_moment query < settled h
   pub answered : IsAnswered (applied h) query answer
-  pub told : text ≡ reply_text (skip_of query) answer
+  pub reported : text ≡ reply_text (skip_of query) answer
 
--- there is a collector of this number, and so many of its records are admitted
+-- there is a collector of this number, and this many of its records are admitted
 pub record IsDurable (h : History) (collector count : ℕ) : Type 0 where
   pub intake : Intake
   pub here : slice_get h.intakes collector ≡ Some intake
@@ -35,7 +35,7 @@ pub record IsDurable (h : History) (collector count : ℕ) : Type 0 where
 pub record IsCountText (h : History) (collector : ℕ) (text : List ℕ) : Type 0 where
   pub count : ℕ
   pub durable : IsDurable h collector count
-  pub told : text ≡ count_line count
+  pub reported : text ≡ count_line count
 
 -- this is the text of the reply to the request
 abbrev pub IsReplyTo : History → Request → List ℕ → Type 0
@@ -70,15 +70,15 @@ IsRefused h line whys.NoCollector = IsOfNoCollector h line
 IsRefused h line (whys.Trouble trouble) = Unit {0}
 
 -- this is the text of a reply to the line, or the line of a refusal of it
-abbrev pub IsTold : History → List ℕ → List ℕ → Type 0
-IsTold h line text = IsReplyText h line text ⊎ ((why : Unanswered) × IsRefused h line why × (text ≡ refusal_line (of_unanswered why)))
+abbrev pub IsReported : History → List ℕ → List ℕ → Type 0
+IsReported h line text = IsReplyText h line text ⊎ ((why : Unanswered) × IsRefused h line why × (text ≡ refusal_line (of_unanswered why)))
 
 -- How a line was answered, by the status. `Failed` is answered where not all could be written: where that was so before, nothing is
 -- done; else a front of what should have been written was, and standard error says where a write of it failed.
 abbrev pub IsAskEnd : History → List ℕ → Status → OutputState → OutputState → OutputState → OutputState → Type 0
-IsAskEnd h line statuses.Done was now err_was err_now = (text : List ℕ) × IsReplyText h line text × Tells was now text × (now.failed ≡ false) × (err_now.failed ≡ false) × (err_now ≡ err_was)
-IsAskEnd h line statuses.Refused was now err_was err_now = (why : Unanswered) × IsRefused h line why × Tells was now (refusal_line (of_unanswered why)) × (now.failed ≡ false) × (err_now.failed ≡ false) × (err_now ≡ err_was)
+IsAskEnd h line statuses.Done was now err_was err_now = (text : List ℕ) × IsReplyText h line text × Reports was now text × (now.failed ≡ false) × (err_now.failed ≡ false) × (err_now ≡ err_was)
+IsAskEnd h line statuses.Refused was now err_was err_now = (why : Unanswered) × IsRefused h line why × Reports was now (refusal_line (of_unanswered why)) × (now.failed ≡ false) × (err_now.failed ≡ false) × (err_now ≡ err_was)
 IsAskEnd h line statuses.Failed was now err_was err_now =
     ((now.failed ≡ true) ⊎ (err_now.failed ≡ true))
     × (((was.failed ≡ true) × (now ≡ was) × (err_now ≡ err_was))
-    ⊎ ((was.failed ≡ false) × ((text : List ℕ) × IsTold h line text × Tells was now text) × TellsFailure now.failed err_was err_now))
+    ⊎ ((was.failed ≡ false) × ((text : List ℕ) × IsReported h line text × Reports was now text) × ReportsFailure now.failed err_was err_now))

@@ -16,7 +16,7 @@ use Rattle.interleaving_core.specs.declared.query.Query.TheVariants.{Rows, Event
 use Rattle.service.specs.declared.request.Request.{Request}
 use Rattle.service.specs.declared.request.Request.TheVariants.{Question, Watermark, Durable}
 
--- the words of a line: the texts before, between and behind its spaces
+-- the words of a line: the texts before, between and after its spaces
 abbrev pub words_of : List ℕ → List (List ℕ)
 words_of line = slice_split (λ b. b == 32) line
 
@@ -45,7 +45,7 @@ pub record AreSpotWords (words : List (List ℕ)) (spot : Spot) : Type 0 where
   pub peer_is : ArePeerWords collector address as_number spot.peer
   pub prefix_is : IsPrefixText prefix spot.prefix
 
--- `after PEER PREFIX`: the answer begins behind this spot; no word: it begins with the first row
+-- `after PEER PREFIX`: the answer begins after this spot; no word: it begins with the first row
 abbrev pub AreAfterWords : List (List ℕ) → Option Spot → Type 0
 AreAfterWords words None = words ≡ []
 AreAfterWords words (Some spot) = (named : List (List ℕ)) × (words ≡ codes "after" ∷ named) × AreSpotWords named spot
@@ -59,36 +59,36 @@ pub record AreRouteWords (words : List (List ℕ)) (spot : Spot) : Type 0 where
 -- `prefix PREFIX`, and perhaps `after PEER PREFIX`
 pub record ArePrefixWords (words : List (List ℕ)) (prefix : IpPrefix) (after : Option Spot) : Type 0 where
   pub text : List ℕ
-  pub behind : List (List ℕ)
-  pub are : words ≡ codes "prefix" ∷ text ∷ behind
+  pub beyond : List (List ℕ)
+  pub are : words ≡ codes "prefix" ∷ text ∷ beyond
   pub prefix_is : IsPrefixText text prefix
-  pub after_is : AreAfterWords behind after
+  pub after_is : AreAfterWords beyond after
 
 -- `cover ADDRESS`, and perhaps `after PEER PREFIX`
 pub record AreCoverWords (words : List (List ℕ)) (address : Address) (after : Option Spot) : Type 0 where
   pub text : List ℕ
-  pub behind : List (List ℕ)
-  pub are : words ≡ codes "cover" ∷ text ∷ behind
+  pub beyond : List (List ℕ)
+  pub are : words ≡ codes "cover" ∷ text ∷ beyond
   pub address_is : IsAddressText text address
-  pub after_is : AreAfterWords behind after
+  pub after_is : AreAfterWords beyond after
 
 -- `peer PEER`, and perhaps `after PEER PREFIX`
 pub record ArePeerTableWords (words : List (List ℕ)) (peer : Peer) (after : Option Spot) : Type 0 where
   pub collector : List ℕ
   pub address : List ℕ
   pub as_number : List ℕ
-  pub behind : List (List ℕ)
-  pub are : words ≡ codes "peer" ∷ collector ∷ address ∷ as_number ∷ behind
+  pub beyond : List (List ℕ)
+  pub are : words ≡ codes "peer" ∷ collector ∷ address ∷ as_number ∷ beyond
   pub peer_is : ArePeerWords collector address as_number peer
-  pub after_is : AreAfterWords behind after
+  pub after_is : AreAfterWords beyond after
 
 -- `all`, and perhaps `after PEER PREFIX`
 pub record AreAllWords (words : List (List ℕ)) (after : Option Spot) : Type 0 where
-  pub behind : List (List ℕ)
-  pub are : words ≡ codes "all" ∷ behind
-  pub after_is : AreAfterWords behind after
+  pub beyond : List (List ℕ)
+  pub are : words ≡ codes "all" ∷ beyond
+  pub after_is : AreAfterWords beyond after
 
--- these rows are wanted, from behind this spot on; one route is asked for without a spot
+-- these rows are asked for, from after this spot on; one route is asked for without a spot
 abbrev pub AreSelectWords : List (List ℕ) → Select → Option Spot → Type 0
 AreSelectWords words (Route peer prefix) after = AreRouteWords words (record { peer = peer; prefix = prefix }) × (after ≡ None)
 AreSelectWords words (ByPrefix prefix) after = ArePrefixWords words prefix after
@@ -96,15 +96,15 @@ AreSelectWords words (Covering address) after = AreCoverWords words address afte
 AreSelectWords words (PeerTable peer) after = ArePeerTableWords words peer after
 AreSelectWords words All after = AreAllWords words after
 
--- `at T`, and which rows are wanted
+-- `at T`, and which rows are asked for
 pub record AreRowsWords (words : List (List ℕ)) (q : RowsQuestion) : Type 0 where
   pub moment : List ℕ
-  pub wanted : List (List ℕ)
-  pub are : words ≡ codes "at" ∷ moment ∷ wanted
+  pub asked : List (List ℕ)
+  pub are : words ≡ codes "at" ∷ moment ∷ asked
   pub moment_is : IsMomentText moment q.moment
-  pub select_is : AreSelectWords wanted q.select q.after
+  pub select_is : AreSelectWords asked q.select q.after
 
--- `skip N`: so many events are left out; no word: none is
+-- `skip N`: this many events are left out; no word: none is
 abbrev pub AreSkipWords : List (List ℕ) → ℕ → Type 0
 AreSkipWords words skip = ((words ≡ []) × (skip ≡ 0)) ⊎ ((named : List (List ℕ)) × (words ≡ codes "skip" ∷ named) × AreNumberWords 18446744073709551615 named skip)
 
@@ -116,13 +116,13 @@ pub record AreEventsWords (words : List (List ℕ)) (q : EventsQuestion) : Type 
   pub address : List ℕ
   pub as_number : List ℕ
   pub prefix : List ℕ
-  pub behind : List (List ℕ)
-  pub are : words ≡ codes "history" ∷ from ∷ to ∷ collector ∷ address ∷ as_number ∷ prefix ∷ behind
+  pub beyond : List (List ℕ)
+  pub are : words ≡ codes "history" ∷ from ∷ to ∷ collector ∷ address ∷ as_number ∷ prefix ∷ beyond
   pub from_is : IsMomentText from q.from
   pub to_is : IsMomentText to q.to
   pub peer_is : ArePeerWords collector address as_number q.peer
   pub prefix_is : IsPrefixText prefix q.prefix
-  pub skip_is : AreSkipWords behind q.skip
+  pub skip_is : AreSkipWords beyond q.skip
 
 -- `durable C`
 pub record AreDurableWords (words : List (List ℕ)) (collector : ℕ) : Type 0 where

@@ -69,9 +69,9 @@ turns_for limit place waiting [] = []
 turns_for limit place waiting (r ∷ results) = turns_at limit place waiting r ++ turns_for limit (suc place) (waits_after limit waiting r) results
 
 -- what waits after them
-abbrev pub waits_behind : BatchLimits → List Admitted → List (Result (Option Admitted) ResolveFault) → List Admitted
-waits_behind limit waiting [] = waiting
-waits_behind limit waiting (r ∷ results) = waits_behind limit (waits_after limit waiting r) results
+abbrev pub waits_beyond : BatchLimits → List Admitted → List (Result (Option Admitted) ResolveFault) → List Admitted
+waits_beyond limit waiting [] = waiting
+waits_beyond limit waiting (r ∷ results) = waits_beyond limit (waits_after limit waiting r) results
 
 -- what waits at the end of a feed is offered, if there is any
 abbrev pub last_turns : List Admitted → List Turn
@@ -80,7 +80,7 @@ last_turns (a ∷ waiting) = Offer (a ∷ waiting) ∷ []
 
 -- what is done for a whole feed whose records mean this, in batches within these limits
 abbrev pub feed_turns : BatchLimits → List (Result (Option Admitted) ResolveFault) → List Turn
-feed_turns limit results = turns_for limit 0 [] results ++ last_turns (waits_behind limit [] results)
+feed_turns limit results = turns_for limit 0 [] results ++ last_turns (waits_beyond limit [] results)
 
 -- an offered batch has no more admissions and no more octets than a batch may have
 abbrev pub IsWithinLimits : BatchLimits → Turn → Type 0

@@ -7,7 +7,7 @@ ghost use Rattle.service.specs.Replies.{IsAskEnd};
 use crate::output::Output;
 use crate::refusal::{Refusal, write_refusal};
 use crate::replying::reply;
-use crate::status::{Status, told};
+use crate::status::{Status, reported};
 use archive_calls::RouteArchive;
 use std::alloc::Global;
 use std::io::Write;
@@ -21,8 +21,8 @@ pub fn ask<A: RouteArchive, W: Write, E: Write>(
     out: &mut Output<W>,
     err: &mut Output<E>,
 ) -> Status
-    ensures ended { (h : History) → A.carries archive.old h → IsAskEnd h line.now result out.old out.new err.old err.new }
-    ensures kept { (h : History) → A.carries archive.old h → A.carries archive.new h }
+    ensures ended { (h : History) → A.represents archive.old h → IsAskEnd h line.now result out.old out.new err.old err.new }
+    ensures kept { (h : History) → A.represents archive.old h → A.represents archive.new h }
 {
     if out.has_failed() {
         return Status::Failed;
@@ -30,11 +30,11 @@ pub fn ask<A: RouteArchive, W: Write, E: Write>(
     match reply(alloc, archive, line) {
         Ok(text) => {
             out.text(text.as_str());
-            told(alloc, Status::Done, out, err)
+            reported(alloc, Status::Done, out, err)
         }
         Err(why) => {
             write_refusal(out, &Refusal::from(why));
-            told(alloc, Status::Refused, out, err)
+            reported(alloc, Status::Refused, out, err)
         }
     }
 }

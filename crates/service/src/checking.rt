@@ -3,13 +3,13 @@
 ghost use Rattle.std.specs.Prelude.{◌≡◌};
 ghost use Rattle.route_meaning.specs.History.{History};
 ghost use Rattle.service.specs.Checks.{IsCheckEnd, checked_line};
-ghost use Rattle.service.specs.Outputs.{Tells};
+ghost use Rattle.service.specs.Outputs.{Reports};
 
 use crate::feed_lines::write_numbers;
 use crate::output::Output;
 use crate::refusal::Refusal;
-use crate::status::{Status, told};
-use crate::telling::tell_trouble;
+use crate::reporting::report_trouble;
+use crate::status::{Status, reported};
 use archive_calls::RouteArchive;
 use route_model::Mark;
 use std::alloc::Global;
@@ -17,7 +17,7 @@ use std::io::Write;
 
 /// Writes how many changes are applied and the settled watermark: `ok|CHANGES|SETTLED`.
 fn write_checked<W: Write>(out: &mut Output<W>, changes: u64, settled: Mark)
-    ensures line { Tells out.old out.new (checked_line changes settled) }
+    ensures line { Reports out.old out.new (checked_line changes settled) }
 {
     write_numbers(out, "ok", &[changes, settled.seconds()]);
 }
@@ -32,8 +32,8 @@ pub fn check<A: RouteArchive, W: Write, E: Write>(
     out: &mut Output<W>,
     err: &mut Output<E>,
 ) -> Status
-    ensures ended { (h : History) → A.carries archive.old h → IsCheckEnd h result out.old out.new err.old err.new }
-    ensures kept { (h : History) → A.carries archive.old h → A.carries archive.new h }
+    ensures ended { (h : History) → A.represents archive.old h → IsCheckEnd h result out.old out.new err.old err.new }
+    ensures kept { (h : History) → A.represents archive.old h → A.represents archive.new h }
 {
     if out.has_failed() {
         return Status::Failed;
@@ -41,11 +41,11 @@ pub fn check<A: RouteArchive, W: Write, E: Write>(
     match archive.check() {
         Ok(changes) => {
             write_checked(out, changes, archive.settled());
-            told(alloc, Status::Done, out, err)
+            reported(alloc, Status::Done, out, err)
         }
         Err(trouble) => {
-            tell_trouble(alloc, archive, &Refusal::from(trouble), err);
-            told(alloc, Status::Refused, out, err)
+            report_trouble(alloc, archive, &Refusal::from(trouble), err);
+            reported(alloc, Status::Refused, out, err)
         }
     }
 }

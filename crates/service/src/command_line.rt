@@ -318,7 +318,7 @@ fn invocation_of<'a>(
 /// What an error of `clap` is.
 fn usage(error: clap::Error) -> CommandError
     ensures memory { kind_of error ≡ ErrorKind.OutOfMemory → result ≡ CommandError.OutOfMemory }
-    ensures told { (kind_of error ≡ ErrorKind.OutOfMemory) ⊎ (result ≡ CommandError.Usage error) }
+    ensures reported { (kind_of error ≡ ErrorKind.OutOfMemory) ⊎ (result ≡ CommandError.Usage error) }
 {
     match error.kind() {
         ErrorKind::OutOfMemory => CommandError::OutOfMemory,

@@ -22,14 +22,14 @@ pub struct FeedDoubt {
     pub is_skipped: bool,
 }
 
-/// Whether records of a feed were skipped and nothing of it is kept, of whose admissions so many were dropped since they were kept before.
+/// Whether records of a feed were skipped and nothing of it is kept, of whose admissions this many were dropped since they were kept before.
 fn is_skipped(counts: &FeedCounts, dropped: u64) -> bool
     ensures skipped { IsTrue result ↔ IsSkipped counts.now dropped }
 {
     counts.skipped > 0 && counts.admitted == 0 && dropped == 0
 }
 
-/// What these counts let a person doubt of a feed, of whose admissions so many were dropped.
+/// What these counts let a person doubt of a feed, of whose admissions this many were dropped.
 pub fn doubts_of(counts: &FeedCounts, dropped: u64) -> FeedDoubt
     ensures empty { IsTrue result.is_empty ↔ (counts.now.records ≡ 0) }
     ensures late { IsTrue result.is_late ↔ ((0 < counts.now.late) × (counts.now.admitted ≡ 0)) }
@@ -45,7 +45,7 @@ pub fn doubts_of(counts: &FeedCounts, dropped: u64) -> FeedDoubt
     }
 }
 
-/// Whether a feed of these counts, of whose admissions so many were dropped, is in doubt.
+/// Whether a feed of these counts, of whose admissions this many were dropped, is in doubt.
 fn is_doubtful(counts: &FeedCounts, dropped: u64) -> bool
     ensures doubtful { IsTrue result ↔ IsDoubtful counts.now dropped }
 {
@@ -63,7 +63,7 @@ pub fn is_far(mark: Option<Mark>, present: u64) -> bool
     }
 }
 
-/// Whether a load is held back: it is strict, and its feed, which came to its end with these counts and of whose admissions so many were
+/// Whether a load is held back: it is strict, and its feed, which came to its end with these counts and of whose admissions this many were
 /// dropped, is in doubt, or its mark is, which is set where the collector's is at `present` seconds.
 pub(crate) fn is_held(
     is_strict: bool,

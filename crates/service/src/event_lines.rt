@@ -56,7 +56,7 @@ pub fn write_events_ending(
     }
 }
 
-/// Writes an answer at the end of `out` whose question skipped so many events: for each event `A|TIME|` and the fields
+/// Writes an answer at the end of `out` whose question skipped this many events: for each event `A|TIME|` and the fields
 /// of the route that was announced, `W|TIME` for a withdrawal, or `D|TIME` where all routes of the peer ended; then
 /// `E|EVENTS` where no more events follow, else `M|SKIP` with the number that the next question skips. After an error
 /// nothing is said of `out`.

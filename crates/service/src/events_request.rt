@@ -4,7 +4,7 @@ ghost use Rattle.std.specs.Prelude.{ℕ, map, IfOk, OnErr};
 ghost use Rattle.route_meaning.specs.declared.question.EventsQuestion.{EventsQuestion};
 ghost use Rattle.service.specs.Requests.{AreSkipWords, AreEventsWords};
 
-use crate::request_words::{read_only_number, read_peer, words_behind};
+use crate::request_words::{read_only_number, read_peer, words_after};
 use route_meaning::EventsQuestion;
 use route_text::{BadText, read_moment, read_prefix};
 
@@ -27,10 +27,10 @@ pub(crate) fn read_events(words: &[&str]) -> Result<EventsQuestion, BadText>
     ensures found { IfOk result (AreEventsWords (map (λ x. x.now) words.now)) }
     ensures none { OnErr result ((q : EventsQuestion) → AreEventsWords (map (λ x. x.now) words.now) q → ⊥) }
 {
-    let Some(behind) = words_behind(words, "history") else {
+    let Some(beyond) = words_after(words, "history") else {
         return Err(BadText);
     };
-    let [from, to, collector, address, as_number, prefix, skip @ ..] = behind else {
+    let [from, to, collector, address, as_number, prefix, skip @ ..] = beyond else {
         return Err(BadText);
     };
     let from = read_moment(from)?;

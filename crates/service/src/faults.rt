@@ -34,7 +34,7 @@ pub enum FeedStop {
     /// The collector's ring has too few free octets for a batch, and nothing more can be applied.
     #[error("the intake is full")]
     IntakeFull,
-    /// The archive couldn't take a batch that it could have taken, or memory was wanting.
+    /// The archive couldn't take a batch that it could have taken, or memory ran out.
     #[error("{0}")]
     Trouble(Trouble),
     /// The reader or the writer failed.
@@ -68,7 +68,7 @@ pub enum Unanswered {
     /// There is no collector of this number.
     #[error("no such collector")]
     NoCollector,
-    /// The archive couldn't answer, or memory was wanting.
+    /// The archive couldn't answer, or memory ran out.
     #[error("{0}")]
     Trouble(Trouble),
 }

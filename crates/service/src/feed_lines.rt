@@ -2,8 +2,8 @@
 
 ghost use Rattle.std.specs.Prelude.{◌≡◌, ◌+◌, ◌-◌, suc, [], ◌∷◌, length};
 ghost use Rattle.service.specs.FeedLines.{numbers_line, late_line, admitted_text, counts_line, settled_line};
-ghost use Rattle.service.specs.Outputs.{Tells};
-ghost use Rattle.mrt_records.specs.Values.{told};
+ghost use Rattle.service.specs.Outputs.{Reports};
+ghost use Rattle.mrt_records.specs.Values.{reported};
 ghost use Rattle.service.specs.FeedTexts.{capped, skips};
 
 use crate::output::Output;
@@ -41,7 +41,7 @@ impl FeedCounts {
     /// Counts a record, and whether it is skipped.
     pub fn count_record(&mut self, item: &Item)
         ensures records { self.new.records ≡ capped (suc self.old.records) }
-        ensures skipped { self.new.skipped ≡ capped (self.old.skipped + skips (told item.now ∷ [])) }
+        ensures skipped { self.new.skipped ≡ capped (self.old.skipped + skips (reported item.now ∷ [])) }
         ensures admitted { self.new.admitted ≡ self.old.admitted }
         ensures late { self.new.late ≡ self.old.late }
         ensures refused { self.new.refused ≡ self.old.refused }
@@ -53,7 +53,7 @@ impl FeedCounts {
 
 /// How many skipped records the item is: 1 or 0.
 fn skips_of(item: &Item) -> u64
-    ensures skips { result ≡ skips (told item.now ∷ []) }
+    ensures skips { result ≡ skips (reported item.now ∷ []) }
 {
     match item {
         Item::Skipped { .. } => 1,
@@ -67,7 +67,7 @@ fn skips_of(item: &Item) -> u64
 
 /// Writes a letter, the numbers with a bar before each, and LF.
 pub(crate) fn write_numbers<W: Write>(out: &mut Output<W>, letter: &str, numbers: &[u64])
-    ensures line { Tells out.old out.new (numbers_line letter.now numbers.now) }
+    ensures line { Reports out.old out.new (numbers_line letter.now numbers.now) }
 {
     out.text(letter);
     for number in numbers {
@@ -78,7 +78,7 @@ pub(crate) fn write_numbers<W: Write>(out: &mut Output<W>, letter: &str, numbers
 }
 
 fn write_late<W: Write>(out: &mut Output<W>, late: &Late)
-    ensures line { Tells out.old out.new (late_line late.now) }
+    ensures line { Reports out.old out.new (late_line late.now) }
 {
     let index = late.index as u64;
     write_numbers(out, "L", &[index, late.time.seconds(), late.mark.seconds()]);
@@ -87,7 +87,7 @@ fn write_late<W: Write>(out: &mut Output<W>, late: &Late)
 /// Writes what became of a batch: `B|FROM|TO|OFFERED`, then `L|INDEX|TIME|MARK` for each late record. No memory
 /// is needed.
 pub fn write_admitted<W: Write>(out: &mut Output<W>, admitted: &BatchReply)
-    ensures lines { Tells out.old out.new (admitted_text admitted.now) }
+    ensures lines { Reports out.old out.new (admitted_text admitted.now) }
 {
     let receipt = &admitted.receipt;
     write_numbers(out, "B", &[receipt.from, receipt.to, admitted.offered]);
@@ -98,7 +98,7 @@ pub fn write_admitted<W: Write>(out: &mut Output<W>, admitted: &BatchReply)
 
 /// Writes what became of a feed: `F|RECORDS|ADMITTED|LATE|REFUSED|SKIPPED`. No memory is needed.
 pub fn write_counts<W: Write>(out: &mut Output<W>, counts: &FeedCounts)
-    ensures line { Tells out.old out.new (counts_line counts.now) }
+    ensures line { Reports out.old out.new (counts_line counts.now) }
 {
     let FeedCounts {
         records,
@@ -112,7 +112,7 @@ pub fn write_counts<W: Write>(out: &mut Output<W>, counts: &FeedCounts)
 
 /// Writes the settled watermark: `S|SETTLED`. No memory is needed.
 pub fn write_settled<W: Write>(out: &mut Output<W>, settled: Mark)
-    ensures line { Tells out.old out.new (settled_line settled) }
+    ensures line { Reports out.old out.new (settled_line settled) }
 {
     write_numbers(out, "S", &[settled.seconds()]);
 }

@@ -3,16 +3,16 @@
 ghost use Rattle.std.specs.Prelude.{◌≡◌, ◌≤◌, ◌∷◌, ◌++◌, ◌+◌, ltb, ℕ, List, [], Option, Some, Ok, map, OnOk, OnErr, IfErr};
 ghost use Rattle.route_meaning.specs.History.{History};
 ghost use Rattle.resolve.specs.declared.without_hop.WithoutHop.{WithoutHop};
-ghost use Rattle.mrt_records.specs.Values.{Told, told};
+ghost use Rattle.mrt_records.specs.Values.{Reported, reported};
 ghost use Rattle.service.specs.Turns.{Turn, Offer, Refuse, offer_where, wait_unless, is_full, turns_at, waits_after, last_turns};
 ghost use Rattle.service.specs.FeedTexts.{capped, intake_in};
 ghost use Rattle.service.specs.Feeds.{limits_for};
 ghost use Rattle.service.specs.declared.limits.BatchLimits.{BatchLimits};
 ghost use Rattle.service.specs.FeedLines.{admitted_text};
-ghost use Rattle.service.specs.Outputs.{OutputState, Tells};
+ghost use Rattle.service.specs.Outputs.{OutputState, Reports};
 ghost use Rattle.service.specs.Refusals.{refused_record_line};
 ghost use Rattle.service.specs.Faults.{of_record};
-ghost use Rattle.service.specs.inner.Feeding.{HasDone, IsSameFeed, IsCounted, IsBehind, GivesUp, StopsAmong};
+ghost use Rattle.service.specs.inner.Feeding.{HasDone, IsSameFeed, IsCounted, IsAfter, GivesUp, StopsAmong};
 
 use crate::faults::{FeedStop, stop_of};
 use crate::feed_lines::{FeedCounts, write_admitted};
@@ -30,21 +30,28 @@ use route_model::Admission;
 use std::alloc::{AllocError, Global};
 use std::io::Write;
 
-/// A feed under way: how entries without a next hop are taken, what later records need of earlier ones, how many admissions are still dropped, the admissions that
-/// aren't offered yet, with how many octets they have as a batch, and what became of the records.
+/// A feed in progress.
 #[derive(Drop)]
 pub(crate) struct Feeding {
+    /// The collector that it feeds.
     pub(crate) collector: u8,
+    /// How large a batch may be.
     pub(crate) limit: BatchLimits,
+    /// What becomes of entries of RIB records without a next hop.
     pub(crate) rule: WithoutHop,
+    /// The peer table of the feed, which later records need.
     pub(crate) resolver: Resolver,
+    /// How many admissions are still to be dropped, since they were kept before.
     pub(crate) dropping: u64,
+    /// The pending batch: admissions that aren't offered yet.
     pub(crate) gathered: Vec<Admission>,
+    /// How many octets the pending batch has.
     pub(crate) octets: usize,
+    /// What became of the records until now.
     pub(crate) counts: FeedCounts,
 }
 
-/// Whether so many octets with so many more are more than there may be.
+/// Whether this many octets with this many more are more than there may be.
 fn is_over(octets: usize, more: usize, most: usize) -> bool
     ensures over { result ≡ ltb most (octets + more) }
 {
@@ -56,16 +63,16 @@ fn is_over(octets: usize, more: usize, most: usize) -> bool
 
 /// Writes what became of a batch, and writes out what is buffered: the batch is durable, and whoever reads the lines may
 /// rely on it from now on, wherever the feed ends.
-pub fn tell_batch<W: Write>(out: &mut Output<W>, admitted: &BatchReply)
-    ensures lines { Tells out.old out.new (admitted_text admitted.now) }
+pub fn report_batch<W: Write>(out: &mut Output<W>, admitted: &BatchReply)
+    ensures lines { Reports out.old out.new (admitted_text admitted.now) }
 {
     write_admitted(out, admitted);
     out.flush();
 }
 
 /// Writes the line of a refused record at its place, and writes it out: the next record may come late, of a pipe.
-pub fn tell_refused<W: Write>(out: &mut Output<W>, fault: ResolveFault, place: u64)
-    ensures line { Tells out.old out.new (refused_record_line (of_record fault) place) }
+pub fn report_refused<W: Write>(out: &mut Output<W>, fault: ResolveFault, place: u64)
+    ensures line { Reports out.old out.new (refused_record_line (of_record fault) place) }
 {
     write_refused_record(out, &Refusal::from(fault), place);
     out.flush();
@@ -79,7 +86,7 @@ impl Feeding {
         how: FeedSettings,
         dropping: u64,
     ) -> Feeding
-        ensures begins { (h : History) (was : OutputState) → A.carries archive.now h → IsBehind how.rule how.collector dropping (limits_for how (A.most archive.now)) h [] result (A.carries archive.now) was was }
+        ensures begins { (h : History) (was : OutputState) → A.represents archive.now h → IsAfter how.rule how.collector dropping (limits_for how (A.most archive.now)) h [] result (A.represents archive.now) was was }
     {
         let limit = BatchLimits {
             records: how.limit,
@@ -112,23 +119,23 @@ impl Feeding {
         ensures same { IsSameFeed self.old self.new }
         ensures gathered { OnOk result (self.new.gathered.items ≡ []) }
         ensures octets { OnOk result (self.new.octets ≡ 0) }
-        ensures done { (c : ℕ) (h : History) (turns : List Turn) (was : OutputState) → self.old.collector ≡ c → HasDone c h turns self.old.counts (A.carries archive.old) was out.old → OnOk result (HasDone c h (turns ++ Offer self.old.gathered.items ∷ []) self.new.counts (A.carries archive.new) was out.new) }
+        ensures done { (c : ℕ) (h : History) (turns : List Turn) (was : OutputState) → self.old.collector ≡ c → HasDone c h turns self.old.counts (A.represents archive.old) was out.old → OnOk result (HasDone c h (turns ++ Offer self.old.gathered.items ∷ []) self.new.counts (A.represents archive.new) was out.new) }
         ensures most { A.most archive.new ≡ A.most archive.old }
         ensures inside { result ≡ Err FeedStop.Outside → ⊥ }
-        ensures given_up { (c : ℕ) (h : History) (turns : List Turn) (was : OutputState) → self.old.collector ≡ c → IsCounted self.old → HasDone c h turns self.old.counts (A.carries archive.old) was out.old → IfErr result (GivesUp c h (turns ++ Offer self.old.gathered.items ∷ []) (A.carries archive.new) was out.new) }
+        ensures given_up { (c : ℕ) (h : History) (turns : List Turn) (was : OutputState) → self.old.collector ≡ c → IsCounted self.old → HasDone c h turns self.old.counts (A.represents archive.old) was out.old → IfErr result (GivesUp c h (turns ++ Offer self.old.gathered.items ∷ []) (A.represents archive.new) was out.new) }
     {
         let admitted = match admit_with_room(archive, self.collector, &self.gathered) {
             Ok(admitted) => admitted,
             Err(refusal) => return Err(stop_of(refusal)),
         };
-        tell_batch(out, &admitted);
+        report_batch(out, &admitted);
         self.counts.count_batch(&admitted);
         self.gathered.clear();
         self.octets = 0;
         Ok(())
     }
 
-    /// Offers what is gathered where it would be too large with so many octets more.
+    /// Offers what is gathered where it would be too large with this many octets more.
     fn make_room<A: RouteArchive, W: Write>(
         &mut self,
         octets: usize,
@@ -138,10 +145,10 @@ impl Feeding {
         ensures same { IsSameFeed self.old self.new }
         ensures gathered { OnOk result (self.new.gathered.items ≡ wait_unless (ltb self.old.limit.octets (self.old.octets + octets)) self.old.gathered.items) }
         ensures counted { IsCounted self.old → OnOk result (IsCounted self.new) }
-        ensures done { (c : ℕ) (h : History) (turns : List Turn) (was : OutputState) → self.old.collector ≡ c → HasDone c h turns self.old.counts (A.carries archive.old) was out.old → OnOk result (HasDone c h (turns ++ offer_where (ltb self.old.limit.octets (self.old.octets + octets)) self.old.gathered.items) self.new.counts (A.carries archive.new) was out.new) }
+        ensures done { (c : ℕ) (h : History) (turns : List Turn) (was : OutputState) → self.old.collector ≡ c → HasDone c h turns self.old.counts (A.represents archive.old) was out.old → OnOk result (HasDone c h (turns ++ offer_where (ltb self.old.limit.octets (self.old.octets + octets)) self.old.gathered.items) self.new.counts (A.represents archive.new) was out.new) }
         ensures most { A.most archive.new ≡ A.most archive.old }
         ensures inside { result ≡ Err FeedStop.Outside → ⊥ }
-        ensures given_up { (c : ℕ) (h : History) (turns : List Turn) (was : OutputState) → self.old.collector ≡ c → IsCounted self.old → HasDone c h turns self.old.counts (A.carries archive.old) was out.old → IfErr result (GivesUp c h (turns ++ offer_where (ltb self.old.limit.octets (self.old.octets + octets)) self.old.gathered.items) (A.carries archive.new) was out.new) }
+        ensures given_up { (c : ℕ) (h : History) (turns : List Turn) (was : OutputState) → self.old.collector ≡ c → IsCounted self.old → HasDone c h turns self.old.counts (A.represents archive.old) was out.old → IfErr result (GivesUp c h (turns ++ offer_where (ltb self.old.limit.octets (self.old.octets + octets)) self.old.gathered.items) (A.represents archive.new) was out.new) }
     {
         if is_over(self.octets, octets, self.limit.octets) {
             return self.offer(archive, out);
@@ -158,10 +165,10 @@ impl Feeding {
         ensures same { IsSameFeed self.old self.new }
         ensures gathered { OnOk result (self.new.gathered.items ≡ wait_unless (is_full self.old.limit self.old.gathered.items) self.old.gathered.items) }
         ensures counted { IsCounted self.old → OnOk result (IsCounted self.new) }
-        ensures done { (c : ℕ) (h : History) (turns : List Turn) (was : OutputState) → self.old.collector ≡ c → HasDone c h turns self.old.counts (A.carries archive.old) was out.old → OnOk result (HasDone c h (turns ++ offer_where (is_full self.old.limit self.old.gathered.items) self.old.gathered.items) self.new.counts (A.carries archive.new) was out.new) }
+        ensures done { (c : ℕ) (h : History) (turns : List Turn) (was : OutputState) → self.old.collector ≡ c → HasDone c h turns self.old.counts (A.represents archive.old) was out.old → OnOk result (HasDone c h (turns ++ offer_where (is_full self.old.limit self.old.gathered.items) self.old.gathered.items) self.new.counts (A.represents archive.new) was out.new) }
         ensures most { A.most archive.new ≡ A.most archive.old }
         ensures inside { result ≡ Err FeedStop.Outside → ⊥ }
-        ensures given_up { (c : ℕ) (h : History) (turns : List Turn) (was : OutputState) → self.old.collector ≡ c → IsCounted self.old → HasDone c h turns self.old.counts (A.carries archive.old) was out.old → IfErr result (GivesUp c h (turns ++ offer_where (is_full self.old.limit self.old.gathered.items) self.old.gathered.items) (A.carries archive.new) was out.new) }
+        ensures given_up { (c : ℕ) (h : History) (turns : List Turn) (was : OutputState) → self.old.collector ≡ c → IsCounted self.old → HasDone c h turns self.old.counts (A.represents archive.old) was out.old → IfErr result (GivesUp c h (turns ++ offer_where (is_full self.old.limit self.old.gathered.items) self.old.gathered.items) (A.represents archive.new) was out.new) }
     {
         if self.gathered.len() >= self.limit.records {
             return self.offer(archive, out);
@@ -176,10 +183,10 @@ impl Feeding {
         out: &mut Output<W>,
     ) -> Result<(), FeedStop>
         ensures same { IsSameFeed self.old self.new }
-        ensures done { (c : ℕ) (h : History) (turns : List Turn) (was : OutputState) → self.old.collector ≡ c → HasDone c h turns self.old.counts (A.carries archive.old) was out.old → OnOk result (HasDone c h (turns ++ last_turns self.old.gathered.items) self.new.counts (A.carries archive.new) was out.new) }
+        ensures done { (c : ℕ) (h : History) (turns : List Turn) (was : OutputState) → self.old.collector ≡ c → HasDone c h turns self.old.counts (A.represents archive.old) was out.old → OnOk result (HasDone c h (turns ++ last_turns self.old.gathered.items) self.new.counts (A.represents archive.new) was out.new) }
         ensures most { A.most archive.new ≡ A.most archive.old }
         ensures inside { result ≡ Err FeedStop.Outside → ⊥ }
-        ensures given_up { (c : ℕ) (h : History) (turns : List Turn) (was : OutputState) → self.old.collector ≡ c → IsCounted self.old → HasDone c h turns self.old.counts (A.carries archive.old) was out.old → IfErr result (GivesUp c h (turns ++ last_turns self.old.gathered.items) (A.carries archive.new) was out.new) }
+        ensures given_up { (c : ℕ) (h : History) (turns : List Turn) (was : OutputState) → self.old.collector ≡ c → IsCounted self.old → HasDone c h turns self.old.counts (A.represents archive.old) was out.old → IfErr result (GivesUp c h (turns ++ last_turns self.old.gathered.items) (A.represents archive.new) was out.new) }
     {
         if self.gathered.is_empty() {
             return Ok(());
@@ -187,7 +194,7 @@ impl Feeding {
         self.offer(archive, out)
     }
 
-    /// Adds an admission of so many octets to what is gathered.
+    /// Adds an admission of this many octets to what is gathered.
     fn push(&mut self, admission: Admission, octets: usize) -> Result<(), AllocError>
         ensures same { IsSameFeed self.old self.new }
         ensures counts { self.new.counts ≡ self.old.counts }
@@ -210,10 +217,10 @@ impl Feeding {
         ensures same { IsSameFeed self.old self.new }
         ensures gathered { IsCounted self.old → OnOk result (self.new.gathered.items ≡ waits_after self.old.limit self.old.gathered.items (Ok (Some admission))) }
         ensures counted { IsCounted self.old → OnOk result (IsCounted self.new) }
-        ensures done { (c : ℕ) (h : History) (turns : List Turn) (was : OutputState) (place : ℕ) → IsCounted self.old → self.old.collector ≡ c → HasDone c h turns self.old.counts (A.carries archive.old) was out.old → OnOk result (HasDone c h (turns ++ turns_at self.old.limit place self.old.gathered.items (Ok (Some admission))) self.new.counts (A.carries archive.new) was out.new) }
+        ensures done { (c : ℕ) (h : History) (turns : List Turn) (was : OutputState) (place : ℕ) → IsCounted self.old → self.old.collector ≡ c → HasDone c h turns self.old.counts (A.represents archive.old) was out.old → OnOk result (HasDone c h (turns ++ turns_at self.old.limit place self.old.gathered.items (Ok (Some admission))) self.new.counts (A.represents archive.new) was out.new) }
         ensures most { A.most archive.new ≡ A.most archive.old }
         ensures inside { result ≡ Err FeedStop.Outside → ⊥ }
-        ensures given_up { (c : ℕ) (h : History) (turns : List Turn) (was : OutputState) (place : ℕ) → self.old.collector ≡ c → IsCounted self.old → HasDone c h turns self.old.counts (A.carries archive.old) was out.old → IfErr result (GivesUp c h (turns ++ turns_at self.old.limit place self.old.gathered.items (Ok (Some admission))) (A.carries archive.new) was out.new) }
+        ensures given_up { (c : ℕ) (h : History) (turns : List Turn) (was : OutputState) (place : ℕ) → self.old.collector ≡ c → IsCounted self.old → HasDone c h turns self.old.counts (A.represents archive.old) was out.old → IfErr result (GivesUp c h (turns ++ turns_at self.old.limit place self.old.gathered.items (Ok (Some admission))) (A.represents archive.new) was out.new) }
     {
         let octets = admission.encoded_len() + 4;
         self.make_room(octets, archive, out)?;
@@ -223,7 +230,7 @@ impl Feeding {
         }
     }
 
-    /// Counts a refused record, and writes its line. Want of memory is no fault of a record.
+    /// Counts a refused record, and writes its line. Running out of memory is no fault of a record.
     fn refuse<W: Write>(
         &mut self,
         fault: ResolveFault,
@@ -237,16 +244,16 @@ impl Feeding {
         ensures late { self.new.counts.late ≡ self.old.counts.late }
         ensures remembered { OnOk result (fault ≡ ResolveFault.OutOfMemory → ⊥) }
         ensures counted { OnOk result (self.new.counts.refused ≡ capped (self.old.counts.refused + 1)) }
-        ensures told { OnOk result (Tells out.old out.new (refused_record_line (of_record fault) place)) }
-        ensures untold { OnErr result (out.new ≡ out.old) }
+        ensures reported { OnOk result (Reports out.old out.new (refused_record_line (of_record fault) place)) }
+        ensures unreported { OnErr result (out.new ≡ out.old) }
         ensures uncounted { OnErr result (self.new.counts ≡ self.old.counts) }
-        ensures wanting { IfErr result (λ why. why ≡ FeedStop.Trouble Trouble.OutOfMemory) }
+        ensures lacking { IfErr result (λ why. why ≡ FeedStop.Trouble Trouble.OutOfMemory) }
     {
         if fault == ResolveFault::OutOfMemory {
             return Err(FeedStop::Trouble(Trouble::OutOfMemory));
         }
         self.counts.refused = self.counts.refused.saturating_add(1);
-        tell_refused(out, fault, place);
+        report_refused(out, fault, place);
         Ok(())
     }
 
@@ -258,10 +265,10 @@ impl Feeding {
         item: &Item,
         out: &mut Output<W>,
     ) -> Result<(), FeedStop>
-        ensures behind { (rule : WithoutHop) (c dropped : ℕ) (limit : BatchLimits) (h : History) (records : List Told) (was : OutputState) → IsBehind rule c dropped limit h records self.old (A.carries archive.old) was out.old → OnOk result (IsBehind rule c dropped limit h (records ++ told item.now ∷ []) self.new (A.carries archive.new) was out.new) }
+        ensures beyond { (rule : WithoutHop) (c dropped : ℕ) (limit : BatchLimits) (h : History) (records : List Reported) (was : OutputState) → IsAfter rule c dropped limit h records self.old (A.represents archive.old) was out.old → OnOk result (IsAfter rule c dropped limit h (records ++ reported item.now ∷ []) self.new (A.represents archive.new) was out.new) }
         ensures most { A.most archive.new ≡ A.most archive.old }
         ensures inside { result ≡ Err FeedStop.Outside → ⊥ }
-        ensures given_up { (rule : WithoutHop) (c dropped : ℕ) (limit : BatchLimits) (h : History) (records : List Told) (was : OutputState) → IsBehind rule c dropped limit h records self.old (A.carries archive.old) was out.old → IfErr result (StopsAmong rule c dropped limit h records (item.now ∷ []) (A.carries archive.new) was out.new) }
+        ensures given_up { (rule : WithoutHop) (c dropped : ℕ) (limit : BatchLimits) (h : History) (records : List Reported) (was : OutputState) → IsAfter rule c dropped limit h records self.old (A.represents archive.old) was out.old → IfErr result (StopsAmong rule c dropped limit h records (item.now ∷ []) (A.represents archive.new) was out.new) }
     {
         let place = self.counts.records;
         self.counts.count_record(item);
@@ -286,10 +293,10 @@ impl Feeding {
         items: &[Item],
         out: &mut Output<W>,
     ) -> Result<(), FeedStop>
-        ensures behind { (rule : WithoutHop) (c dropped : ℕ) (limit : BatchLimits) (h : History) (records : List Told) (was : OutputState) → IsBehind rule c dropped limit h records self.old (A.carries archive.old) was out.old → OnOk result (IsBehind rule c dropped limit h (records ++ map told items.now) self.new (A.carries archive.new) was out.new) }
+        ensures beyond { (rule : WithoutHop) (c dropped : ℕ) (limit : BatchLimits) (h : History) (records : List Reported) (was : OutputState) → IsAfter rule c dropped limit h records self.old (A.represents archive.old) was out.old → OnOk result (IsAfter rule c dropped limit h (records ++ map reported items.now) self.new (A.represents archive.new) was out.new) }
         ensures most { A.most archive.new ≡ A.most archive.old }
         ensures inside { result ≡ Err FeedStop.Outside → ⊥ }
-        ensures given_up { (rule : WithoutHop) (c dropped : ℕ) (limit : BatchLimits) (h : History) (records : List Told) (was : OutputState) → IsBehind rule c dropped limit h records self.old (A.carries archive.old) was out.old → IfErr result (StopsAmong rule c dropped limit h records items.now (A.carries archive.new) was out.new) }
+        ensures given_up { (rule : WithoutHop) (c dropped : ℕ) (limit : BatchLimits) (h : History) (records : List Reported) (was : OutputState) → IsAfter rule c dropped limit h records self.old (A.represents archive.old) was out.old → IfErr result (StopsAmong rule c dropped limit h records items.now (A.represents archive.new) was out.new) }
     {
         for item in items {
             self.take(alloc, archive, item, out)?;

@@ -6,9 +6,9 @@ ghost use Rattle.resolve.specs.declared.without_hop.WithoutHop.{WithoutHop};
 ghost use Rattle.service.specs.FeedLines.{counts_line};
 ghost use Rattle.service.specs.Faults.{of_stop};
 ghost use Rattle.service.specs.FeedTexts.{cut_line, intake_in};
-ghost use Rattle.service.specs.Feeds.{FitsFailures, IsCut, IsEnd, IsFed, MayGive, as_told, limits_for};
+ghost use Rattle.service.specs.Feeds.{FitsFailures, IsCut, IsEnd, IsFed, MayGive, as_reported, limits_for};
 ghost use Rattle.service.specs.declared.limits.BatchLimits.{BatchLimits};
-ghost use Rattle.service.specs.Outputs.{OutputState, Tells};
+ghost use Rattle.service.specs.Outputs.{OutputState, Reports};
 ghost use Rattle.service.specs.Refusals.{refusal_line};
 ghost use Rattle.service.specs.declared.intake.End.{End};
 ghost use Rattle.service.specs.inner.Feeding.{Reads, IsRead, IsReadOut, StopsWithin};
@@ -48,10 +48,10 @@ impl Feeding {
         archive: &mut A,
         out: &mut Output<W>,
     ) -> Result<bool, FeedStop>
-        ensures read { (rule : WithoutHop) (c dropped : ℕ) (limit : BatchLimits) (h : History) (bytes : List ℕ) (was : OutputState) → Reads rule c dropped limit h bytes framer.old self.old (A.carries archive.old) was out.old → IfOk result (λ goes_on. IsRead rule c dropped limit h (bytes ++ piece.now) framer.new goes_on self.new (A.carries archive.new) was out.new) }
+        ensures read { (rule : WithoutHop) (c dropped : ℕ) (limit : BatchLimits) (h : History) (bytes : List ℕ) (was : OutputState) → Reads rule c dropped limit h bytes framer.old self.old (A.represents archive.old) was out.old → IfOk result (λ goes_on. IsRead rule c dropped limit h (bytes ++ piece.now) framer.new goes_on self.new (A.represents archive.new) was out.new) }
         ensures most { A.most archive.new ≡ A.most archive.old }
         ensures inside { result ≡ Err FeedStop.Outside → ⊥ }
-        ensures given_up { (rule : WithoutHop) (c dropped : ℕ) (limit : BatchLimits) (h : History) (bytes : List ℕ) (was : OutputState) → Reads rule c dropped limit h bytes framer.old self.old (A.carries archive.old) was out.old → IfErr result (StopsWithin rule c dropped limit h (bytes ++ piece.now) (A.carries archive.new) was out.new) }
+        ensures given_up { (rule : WithoutHop) (c dropped : ℕ) (limit : BatchLimits) (h : History) (bytes : List ℕ) (was : OutputState) → Reads rule c dropped limit h bytes framer.old self.old (A.represents archive.old) was out.old → IfErr result (StopsWithin rule c dropped limit h (bytes ++ piece.now) (A.represents archive.new) was out.new) }
     {
         let mut items = Vec::new(alloc);
         let goes_on = match framer.feed(piece, &mut items) {
@@ -72,8 +72,8 @@ impl Feeding {
         archive: &mut A,
         out: &mut Output<W>,
     ) -> Result<(), FeedStop>
-        ensures read { (rule : WithoutHop) (c dropped : ℕ) (limit : BatchLimits) (h : History) (bytes : List ℕ) (was : OutputState) → Reads rule c dropped limit h bytes framer.old self.old (A.carries archive.old) was out.old → OnOk result ((more : List ℕ) × MayGive reader.old.left more × IsReadOut rule c dropped limit h (bytes ++ more) framer.new self.new (A.carries archive.new) was out.new) }
-        ensures given_up { (rule : WithoutHop) (c dropped : ℕ) (limit : BatchLimits) (h : History) (bytes : List ℕ) (was : OutputState) → Reads rule c dropped limit h bytes framer.old self.old (A.carries archive.old) was out.old → IfErr result (λ why. (more : List ℕ) × MayGive reader.old.left more × StopsWithin rule c dropped limit h (bytes ++ more) (A.carries archive.new) was out.new why) }
+        ensures read { (rule : WithoutHop) (c dropped : ℕ) (limit : BatchLimits) (h : History) (bytes : List ℕ) (was : OutputState) → Reads rule c dropped limit h bytes framer.old self.old (A.represents archive.old) was out.old → OnOk result ((more : List ℕ) × MayGive reader.old.left more × IsReadOut rule c dropped limit h (bytes ++ more) framer.new self.new (A.represents archive.new) was out.new) }
+        ensures given_up { (rule : WithoutHop) (c dropped : ℕ) (limit : BatchLimits) (h : History) (bytes : List ℕ) (was : OutputState) → Reads rule c dropped limit h bytes framer.old self.old (A.represents archive.old) was out.old → IfErr result (λ why. (more : List ℕ) × MayGive reader.old.left more × StopsWithin rule c dropped limit h (bytes ++ more) (A.represents archive.new) was out.new why) }
         ensures most { A.most archive.new ≡ A.most archive.old }
         ensures outside { result ≡ Err FeedStop.Outside → (reader.new.failed ≡ true) ⊎ (out.new.failed ≡ true) }
         ensures sound { (result ≡ Err FeedStop.Outside → ⊥) → reader.new.failed ≡ reader.old.failed }
@@ -95,7 +95,7 @@ impl Feeding {
                 return Ok(());
             }
         }
-        // No memory holds a count of so many pieces.
+        // No memory holds a count of this many pieces.
         Err(FeedStop::Trouble(Trouble::OutOfMemory))
     }
 }
@@ -111,9 +111,9 @@ pub fn cut_of(framer: &Framer) -> Option<FeedCut>
     }
 }
 
-/// Writes why a feed of so many records is cut short, if it is.
-fn tell_cut<W: Write>(cut: &Option<FeedCut>, records: u64, out: &mut Output<W>)
-    ensures told { Tells out.old out.new (cut_line cut.now records) }
+/// Writes why a feed of this many records is cut short, if it is.
+fn report_cut<W: Write>(cut: &Option<FeedCut>, records: u64, out: &mut Output<W>)
+    ensures reported { Reports out.old out.new (cut_line cut.now records) }
 {
     if let Some(why) = cut {
         write_refused_record(out, &Refusal::from(*why), records);
@@ -121,17 +121,17 @@ fn tell_cut<W: Write>(cut: &Option<FeedCut>, records: u64, out: &mut Output<W>)
 }
 
 /// Writes how a feed ended, and its counts, and writes them out: what comes next is applying, which may take long.
-pub fn tell_end<W: Write>(cut: &Option<FeedCut>, counts: &FeedCounts, out: &mut Output<W>)
-    ensures told { Tells out.old out.new (cut_line cut.now counts.now.records ++ counts_line counts.now) }
+pub fn report_end<W: Write>(cut: &Option<FeedCut>, counts: &FeedCounts, out: &mut Output<W>)
+    ensures reported { Reports out.old out.new (cut_line cut.now counts.now.records ++ counts_line counts.now) }
 {
-    tell_cut(cut, counts.records, out);
+    report_cut(cut, counts.records, out);
     write_counts(out, counts);
     out.flush();
 }
 
 /// Writes for what a feed is given up, and writes it out.
-pub fn tell_stop<W: Write>(why: FeedStop, out: &mut Output<W>)
-    ensures told { Tells out.old out.new (refusal_line (of_stop why)) }
+pub fn report_stop<W: Write>(why: FeedStop, out: &mut Output<W>)
+    ensures reported { Reports out.old out.new (refusal_line (of_stop why)) }
 {
     write_refusal(out, &Refusal::from(why));
     out.flush();
@@ -149,9 +149,9 @@ fn take_in<A: RouteArchive, R: Read, W: Write>(
     counts: &mut Option<FeedCounts>,
     left_out: &mut u64,
 ) -> Result<Option<FeedCut>, FeedStop>
-    ensures fed { (h : History) → A.carries archive.old h → IfOk result (λ cut. (bytes : List ℕ) × MayGive reader.old.left bytes × (mark : ℕ) × IsFed how.rule how.collector dropping.old (limits_for how (A.most archive.old)) h bytes cut (record { counts = counts.new; left_out = left_out.new; left = dropping.new; mark = mark }) (A.carries archive.new) out.old out.new) }
+    ensures fed { (h : History) → A.represents archive.old h → IfOk result (λ cut. (bytes : List ℕ) × MayGive reader.old.left bytes × (mark : ℕ) × IsFed how.rule how.collector dropping.old (limits_for how (A.most archive.old)) h bytes cut (record { counts = counts.new; left_out = left_out.new; left = dropping.new; mark = mark }) (A.represents archive.new) out.old out.new) }
     ensures uncounted { OnErr result (counts.new ≡ None) }
-    ensures given_up { (h : History) → A.carries archive.old h → IfErr result (λ why. (bytes : List ℕ) × MayGive reader.old.left bytes × StopsWithin how.rule how.collector dropping.old (limits_for how (A.most archive.old)) h bytes (A.carries archive.new) out.old out.new why) }
+    ensures given_up { (h : History) → A.represents archive.old h → IfErr result (λ why. (bytes : List ℕ) × MayGive reader.old.left bytes × StopsWithin how.rule how.collector dropping.old (limits_for how (A.most archive.old)) h bytes (A.represents archive.new) out.old out.new why) }
     ensures most { A.most archive.new ≡ A.most archive.old }
     ensures outside { result ≡ Err FeedStop.Outside → (reader.new.failed ≡ true) ⊎ (out.new.failed ≡ true) }
     ensures sound { (result ≡ Err FeedStop.Outside → ⊥) → reader.new.failed ≡ reader.old.failed }
@@ -162,7 +162,7 @@ fn take_in<A: RouteArchive, R: Read, W: Write>(
     feeding.take_stream(alloc, &mut framer, reader, archive, out)?;
     feeding.offer_rest(archive, out)?;
     let cut = cut_of(&framer);
-    tell_end(&cut, &feeding.counts, out);
+    report_end(&cut, &feeding.counts, out);
     *counts = Some(feeding.counts);
     *left_out = feeding.resolver.left_out();
     *dropping = feeding.dropping;
@@ -171,8 +171,8 @@ fn take_in<A: RouteArchive, R: Read, W: Write>(
 
 /// How a feed that ended so is answered once its lines are written: where not all of them could be, it is given up for
 /// the writer.
-fn as_told<W: Write>(end: End, out: &Output<W>) -> End
-    ensures told { result ≡ as_told out.now.failed end }
+fn as_reported<W: Write>(end: End, out: &Output<W>) -> End
+    ensures reported { result ≡ as_reported out.now.failed end }
     ensures outside { result ≡ End.Refused FeedStop.Outside → (out.now.failed ≡ true) ⊎ (end ≡ End.Refused FeedStop.Outside) }
 {
     if out.has_failed() {
@@ -200,17 +200,17 @@ pub fn feed<A: RouteArchive, R: Read, W: Write>(
     counts: &mut Option<FeedCounts>,
     left_out: &mut u64,
 ) -> End
-    ensures ended { (h : History) → A.carries archive.old h → (bytes : List ℕ) × MayGive reader.old.left bytes × (end : End) × (result ≡ as_told out.new.failed end) × (mark : ℕ) × IsEnd how.rule how.collector dropping.old (limits_for how (A.most archive.old)) h bytes end (record { counts = counts.new; left_out = left_out.new; left = dropping.new; mark = mark }) (A.carries archive.new) out.old out.new × FitsFailures end reader.old.failed reader.new.failed out.new.failed }
+    ensures ended { (h : History) → A.represents archive.old h → (bytes : List ℕ) × MayGive reader.old.left bytes × (end : End) × (result ≡ as_reported out.new.failed end) × (mark : ℕ) × IsEnd how.rule how.collector dropping.old (limits_for how (A.most archive.old)) h bytes end (record { counts = counts.new; left_out = left_out.new; left = dropping.new; mark = mark }) (A.represents archive.new) out.old out.new × FitsFailures end reader.old.failed reader.new.failed out.new.failed }
     ensures most { A.most archive.new ≡ A.most archive.old }
     ensures outside { result ≡ End.Refused FeedStop.Outside → (reader.new.failed ≡ true) ⊎ (out.new.failed ≡ true) }
     ensures sound { (result ≡ End.Refused FeedStop.Outside → ⊥) → reader.new.failed ≡ reader.old.failed }
 {
     match take_in(alloc, archive, how, dropping, reader, out, counts, left_out) {
-        Ok(None) => as_told(End::Well, out),
-        Ok(Some(_)) => as_told(End::Cut, out),
+        Ok(None) => as_reported(End::Well, out),
+        Ok(Some(_)) => as_reported(End::Cut, out),
         Err(why) => {
-            tell_stop(why, out);
-            as_told(End::Refused(why), out)
+            report_stop(why, out);
+            as_reported(End::Refused(why), out)
         }
     }
 }

@@ -54,7 +54,7 @@ pub struct Question<'a> {
     pub wait: u64,
     /// The folder of the archive.
     pub folder: &'a str,
-    /// Whether all rows or events are wanted, and not the first 256.
+    /// Whether all rows or events are asked for, and not the first 256.
     pub all: bool,
     /// Whether the lines are for a person.
     pub human: bool,

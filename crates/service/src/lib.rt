@@ -1,4 +1,31 @@
-//! Requests and feeds as lines: how a feed, an answer and a refusal are written, and what a request line asks.
+//! Feeds, requests and the commands of the program as lines: what is read, what is done with an archive, and what is written. All of it is
+//! generic in `RouteArchive`, so no code here knows a disk, a file or a thread.
+//!
+//!     what comes     what is done with it                                        lines that are written
+//!     a feed         octets --> records --> admissions --> batches --> admit     B and L for each batch, X for a refused record, F at the end
+//!     files          a feed for each; then the mark, applying, flushing          those of each feed, and S
+//!     a request      words --> question --> answer                               R, or A, W and D; then E, or M if more follow; or S, N, X
+//!     a check        the archive reads all that it keeps                         ok
+//!     arguments      clap's reading --> an `Invocation`                          none, or usage, help, version
+//!
+//! Such a line is a letter, or `ok`, and fields with `|` before each, and ends in LF; X has the number and the name of a refusal. Times are
+//! written as seconds since 1970. An answer has 256 rows or events at most; M has what the next question goes on after.
+//!
+//! A batch is offered once it has the most admissions that are asked for, before it would have more octets than the archive takes (each
+//! admission counts its encoding and 4 octets), and at the end of the feed. If the collector's ring is too full for it, what may be applied
+//! is applied, and the batch is offered once more; a second refusal ends the feed. What B reports is durable, so its lines are flushed at
+//! once. A refused record is lost alone. A feed that ends inside a record, or at a Length above 131,072, is cut: what came before is
+//! admitted, but the mark isn't set. Several files have one mark, which is set after the last one.
+//!
+//! `Output` keeps the first error of its writer and writes nothing after it, so what writes lines has no path for errors; the status is
+//! asked for at the end. A line of a refusal needs no memory, so out of memory can be reported too. The exit status is 0 if all was done
+//! and written, else 1, or 2 if clap refuses the words.
+//!
+//!     intake, feeding, making_room, resuming, loading         feeds and loads; doubts: what holds a strict load back
+//!     request, request_words, rows_request, events_request    a line is read; replying and asking answer it
+//!     feed_lines, answer_lines, event_lines, refusal          lines that are written; faults: each error's place among refusals
+//!     arguments, command_line, invocation, listening          the command line; running, checking: once an archive is open
+//!     reporting                                               lines of standard error
 #![tactic(auto)]
 
 mod answer_lines;
@@ -24,6 +51,7 @@ mod output;
 mod refusal;
 mod replying;
 mod report;
+mod reporting;
 mod request;
 mod request_laws;
 mod request_words;
@@ -32,7 +60,6 @@ mod rows_request;
 mod running;
 mod settings;
 mod status;
-mod telling;
 
 pub use answer_lines::{write_answer, write_ending, write_place, write_row};
 pub use arguments::VERSION;
@@ -43,15 +70,15 @@ pub use doubts::{DAY, FeedDoubt, doubts_of, is_far};
 pub use event_lines::{write_change, write_events, write_events_ending};
 pub use faults::{FeedCut, FeedStop, LoadStop, Unanswered};
 pub use feed_lines::{FeedCounts, write_admitted, write_counts, write_settled};
-pub use feeding::{tell_batch, tell_refused};
-pub use intake::{End, cut_of, feed, tell_end, tell_stop};
+pub use feeding::{report_batch, report_refused};
+pub use intake::{End, cut_of, feed, report_end, report_stop};
 pub use invocation::{
     Checking, CommandError, Comparing, Creation, Dumping, Examining, Invocation, Listing, Loading,
     Question, Serving,
 };
 pub use laws::{batches_share_a_feed, resumed_feeds_drop_the_first};
 pub use limits::BatchLimits;
-pub use listening::tell_listening;
+pub use listening::report_listening;
 pub use loading::load;
 pub use output::{Input, Output, read_through};
 pub use refusal::{
@@ -59,13 +86,13 @@ pub use refusal::{
 };
 pub use replying::{answer_text, reply, skip_of};
 pub use report::{FileLoad, LoadReport};
+pub use reporting::{
+    report_lost, report_out_of_memory, report_outside, report_refusal, report_usage, report_with,
+};
 pub use request::{Request, RequestError, read_request, words_of};
 pub use request_laws::lines_are_one_request;
-pub use request_words::{LAST_COLLECTOR, read_peer, words_behind};
+pub use request_words::{LAST_COLLECTOR, read_peer, words_after};
 pub use resolve::WithoutHop;
-pub use running::{ask_line, check_archive, finish, load_files, tell_created};
+pub use running::{ask_line, check_archive, finish, load_files, report_created};
 pub use settings::{FeedSettings, LoadSettings};
-pub use status::{Status, told};
-pub use telling::{
-    tell_lost, tell_out_of_memory, tell_outside, tell_refusal, tell_usage, tell_with,
-};
+pub use status::{Status, reported};

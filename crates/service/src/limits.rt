@@ -1,6 +1,6 @@
 //! What a batch of a feed may have.
 
-/// The most admissions of a batch, 0 counting as 1, and the most octets: for each admission those of its spelling and 4
+/// The most admissions of a batch, 0 counting as 1, and the most octets: for each admission those of its encoding and 4
 /// more.
 #[derive(Clone, Copy, Debug, PartialEq, Eq)]
 pub struct BatchLimits {

@@ -2,11 +2,11 @@
 
 ghost use Rattle.std.specs.Prelude.{◌≡◌, ◌↔◌, IsTrue, OnErr, IfOk, option_map};
 ghost use Rattle.std.specs.Net.Text.{ipv4_text, socket_v4_text};
-ghost use Rattle.service.specs.Listening.{AreSame, IsHttpIf, IsListenText, IsListeningTold, IsNoHttp, IsNoListenText, http_text, listening_line};
-ghost use Rattle.service.specs.Outputs.{Tells};
+ghost use Rattle.service.specs.Listening.{AreSame, IsHttpIf, IsListenText, IsListeningReported, IsNoHttp, IsNoListenText, http_text, listening_line};
+ghost use Rattle.service.specs.Outputs.{Reports};
 
 use crate::output::Output;
-use crate::telling::tell_unwritten;
+use crate::reporting::report_unwritten;
 use route_text::{BadText, read_ipv4, read_number};
 use std::alloc::Global;
 use std::io::Write;
@@ -56,7 +56,7 @@ pub(crate) fn read_http(
 
 /// Writes an IPv4 address: four numbers with dots between them.
 fn write_ipv4<W: Write>(out: &mut Output<W>, octets: [u8; 4])
-    ensures text { Tells out.old out.new (ipv4_text octets) }
+    ensures text { Reports out.old out.new (ipv4_text octets) }
 {
     let [a, b, c, d] = octets;
     out.number(u64::from(a));
@@ -70,7 +70,7 @@ fn write_ipv4<W: Write>(out: &mut Output<W>, octets: [u8; 4])
 
 /// Writes an address and a port, with a colon between.
 fn write_place<W: Write>(out: &mut Output<W>, place: &SocketAddrV4)
-    ensures text { Tells out.old out.new (socket_v4_text place.now) }
+    ensures text { Reports out.old out.new (socket_v4_text place.now) }
 {
     write_ipv4(out, place.ip().octets());
     out.text(":");
@@ -79,7 +79,7 @@ fn write_place<W: Write>(out: &mut Output<W>, place: &SocketAddrV4)
 
 /// Writes where HTTP is served, if it is.
 fn write_http<W: Write>(out: &mut Output<W>, http: Option<SocketAddrV4>)
-    ensures text { Tells out.old out.new (http_text http) }
+    ensures text { Reports out.old out.new (http_text http) }
 {
     let Some(place) = http else {
         return;
@@ -90,7 +90,7 @@ fn write_http<W: Write>(out: &mut Output<W>, http: Option<SocketAddrV4>)
 
 /// Writes where connections are taken.
 fn write_listening<W: Write>(out: &mut Output<W>, bound: &SocketAddrV4, http: Option<SocketAddrV4>)
-    ensures line { Tells out.old out.new (listening_line bound.now http) }
+    ensures line { Reports out.old out.new (listening_line bound.now http) }
 {
     out.text("listening ");
     write_place(out, bound);
@@ -100,19 +100,19 @@ fn write_listening<W: Write>(out: &mut Output<W>, bound: &SocketAddrV4, http: Op
 
 /// Prints where connections are taken, `listening ADDRESS:PORT`, and after ` http ` where those of HTTP are, if there are such. Then it
 /// writes out what is buffered. The exit status of the program is 0, or 1 if not all could be written, which `err` then says.
-pub fn tell_listening<W: Write, E: Write>(
+pub fn report_listening<W: Write, E: Write>(
     alloc: Global,
     bound: &SocketAddrV4,
     http: Option<SocketAddrV4>,
     out: &mut Output<W>,
     err: &mut Output<E>,
 ) -> u8
-    ensures told { IsListeningTold bound.now http result out.old out.new err.old err.new }
+    ensures reported { IsListeningReported bound.now http result out.old out.new err.old err.new }
 {
     write_listening(out, bound, http);
     out.flush();
     if out.has_failed() {
-        tell_unwritten(alloc, out, err);
+        report_unwritten(alloc, out, err);
         return 1;
     }
     0

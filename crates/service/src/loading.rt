@@ -16,10 +16,10 @@ use crate::making_room::apply_all;
 use crate::output::{Input, Output};
 use crate::refusal::{Refusal, write_error};
 use crate::report::{FileLoad, LoadReport};
+use crate::reporting::report_trouble;
 use crate::resuming::dropped_where;
 use crate::settings::LoadSettings;
-use crate::status::{Status, told};
-use crate::telling::tell_trouble;
+use crate::status::{Status, reported};
 use archive_calls::{Flush, MarkError, RouteArchive, Trouble};
 use route_model::Mark;
 use std::alloc::Global;
@@ -31,8 +31,8 @@ fn set_mark<A: RouteArchive>(
     collector: u8,
     mark: Option<Mark>,
 ) -> Result<(), LoadStop>
-    ensures marked { (h : History) → A.carries archive.old h → OnOk result (A.carries archive.new (marked_if collector mark h)) }
-    ensures unmarked { (h : History) → A.carries archive.old h → IfErr result (HasNotSettled collector mark h (A.carries archive.new)) }
+    ensures marked { (h : History) → A.represents archive.old h → OnOk result (A.represents archive.new (marked_if collector mark h)) }
+    ensures unmarked { (h : History) → A.represents archive.old h → IfErr result (HasNotSettled collector mark h (A.represents archive.new)) }
     ensures most { A.most archive.new ≡ A.most archive.old }
 {
     let Some(mark) = mark else {
@@ -48,7 +48,7 @@ fn set_mark<A: RouteArchive>(
 
 /// Flushes until no page waits to go home.
 fn flush_all<A: RouteArchive>(archive: &mut A) -> Result<(), Trouble>
-    ensures same { (h : History) → A.carries archive.old h → A.carries archive.new h }
+    ensures same { (h : History) → A.represents archive.old h → A.represents archive.new h }
     ensures most { A.most archive.new ≡ A.most archive.old }
 {
     for _ in 0..u64::MAX {
@@ -67,8 +67,8 @@ fn settle<A: RouteArchive>(
     collector: u8,
     mark: Option<Mark>,
 ) -> Result<(), LoadStop>
-    ensures settled { (h : History) → A.carries archive.old h → OnOk result (IsSettled (marked_if collector mark h).intakes (A.carries archive.new)) }
-    ensures unsettled { (h : History) → A.carries archive.old h → IfErr result (HasNotSettled collector mark h (A.carries archive.new)) }
+    ensures settled { (h : History) → A.represents archive.old h → OnOk result (IsSettled (marked_if collector mark h).intakes (A.represents archive.new)) }
+    ensures unsettled { (h : History) → A.represents archive.old h → IfErr result (HasNotSettled collector mark h (A.represents archive.new)) }
     ensures most { A.most archive.new ≡ A.most archive.old }
 {
     set_mark(archive, collector, mark)?;
@@ -119,7 +119,7 @@ fn refusal_of(end: End) -> Option<Refusal> {
 
 /// The mark of a collector, in seconds: 0 where there is no such collector.
 fn present_mark<A: RouteArchive>(archive: &A, collector: u8) -> u64
-    ensures present { (h : History) → A.carries archive.now h → result ≡ (intake_in h.intakes collector).mark }
+    ensures present { (h : History) → A.represents archive.now h → result ≡ (intake_in h.intakes collector).mark }
 {
     match archive.resume(collector) {
         Some(place) => place.mark.seconds(),
@@ -161,7 +161,7 @@ fn load_one<A: RouteArchive, R: Read, W: Write, E: Write>(
     out: &mut Output<W>,
     err: &mut Output<E>,
 ) -> Status
-    ensures ended { (h : History) → A.carries archive.old h → (bytes : List ℕ) × MayGive reader.old.left bytes × IsFileEnd how (A.most archive.old) dropping.old dropping.new h bytes reader.old.failed reader.new.failed result report.new (A.carries archive.new) out.old out.new err.old err.new }
+    ensures ended { (h : History) → A.represents archive.old h → (bytes : List ℕ) × MayGive reader.old.left bytes × IsFileEnd how (A.most archive.old) dropping.old dropping.new h bytes reader.old.failed reader.new.failed result report.new (A.represents archive.new) out.old out.new err.old err.new }
     ensures most { A.most archive.new ≡ A.most archive.old }
     ensures sound { result ≡ Status.Done → reader.new.failed ≡ reader.old.failed }
 {
@@ -170,7 +170,7 @@ fn load_one<A: RouteArchive, R: Read, W: Write, E: Write>(
     if collector >= archive.collectors() {
         report.refusal = Some(Refusal::NoCollector);
         write_error(err, &Refusal::from(LoadStop::NoCollector));
-        return told(alloc, Status::Refused, out, err);
+        return reported(alloc, Status::Refused, out, err);
     }
     report.before = archive.resume(collector).map(|it| it.mark);
     let to_drop = *dropping;
@@ -195,13 +195,13 @@ fn load_one<A: RouteArchive, R: Read, W: Write, E: Write>(
     match settle(archive, collector, mark_after(end, mark)) {
         Ok(()) => {
             write_settled(out, archive.settled());
-            refused_if(held, told(alloc, status_after(end), out, err))
+            refused_if(held, reported(alloc, status_after(end), out, err))
         }
         Err(why) => {
             let refusal = Refusal::from(first_of(end, why));
             report.refusal = Some(refusal);
-            tell_trouble(alloc, archive, &refusal, err);
-            refused_if(held, told(alloc, Status::Refused, out, err))
+            report_trouble(alloc, archive, &refusal, err);
+            refused_if(held, reported(alloc, Status::Refused, out, err))
         }
     }
 }
@@ -216,7 +216,7 @@ fn load_next<A: RouteArchive, R: Read, W: Write, E: Write>(
     out: &mut Output<W>,
     err: &mut Output<E>,
 ) -> Status
-    ensures ended { (h : History) → A.carries archive.old h → (bytes : List ℕ) × MayGive file.old.input.left bytes × IsFileEnd how (A.most archive.old) dropping.old dropping.new h bytes file.old.input.failed file.new.input.failed result file.new.report (A.carries archive.new) out.old out.new err.old err.new }
+    ensures ended { (h : History) → A.represents archive.old h → (bytes : List ℕ) × MayGive file.old.input.left bytes × IsFileEnd how (A.most archive.old) dropping.old dropping.new h bytes file.old.input.failed file.new.input.failed result file.new.report (A.represents archive.new) out.old out.new err.old err.new }
     ensures most { A.most archive.new ≡ A.most archive.old }
     ensures sound { result ≡ Status.Done → file.new.input.failed ≡ file.old.input.failed }
 {
@@ -268,7 +268,7 @@ pub fn load<A: RouteArchive, R: Read, W: Write, E: Write>(
     out: &mut Output<W>,
     err: &mut Output<E>,
 ) -> Status
-    ensures ended { (h : History) → A.carries archive.old h → AreLoaded how (A.most archive.old) h (map (λ f. record { input = f.input; report = f.report }) files.old) (map (λ f. record { input = f.input; report = f.report }) files.new) result (A.carries archive.new) out.old out.new err.old err.new }
+    ensures ended { (h : History) → A.represents archive.old h → AreLoaded how (A.most archive.old) h (map (λ f. record { input = f.input; report = f.report }) files.old) (map (λ f. record { input = f.input; report = f.report }) files.new) result (A.represents archive.new) out.old out.new err.old err.new }
     ensures sound { result ≡ Status.Done → map (λ f. f.input.failed) files.new ≡ map (λ f. f.input.failed) files.old }
 {
     let mut dropping = dropped_where(archive, how.feed.collector, how.resume);

@@ -2,7 +2,7 @@
 
 ghost use Rattle.std.specs.Prelude.{◌≡◌, ℕ, List, OnOk, OnErr};
 ghost use Rattle.route_meaning.specs.History.{History};
-ghost use Rattle.service.specs.Carried.{HasIntakes};
+ghost use Rattle.service.specs.Represented.{HasIntakes};
 ghost use Rattle.service.specs.Loads.{IsSettled};
 ghost use Rattle.service.specs.inner.Taking.{IsTaken};
 
@@ -12,8 +12,8 @@ use route_model::Admission;
 
 /// Applies what may be applied.
 pub(crate) fn apply_all<A: RouteArchive>(archive: &mut A) -> Result<(), Trouble>
-    ensures settled { (h : History) → A.carries archive.old h → OnOk result (IsSettled h.intakes (A.carries archive.new)) }
-    ensures kept { (h : History) → A.carries archive.old h → OnErr result (HasIntakes h.intakes (A.carries archive.new)) }
+    ensures settled { (h : History) → A.represents archive.old h → OnOk result (IsSettled h.intakes (A.represents archive.new)) }
+    ensures kept { (h : History) → A.represents archive.old h → OnErr result (HasIntakes h.intakes (A.represents archive.new)) }
     ensures most { A.most archive.new ≡ A.most archive.old }
 {
     for _ in 0..u64::MAX {
@@ -33,12 +33,12 @@ pub(crate) fn admit_with_room<A: RouteArchive>(
     collector: u8,
     batch: &[Admission],
 ) -> Result<BatchReply, AdmitError>
-    ensures taken { (h : History) → A.carries archive.old h → IsTaken (A.carries archive.new) collector batch.now result h }
+    ensures taken { (h : History) → A.represents archive.old h → IsTaken (A.represents archive.new) collector batch.now result h }
     ensures most { A.most archive.new ≡ A.most archive.old }
 {
     match archive.admit(collector, batch) {
         Err(AdmitError::IntakeFull) => {}
-        told => return told,
+        reported => return reported,
     }
     match apply_all(archive) {
         Ok(()) => archive.admit(collector, batch),

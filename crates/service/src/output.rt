@@ -3,7 +3,7 @@
 ghost use Rattle.std.specs.Prelude.{◌≡◌, ◌≤◌, ◌<◌, [], decimal, length, true, false, is_some, IfSome, IfNone, Some, take};
 ghost use Rattle.std.specs.Io.{ReadsAtMost, WritesAtMost};
 ghost use Rattle.std.specs.Io.KnownBytes.{Appends, Consumes, IsAtEnd, ReadConsumes, WriteAppends};
-ghost use Rattle.service.specs.Outputs.{Tells};
+ghost use Rattle.service.specs.Outputs.{Reports};
 
 use itoa::Buffer;
 use std::io::{Error, ErrorKind, Read, Write};
@@ -88,7 +88,7 @@ impl<W: Write> Output<W> {
 
     /// Writes the octets.
     fn put(&mut self, octets: &[u8])
-        ensures tells { Tells self.old self.new octets.now }
+        ensures reports { Reports self.old self.new octets.now }
     {
         if self.has_failed() {
             return;
@@ -104,7 +104,7 @@ impl<W: Write> Output<W> {
 
     /// Writes out what the writer buffers.
     pub fn flush(&mut self)
-        ensures tells { Tells self.old self.new [] }
+        ensures reports { Reports self.old self.new [] }
     {
         if self.has_failed() {
             return;
@@ -116,14 +116,14 @@ impl<W: Write> Output<W> {
 
     /// Writes the text.
     pub fn text(&mut self, text: &str)
-        ensures tells { Tells self.old self.new text.now }
+        ensures reports { Reports self.old self.new text.now }
     {
         self.put(text.as_bytes());
     }
 
     /// Writes the number in decimal digits.
     pub fn number(&mut self, number: u64)
-        ensures tells { Tells self.old self.new (decimal number) }
+        ensures reports { Reports self.old self.new (decimal number) }
     {
         let mut digits = Buffer::new();
         self.put(digits.format(number).as_bytes());

@@ -1,8 +1,8 @@
 //! Why something isn't done, by number and name.
 
 ghost use Rattle.std.specs.Prelude.{◌≡◌, ◌++◌, [], IfSome, IfNone, codes, decimal};
-ghost use Rattle.service.specs.Outputs.{Tells};
-ghost use Rattle.service.specs.Refusals.{number_of, name_of, refusal_head, refusal_line, told_of, refused_record_line, error_head, error_line, reason_line};
+ghost use Rattle.service.specs.Outputs.{Reports};
+ghost use Rattle.service.specs.Refusals.{number_of, name_of, refusal_head, refusal_line, reported_of, refused_record_line, error_head, error_line, reason_line};
 
 use crate::output::Output;
 use route_model::Mark;
@@ -48,7 +48,7 @@ pub enum Refusal {
     /// The record has no reading.
     #[error("the record is malformed")]
     Malformed,
-    /// An announced route has a spelling of more than 3,072 octets.
+    /// An announced route has an encoding of more than 3,072 octets.
     #[error("a route has more than 3072 octets")]
     RouteTooLarge,
     /// A RIB record came, and the feed has no peer table.
@@ -57,7 +57,7 @@ pub enum Refusal {
     /// An entry names a peer that the peer table doesn't have.
     #[error("an entry names no peer of the peer table")]
     BadPeerIndex,
-    /// The admission has a spelling of more than 131,072 octets.
+    /// The admission has an encoding of more than 131,072 octets.
     #[error("the admission has more than 131072 octets")]
     AdmissionTooLarge,
     /// The new mark is below the collector's mark.
@@ -159,7 +159,7 @@ impl Refusal {
 
 /// Writes `X`, the number and the name.
 fn write_head<W: Write>(out: &mut Output<W>, refusal: &Refusal)
-    ensures head { Tells out.old out.new (refusal_head refusal.now) }
+    ensures head { Reports out.old out.new (refusal_head refusal.now) }
 {
     out.text("X|");
     out.number(u64::from(refusal.number()));
@@ -168,9 +168,9 @@ fn write_head<W: Write>(out: &mut Output<W>, refusal: &Refusal)
 }
 
 /// The number that the line of a refusal has after its name, if it has one.
-fn number_told(refusal: &Refusal) -> Option<u64>
-    ensures some { IfSome result (λ number. told_of refusal.now ≡ codes "|" ++ decimal number) }
-    ensures none { IfNone result (told_of refusal.now ≡ []) }
+fn number_reported(refusal: &Refusal) -> Option<u64>
+    ensures some { IfSome result (λ number. reported_of refusal.now ≡ codes "|" ++ decimal number) }
+    ensures none { IfNone result (reported_of refusal.now ≡ []) }
 {
     match refusal {
         Refusal::AboveWatermark(settled) => Some(settled.seconds()),
@@ -180,10 +180,10 @@ fn number_told(refusal: &Refusal) -> Option<u64>
 }
 
 /// Writes what the line of a refusal has after its name.
-fn write_told<W: Write>(out: &mut Output<W>, refusal: &Refusal)
-    ensures told { Tells out.old out.new (told_of refusal.now) }
+fn write_reported<W: Write>(out: &mut Output<W>, refusal: &Refusal)
+    ensures reported { Reports out.old out.new (reported_of refusal.now) }
 {
-    let Some(number) = number_told(refusal) else {
+    let Some(number) = number_reported(refusal) else {
         return;
     };
     out.text("|");
@@ -193,17 +193,17 @@ fn write_told<W: Write>(out: &mut Output<W>, refusal: &Refusal)
 /// Writes the line of a refusal: `X|NUMBER|NAME`, and after `AboveWatermark` a bar and the watermark, after
 /// `Damaged` and `BadNode` a bar and the number of the block or page. No memory is needed.
 pub fn write_refusal<W: Write>(out: &mut Output<W>, refusal: &Refusal)
-    ensures line { Tells out.old out.new (refusal_line refusal.now) }
+    ensures line { Reports out.old out.new (refusal_line refusal.now) }
 {
     write_head(out, refusal);
-    write_told(out, refusal);
+    write_reported(out, refusal);
     out.text("\n");
 }
 
 /// Writes the line of a refused record: `X|NUMBER|NAME|PLACE`, where the first record of a feed has the place 0. No
 /// memory is needed.
 pub fn write_refused_record<W: Write>(out: &mut Output<W>, refusal: &Refusal, place: u64)
-    ensures line { Tells out.old out.new (refused_record_line refusal.now place) }
+    ensures line { Reports out.old out.new (refused_record_line refusal.now place) }
 {
     write_head(out, refusal);
     out.text("|");
@@ -213,7 +213,7 @@ pub fn write_refused_record<W: Write>(out: &mut Output<W>, refusal: &Refusal, pl
 
 /// Writes `rha`, the number and the name of a refusal.
 fn write_error_head<W: Write>(out: &mut Output<W>, refusal: &Refusal)
-    ensures head { Tells out.old out.new (error_head refusal.now) }
+    ensures head { Reports out.old out.new (error_head refusal.now) }
 {
     out.text("rha: ");
     out.number(u64::from(refusal.number()));
@@ -223,7 +223,7 @@ fn write_error_head<W: Write>(out: &mut Output<W>, refusal: &Refusal)
 
 /// Writes a refusal that has no other line, as standard error shows it: `rha: NUMBER NAME`. No memory is needed.
 pub fn write_error<W: Write>(out: &mut Output<W>, refusal: &Refusal)
-    ensures line { Tells out.old out.new (error_line refusal.now) }
+    ensures line { Reports out.old out.new (error_line refusal.now) }
 {
     write_error_head(out, refusal);
     out.text("\n");
@@ -231,7 +231,7 @@ pub fn write_error<W: Write>(out: &mut Output<W>, refusal: &Refusal)
 
 /// Writes a refusal, and then on the same line what failed and why: `rha: NUMBER NAME: WHY`. No memory is needed.
 pub fn write_reason<W: Write>(out: &mut Output<W>, refusal: &Refusal, why: &str)
-    ensures line { Tells out.old out.new (reason_line refusal.now why.now) }
+    ensures line { Reports out.old out.new (reason_line refusal.now why.now) }
 {
     write_error_head(out, refusal);
     out.text(": ");
@@ -242,7 +242,7 @@ pub fn write_reason<W: Write>(out: &mut Output<W>, refusal: &Refusal, why: &str)
 /// Writes that a file, an address or an argument failed, and right after its name the reason, which begins with a colon or a slash:
 /// `rha: 29 Outside: WHAT: REASON`. No memory is needed.
 pub fn write_outside<W: Write>(out: &mut Output<W>, what: &str, reason: &str)
-    ensures line { Tells out.old out.new (reason_line Refusal.Outside (what.now ++ reason.now)) }
+    ensures line { Reports out.old out.new (reason_line Refusal.Outside (what.now ++ reason.now)) }
 {
     write_error_head(out, &Refusal::Outside);
     out.text(": ");

@@ -26,7 +26,7 @@ pub fn skip_of(query: &Query) -> u64
     }
 }
 
-/// The lines of an answer to a question that skips so many events. Memory alone refuses them.
+/// The lines of an answer to a question that skips this many events. Memory alone refuses them.
 pub fn answer_text(alloc: Global, skip: u64, answer: &Answer) -> Result<String, AllocError>
     ensures text { IfOk result (λ text. string_bytes text ≡ reply_text skip answer.now) }
 {
@@ -78,9 +78,9 @@ fn answer_question<A: RouteArchive>(
     archive: &mut A,
     query: Query,
 ) -> Result<String, Unanswered>
-    ensures answered { (h : History) → A.carries archive.old h → IfOk result (λ text. IsAnswerText h query (string_bytes text)) }
-    ensures refused { (h : History) → A.carries archive.old h → IfErr result (IsUnanswered h query) }
-    ensures kept { (h : History) → A.carries archive.old h → A.carries archive.new h }
+    ensures answered { (h : History) → A.represents archive.old h → IfOk result (λ text. IsAnswerText h query (string_bytes text)) }
+    ensures refused { (h : History) → A.represents archive.old h → IfErr result (IsUnanswered h query) }
+    ensures kept { (h : History) → A.represents archive.old h → A.represents archive.new h }
 {
     let skip = skip_of(&query);
     let answer = match archive.answer(query) {
@@ -94,8 +94,8 @@ fn answer_question<A: RouteArchive>(
 }
 
 /// The line of the settled watermark.
-fn tell_watermark<A: RouteArchive>(alloc: Global, archive: &A) -> Result<String, Unanswered>
-    ensures told { (h : History) → A.carries archive.now h → IfOk result (λ text. IsReplyTo h Request.Watermark (string_bytes text)) }
+fn report_watermark<A: RouteArchive>(alloc: Global, archive: &A) -> Result<String, Unanswered>
+    ensures reported { (h : History) → A.represents archive.now h → IfOk result (λ text. IsReplyTo h Request.Watermark (string_bytes text)) }
     ensures refused { IfErr result IsTrouble }
 {
     match number_text(alloc, "S", archive.settled().seconds()) {
@@ -106,8 +106,8 @@ fn tell_watermark<A: RouteArchive>(alloc: Global, archive: &A) -> Result<String,
 
 /// How many records of the collector are admitted, if it is there.
 fn admitted_of<A: RouteArchive>(archive: &A, collector: u8) -> Option<u64>
-    ensures count { (h : History) → A.carries archive.now h → IfSome result (IsDurable h collector) }
-    ensures none { (h : History) → A.carries archive.now h → IfNone result (IsCollector h collector → ⊥) }
+    ensures count { (h : History) → A.represents archive.now h → IfSome result (IsDurable h collector) }
+    ensures none { (h : History) → A.represents archive.now h → IfNone result (IsCollector h collector → ⊥) }
 {
     let Some(resume) = archive.resume(collector) else {
         return None;
@@ -116,13 +116,13 @@ fn admitted_of<A: RouteArchive>(archive: &A, collector: u8) -> Option<u64>
 }
 
 /// The line of the count of the collector's admitted records.
-fn tell_count<A: RouteArchive>(
+fn report_count<A: RouteArchive>(
     alloc: Global,
     archive: &A,
     collector: u8,
 ) -> Result<String, Unanswered>
-    ensures told { (h : History) → A.carries archive.now h → IfOk result (λ text. IsCountText h collector (string_bytes text)) }
-    ensures refused { (h : History) → A.carries archive.now h → IfErr result (IsUncounted h collector) }
+    ensures reported { (h : History) → A.represents archive.now h → IfOk result (λ text. IsCountText h collector (string_bytes text)) }
+    ensures refused { (h : History) → A.represents archive.now h → IfErr result (IsUncounted h collector) }
 {
     let Some(count) = admitted_of(archive, collector) else {
         return Err(Unanswered::NoCollector);
@@ -139,14 +139,14 @@ fn reply_to<A: RouteArchive>(
     archive: &mut A,
     request: Request,
 ) -> Result<String, Unanswered>
-    ensures replied { (h : History) → A.carries archive.old h → IfOk result (λ text. IsReplyTo h request (string_bytes text)) }
-    ensures refused { (h : History) → A.carries archive.old h → IfErr result (IsUnreplied h request) }
-    ensures kept { (h : History) → A.carries archive.old h → A.carries archive.new h }
+    ensures replied { (h : History) → A.represents archive.old h → IfOk result (λ text. IsReplyTo h request (string_bytes text)) }
+    ensures refused { (h : History) → A.represents archive.old h → IfErr result (IsUnreplied h request) }
+    ensures kept { (h : History) → A.represents archive.old h → A.represents archive.new h }
 {
     match request {
         Request::Question(query) => answer_question(alloc, archive, query),
-        Request::Watermark => tell_watermark(alloc, archive),
-        Request::Durable(collector) => tell_count(alloc, archive, collector),
+        Request::Watermark => report_watermark(alloc, archive),
+        Request::Durable(collector) => report_count(alloc, archive, collector),
     }
 }
 
@@ -158,9 +158,9 @@ pub fn reply<A: RouteArchive>(
     archive: &mut A,
     line: &str,
 ) -> Result<String, Unanswered>
-    ensures answered { (h : History) → A.carries archive.old h → IfOk result (λ text. IsReplyText h line.now (string_bytes text)) }
-    ensures refused { (h : History) → A.carries archive.old h → IfErr result (IsRefused h line.now) }
-    ensures kept { (h : History) → A.carries archive.old h → A.carries archive.new h }
+    ensures answered { (h : History) → A.represents archive.old h → IfOk result (λ text. IsReplyText h line.now (string_bytes text)) }
+    ensures refused { (h : History) → A.represents archive.old h → IfErr result (IsRefused h line.now) }
+    ensures kept { (h : History) → A.represents archive.old h → A.represents archive.new h }
 {
     let request = match read_request(alloc, line) {
         Ok(request) => request,

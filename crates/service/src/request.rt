@@ -5,7 +5,7 @@ ghost use Rattle.service.specs.Requests.{words_of, AreDurableWords, AreRequestWo
 ghost use Rattle.service.specs.declared.request.Request.{Request};
 
 use crate::events_request::read_events;
-use crate::request_words::{LAST_COLLECTOR, read_only_number, words_behind};
+use crate::request_words::{LAST_COLLECTOR, read_only_number, words_after};
 use crate::rows_request::read_rows;
 use interleaving_core::Query;
 use route_text::BadText;
@@ -33,7 +33,7 @@ pub enum RequestError {
     OutOfMemory,
 }
 
-/// What stands before, between and behind the spaces of a line.
+/// What stands before, between and after the spaces of a line.
 pub fn words_of(alloc: Global, line: &str) -> Result<Vec<&str>, AllocError>
     ensures words { IfOk result (λ words. map (λ x. x.now) words.items ≡ words_of line.now) }
 {
@@ -59,7 +59,7 @@ fn read_durable(words: &[&str]) -> Result<u8, BadText>
     ensures found { IfOk result (AreDurableWords (map (λ x. x.now) words.now)) }
     ensures none { OnErr result ((collector : ℕ) → AreDurableWords (map (λ x. x.now) words.now) collector → ⊥) }
 {
-    let Some(named) = words_behind(words, "durable") else {
+    let Some(named) = words_after(words, "durable") else {
         return Err(BadText);
     };
     let collector = read_only_number(named, LAST_COLLECTOR)?;
@@ -87,9 +87,9 @@ fn read_words(words: &[&str]) -> Result<Request, BadText>
 /// What a request line asks, the line being without its end. With exactly one space between two words it is one of
 ///
 /// - `at T route PEER PREFIX`
-/// - `at T prefix PREFIX`, `at T cover ADDRESS`, `at T peer PEER` or `at T all`, and behind it perhaps
+/// - `at T prefix PREFIX`, `at T cover ADDRESS`, `at T peer PEER` or `at T all`, and after it perhaps
 ///   `after PEER PREFIX`
-/// - `history FROM TO PEER PREFIX`, and behind it perhaps `skip N`, N being at most 18,446,744,073,709,551,615
+/// - `history FROM TO PEER PREFIX`, and after it perhaps `skip N`, N being at most 18,446,744,073,709,551,615
 /// - `watermark`
 /// - `durable COLLECTOR`
 ///

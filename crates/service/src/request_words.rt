@@ -12,13 +12,13 @@ use route_text::{BadText, read_address, read_number, read_prefix};
 /// The last number of a collector that a line can name.
 pub const LAST_COLLECTOR: u64 = 15;
 
-/// The words behind the first, where that is this one.
-pub fn words_behind<'a, 'b>(words: &'a [&'b str], word: &str) -> Option<&'a [&'b str]>
-    ensures found { IfSome result (λ behind. map (λ x. x.now) words.now ≡ word.now ∷ map (λ x. x.now) behind.now) }
-    ensures none { IfNone result ((behind : List (List ℕ)) → map (λ x. x.now) words.now ≡ word.now ∷ behind → ⊥) }
+/// The words after the first, where that is this one.
+pub fn words_after<'a, 'b>(words: &'a [&'b str], word: &str) -> Option<&'a [&'b str]>
+    ensures found { IfSome result (λ beyond. map (λ x. x.now) words.now ≡ word.now ∷ map (λ x. x.now) beyond.now) }
+    ensures none { IfNone result ((beyond : List (List ℕ)) → map (λ x. x.now) words.now ≡ word.now ∷ beyond → ⊥) }
 {
-    let (first, behind) = words.split_first()?;
-    if *first == word { Some(behind) } else { None }
+    let (first, beyond) = words.split_first()?;
+    if *first == word { Some(beyond) } else { None }
 }
 
 /// The number of at most `last` that the only word writes.
@@ -60,7 +60,7 @@ pub(crate) fn read_spot(words: &[&str]) -> Result<Spot, BadText>
     Ok(Spot { peer, prefix })
 }
 
-/// The spot behind which an answer begins.
+/// The spot after which an answer begins.
 pub(crate) fn read_after(words: &[&str]) -> Result<Option<Spot>, BadText>
     ensures found { IfOk result (AreAfterWords (map (λ x. x.now) words.now)) }
     ensures none { OnErr result ((after : Option Spot) → AreAfterWords (map (λ x. x.now) words.now) after → ⊥) }

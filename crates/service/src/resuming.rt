@@ -2,7 +2,7 @@
 
 ghost use Rattle.std.specs.Prelude.{◌≡◌, Ok, Some};
 ghost use Rattle.route_meaning.specs.History.{History};
-ghost use Rattle.mrt_records.specs.Values.{told};
+ghost use Rattle.mrt_records.specs.Values.{reported};
 ghost use Rattle.service.specs.FeedTexts.{intake_in};
 ghost use Rattle.service.specs.Resuming.{dropped_where, left_after, taken_at};
 ghost use Rattle.service.specs.inner.Feeding.{TakesNext};
@@ -15,7 +15,7 @@ use std::alloc::Global;
 
 /// How many admissions a feed of the collector drops: where it goes on, those that were offered until now.
 pub(crate) fn dropped_where<A: RouteArchive>(archive: &A, collector: u8, resume: bool) -> u64
-    ensures dropped { (h : History) → A.carries archive.now h → result ≡ dropped_where resume (intake_in h.intakes collector) }
+    ensures dropped { (h : History) → A.represents archive.now h → result ≡ dropped_where resume (intake_in h.intakes collector) }
 {
     if !resume {
         return 0;
@@ -38,7 +38,7 @@ fn keep(dropping: &mut u64, admission: Admission) -> Option<Admission>
     None
 }
 
-/// What is taken of the next record of a feed, where so many admissions are still dropped: what it means, but for an
+/// What is taken of the next record of a feed, where this many admissions are still dropped: what it means, but for an
 /// admission that is dropped, which counts as none.
 pub(crate) fn read_next(
     alloc: Global,
@@ -47,7 +47,7 @@ pub(crate) fn read_next(
     dropping: &mut u64,
     item: &Item,
 ) -> Result<Option<Admission>, ResolveFault>
-    ensures takes { TakesNext rule resolver.old resolver.new dropping.old dropping.new (told item.now) result }
+    ensures takes { TakesNext rule resolver.old resolver.new dropping.old dropping.new (reported item.now) result }
 {
     match resolver.record(alloc, rule, item) {
         Ok(Some(admission)) => Ok(keep(dropping, admission)),

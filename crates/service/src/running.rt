@@ -2,9 +2,9 @@
 
 ghost use Rattle.std.specs.Prelude.{◌≡◌, true, false, [], map, string_bytes};
 ghost use Rattle.route_meaning.specs.History.{History};
-ghost use Rattle.service.specs.Outputs.{Tells};
-ghost use Rattle.service.specs.Refusals.{TellsFailure};
-ghost use Rattle.service.specs.Running.{rule_where, created_line, settings_of, IsWrittenOut, AreFilesLoaded, IsLineAsked, IsArchiveChecked, IsCreationTold};
+ghost use Rattle.service.specs.Outputs.{Reports};
+ghost use Rattle.service.specs.Refusals.{ReportsFailure};
+ghost use Rattle.service.specs.Running.{rule_where, created_line, settings_of, IsWrittenOut, AreFilesLoaded, IsLineAsked, IsArchiveChecked, IsCreationReported};
 
 use crate::asking::ask;
 use crate::checking::check;
@@ -12,9 +12,9 @@ use crate::invocation::{Creation, Loading, Question};
 use crate::loading::load;
 use crate::output::Output;
 use crate::report::FileLoad;
+use crate::reporting::report_unwritten;
 use crate::settings::{FeedSettings, LoadSettings};
 use crate::status::Status;
-use crate::telling::tell_unwritten;
 use archive_calls::RouteArchive;
 use resolve::WithoutHop;
 use std::alloc::Global;
@@ -22,18 +22,18 @@ use std::io::{Read, Write};
 
 /// Writes out what is buffered: `Failed` where that fails, which `err` says where nothing failed before.
 fn write_out<W: Write, E: Write>(alloc: Global, out: &mut Output<W>, err: &mut Output<E>) -> Status
-    ensures flushed { Tells out.old out.new [] }
+    ensures flushed { Reports out.old out.new [] }
     ensures done { out.new.failed ≡ false → result ≡ Status.Done }
     ensures failed { out.new.failed ≡ true → result ≡ Status.Failed }
     ensures quiet { out.old.failed ≡ true → err.new ≡ err.old }
-    ensures told { out.old.failed ≡ false → TellsFailure out.new.failed err.old err.new }
+    ensures reported { out.old.failed ≡ false → ReportsFailure out.new.failed err.old err.new }
 {
     if out.has_failed() {
         return Status::Failed;
     }
     out.flush();
     if out.has_failed() {
-        tell_unwritten(alloc, out, err);
+        report_unwritten(alloc, out, err);
         return Status::Failed;
     }
     Status::Done
@@ -90,7 +90,7 @@ pub fn load_files<A: RouteArchive, R: Read, W: Write, E: Write>(
     out: &mut Output<W>,
     err: &mut Output<E>,
 ) -> u8
-    ensures ended { (h : History) → A.carries archive.old h → AreFilesLoaded asked.now (A.most archive.old) h (map (λ f. record { input = f.input; report = f.report }) files.old) (map (λ f. record { input = f.input; report = f.report }) files.new) result (A.carries archive.new) out.old out.new err.old err.new }
+    ensures ended { (h : History) → A.represents archive.old h → AreFilesLoaded asked.now (A.most archive.old) h (map (λ f. record { input = f.input; report = f.report }) files.old) (map (λ f. record { input = f.input; report = f.report }) files.new) result (A.represents archive.new) out.old out.new err.old err.new }
     ensures sound { result ≡ 0 → map (λ f. f.input.failed) files.new ≡ map (λ f. f.input.failed) files.old }
 {
     let loaded = load(alloc, archive, settings_of(asked), files, out, err);
@@ -106,8 +106,8 @@ pub fn ask_line<A: RouteArchive, W: Write, E: Write>(
     out: &mut Output<W>,
     err: &mut Output<E>,
 ) -> u8
-    ensures ended { (h : History) → A.carries archive.old h → IsLineAsked (string_bytes asked.now.line) h result out.old out.new err.old err.new }
-    ensures kept { (h : History) → A.carries archive.old h → A.carries archive.new h }
+    ensures ended { (h : History) → A.represents archive.old h → IsLineAsked (string_bytes asked.now.line) h result out.old out.new err.old err.new }
+    ensures kept { (h : History) → A.represents archive.old h → A.represents archive.new h }
 {
     let answered = ask(alloc, archive, asked.line.as_str(), out, err);
     finish(alloc, answered, out, err)
@@ -121,8 +121,8 @@ pub fn check_archive<A: RouteArchive, W: Write, E: Write>(
     out: &mut Output<W>,
     err: &mut Output<E>,
 ) -> u8
-    ensures ended { (h : History) → A.carries archive.old h → IsArchiveChecked h result out.old out.new err.old err.new }
-    ensures kept { (h : History) → A.carries archive.old h → A.carries archive.new h }
+    ensures ended { (h : History) → A.represents archive.old h → IsArchiveChecked h result out.old out.new err.old err.new }
+    ensures kept { (h : History) → A.represents archive.old h → A.represents archive.new h }
 {
     let checked = check(alloc, archive, out, err);
     finish(alloc, checked, out, err)
@@ -130,7 +130,7 @@ pub fn check_archive<A: RouteArchive, W: Write, E: Write>(
 
 /// Writes what an archive is made with.
 fn write_created<W: Write>(out: &mut Output<W>, made: &Creation<'_>)
-    ensures line { Tells out.old out.new (created_line made.now) }
+    ensures line { Reports out.old out.new (created_line made.now) }
 {
     out.text("created ");
     out.number(u64::from(made.collectors));
@@ -145,18 +145,18 @@ fn write_created<W: Write>(out: &mut Output<W>, made: &Creation<'_>)
 
 /// Prints that an archive is made, `created COLLECTORS RING PAGES BLOCKS`, and writes out what is buffered. The exit status
 /// of the program is 0, and 1 where not all could be written, which `err` says.
-pub fn tell_created<W: Write, E: Write>(
+pub fn report_created<W: Write, E: Write>(
     alloc: Global,
     made: &Creation<'_>,
     out: &mut Output<W>,
     err: &mut Output<E>,
 ) -> u8
-    ensures told { IsCreationTold made.now result out.old out.new err.old err.new }
+    ensures reported { IsCreationReported made.now result out.old out.new err.old err.new }
 {
     write_created(out, made);
     out.flush();
     if out.has_failed() {
-        tell_unwritten(alloc, out, err);
+        report_unwritten(alloc, out, err);
         return 1;
     }
     0

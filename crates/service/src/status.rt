@@ -1,13 +1,13 @@
 //! How a command ends.
 
 ghost use Rattle.std.specs.Prelude.{◌≡◌, true, false};
-ghost use Rattle.service.specs.Refusals.{TellsError};
+ghost use Rattle.service.specs.Refusals.{ReportsError};
 ghost use Rattle.service.specs.Statuses.{code_of};
-ghost use Rattle.service.specs.inner.Loading.{told_as};
+ghost use Rattle.service.specs.inner.Loading.{reported_as};
 
 use crate::output::Output;
 use crate::refusal::Refusal;
-use crate::telling::tell_unwritten;
+use crate::reporting::report_unwritten;
 use std::alloc::Global;
 use std::io::Write;
 
@@ -36,18 +36,18 @@ impl Status {
 
 /// The status of a command that has written its lines: `Failed` where not all of them could be written. Where that is
 /// so of `out`, `err` says it.
-pub fn told<W: Write, E: Write>(
+pub fn reported<W: Write, E: Write>(
     alloc: Global,
     status: Status,
     out: &Output<W>,
     err: &mut Output<E>,
 ) -> Status
-    ensures status { result ≡ told_as out.now.failed err.old.failed status }
+    ensures status { result ≡ reported_as out.now.failed err.old.failed status }
     ensures quiet { out.now.failed ≡ false → err.new ≡ err.old }
-    ensures told { out.now.failed ≡ true → TellsError Refusal.Outside err.old err.new }
+    ensures reported { out.now.failed ≡ true → ReportsError Refusal.Outside err.old err.new }
 {
     if out.has_failed() {
-        tell_unwritten(alloc, out, err);
+        report_unwritten(alloc, out, err);
         return Status::Failed;
     }
     if err.has_failed() {

@@ -6,7 +6,7 @@ use Rattle.board.specs.Past.{Past, GoesOnAs}
 use Rattle.board.specs.Views.{View, IsFrontOf}
 
 -- a pass was pushed on none, for which there was room
-pub pushed : {X E : Type 0} (told : Result X E) (old new : List View) (v : View) → new ≡ (if is_ok told then old ++ v ∷ [] else old) → IsOk told → old ≡ [] → new ≡ v ∷ []
+pub pushed : {X E : Type 0} (reported : Result X E) (old new : List View) (v : View) → new ≡ (if is_ok reported then old ++ v ∷ [] else old) → IsOk reported → old ≡ [] → new ≡ v ∷ []
 pushed (Ok x) old new v is ok none = is ∙ ap (λ (vs : List View). vs ++ v ∷ []) none
 pushed (Err e) old new v is ok none = absurd cc
 

@@ -37,10 +37,10 @@ closing_for (stops.Trouble trouble) failed = done_unless failed
 closing_for stops.Outside failed = closings.Failed
 
 -- how it ended whose feed ended so
-abbrev pub closing_behind : End → Bool → Closing
-closing_behind ends.Well failed = done_unless failed
-closing_behind ends.Cut failed = done_unless failed
-closing_behind (ends.Refused why) failed = closing_for why failed
+abbrev pub closing_after : End → Bool → Closing
+closing_after ends.Well failed = done_unless failed
+closing_after ends.Cut failed = done_unless failed
+closing_after (ends.Refused why) failed = closing_for why failed
 
 -- The connection sent these octets, whose lines were answered until they ended.
 pub record IsAnswered (promised : Type 0) (port : Port) (collectors : ℕ) (closing : Closing) (octets : List ℕ) (left : Option (List ℕ)) (v : View) (was : OutputState) (w : View) (now : OutputState) : Type 0 where
@@ -61,7 +61,7 @@ pub record IsFed (promised : Type 0) (port : Port) (collectors ring : ℕ) (clos
   pub given : MayGive (prepend_known rest left) bytes
   pub end : End
   pub fed : IsEnd promised collectors collector (limits_of limit ring) bytes end u then w now
-  pub closes : closing ≡ closing_behind end now.failed
+  pub closes : closing ≡ closing_after end now.failed
 
 -- how a connection was served that sent these octets, up to the end of its lines
 abbrev pub IsServed : Type 0 → Port → ℕ → ℕ → Closing → List ℕ → Option (List ℕ) → View → OutputState → View → OutputState → Type 0

@@ -7,7 +7,7 @@ ghost use Rattle.query_threads.specs.Seeing.{Since};
 ghost use Rattle.service.specs.Feeds.{MayGive};
 ghost use Rattle.service.specs.declared.intake.End.{End};
 ghost use Rattle.shared_feed.specs.SharedFeeds.{IsEnd, limits_of};
-ghost use Rattle.serving.specs.Clients.{IsServed, closing_behind, closing_for, done_unless};
+ghost use Rattle.serving.specs.Clients.{IsServed, closing_after, closing_for, done_unless};
 
 use board::{Named, Pass};
 use line_reader::LineReader;
@@ -56,8 +56,8 @@ fn closing_for(why: FeedStop, failed: bool) -> Closing
 }
 
 /// How a connection ended whose feed ended so.
-fn closing_behind(end: End, failed: bool) -> Closing
-    ensures closing { result ≡ closing_behind end failed }
+fn closing_after(end: End, failed: bool) -> Closing
+    ensures closing { result ≡ closing_after end failed }
 {
     match end {
         End::Well | End::Cut => done_unless(failed),
@@ -76,11 +76,11 @@ fn take_feed<A: Store, N: Named + OnDisk<A::Disk>, G: Gate + Drop, R: Read, W: W
     lines: &mut LineReader<R>,
     out: &mut Output<W>,
 ) -> Closing
-    ensures fed { (bytes : List ℕ) × MayGive (prepend_known lines.old.behind (R.remaining lines.old.reader)) bytes × (end : End) × IsEnd (IsSome N.disk) shared.now.collectors collector (limits_of limit shared.now.ring) bytes end pass.old out.old pass.new out.new × (result ≡ closing_behind end out.new.failed) }
+    ensures fed { (bytes : List ℕ) × MayGive (prepend_known lines.old.beyond (R.remaining lines.old.reader)) bytes × (end : End) × IsEnd (IsSome N.disk) shared.now.collectors collector (limits_of limit shared.now.ring) bytes end pass.old out.old pass.new out.new × (result ≡ closing_after end out.new.failed) }
     ensures since { Since pass.old pass.new }
 {
     let end = feed(rt, alloc, shared, pass, collector, limit, lines, out);
-    closing_behind(end, out.has_failed())
+    closing_after(end, out.has_failed())
 }
 
 /// Serves a connection to a port to its end: its lines, one after another, and the feed that one of them announces, which ends it.
@@ -97,7 +97,7 @@ pub fn serve_client<A: Store, N: Named + OnDisk<A::Disk>, G: Gate + Drop, R: Rea
 ) -> Closing
     requires reader { IsSome N.disk → Among reader.old pass.old.past.blocks }
     ensures reader { IsSome N.disk → Among reader.new pass.new.past.blocks }
-    ensures served { (gave : List ℕ) × (left : Option (List ℕ)) × Consumes (R.remaining lines.old.reader) left gave × IsServed (IsSome N.disk) port shared.now.collectors shared.now.ring result (lines.old.behind ++ gave) left pass.old out.old pass.new out.new }
+    ensures served { (gave : List ℕ) × (left : Option (List ℕ)) × Consumes (R.remaining lines.old.reader) left gave × IsServed (IsSome N.disk) port shared.now.collectors shared.now.ring result (lines.old.beyond ++ gave) left pass.old out.old pass.new out.new }
 {
     match serve_lines(rt, alloc, shared, port, pass, reader, numbers, lines, out) {
         Ending::Done => done_unless(out.has_failed()),

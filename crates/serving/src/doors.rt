@@ -15,7 +15,7 @@ pub struct Doors<'a> {
     pub admin: Option<&'a UnixListener>,
     /// Connections of this one send requests of HTTP, which change nothing, and have workers of their own, as many as the others.
     pub web: Option<&'a TcpListener>,
-    /// A connection is ended that sends nothing for so many seconds, or takes nothing of its answers: 1 or more.
+    /// A connection is ended that sends nothing for this many seconds, or takes nothing of its answers: 1 or more.
     pub idle: u32,
 }
 

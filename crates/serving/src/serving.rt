@@ -243,7 +243,7 @@ fn hand_back<A: Store, N: Named + OnDisk<A::Disk>, G: Gate + Drop>(
 ) -> A
     requires none { passes.items ≡ [] }
     requires room { vec_len passes < vec_capacity passes }
-    ensures goes_on { IsSome N.disk → (p : Past) × GoesOnAs pass.past p × A.carries result p }
+    ensures goes_on { IsSome N.disk → (p : Past) × GoesOnAs pass.past p × A.represents result p }
 {
     // There is room for it.
     let _ = passes.push(pass);
@@ -284,10 +284,10 @@ where
     requires some { 1 ≤ opened.collectors }
     requires disk { IsSome N.disk → N.disk ≡ Some (A.disk_of archive) }
     requires pages { IsSome N.disk → N.pages ≡ A.pages archive }
-    requires carried { IsSome N.disk → (p : Past) × A.carries archive p × (length p.history.intakes ≡ opened.collectors) }
+    requires represented { IsSome N.disk → (p : Past) × A.represents archive p × (length p.history.intakes ≡ opened.collectors) }
     requires ready { F.IsAlwaysCallable ready }
-    ensures carried { IsSome N.disk → (p : Past) × A.carries result.0 p }
-    ensures goes_on { IsSome N.disk → (result.1 ≡ Err ServeError.OutOfMemory → ⊥) → (p : Past) × (q : Past) × A.carries archive p × GoesOnAs p q × A.carries result.0 q }
+    ensures represented { IsSome N.disk → (p : Past) × A.represents result.0 p }
+    ensures goes_on { IsSome N.disk → (result.1 ≡ Err ServeError.OutOfMemory → ⊥) → (p : Past) × (q : Past) × A.represents archive p × GoesOnAs p q × A.represents result.0 q }
 {
     let (shared, mut first): (Shared<A, N, G>, Pass<N>) = Shared::new(opened, archive, gate);
     let Ok(mut passes) = Vec::with_capacity(alloc, 1) else {

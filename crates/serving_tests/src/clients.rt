@@ -30,7 +30,7 @@ type Stage<B> = Shared<MemStore, Unpromised<B>, NoGate>;
 struct Conversation {
     lines: &'static str,
     octets: [&'static str; 3],
-    told: &'static str,
+    reported: &'static str,
     closing: Closing,
 }
 
@@ -44,79 +44,79 @@ const CONVERSATIONS: [Conversation; 13] = [
     Conversation {
         lines: "watermark\nfeed 0 0\nquit\nwatermark\n",
         octets: ["", "", ""],
-        told: "S|0\nX|28|BadRequest\nok\n",
+        reported: "S|0\nX|28|BadRequest\nok\n",
         closing: Closing::Done,
     },
     Conversation {
         lines: "stop\nwatermark\n",
         octets: ["", "", ""],
-        told: "ok\n",
+        reported: "ok\n",
         closing: Closing::Stop,
     },
     Conversation {
         lines: "durable 0\nwater",
         octets: ["", "", ""],
-        told: "N|0\n",
+        reported: "N|0\n",
         closing: Closing::Done,
     },
     Conversation {
         lines: "durable 0\nwater",
         octets: ["", "", ""],
-        told: "N|0\n",
+        reported: "N|0\n",
         closing: Closing::Failed,
     },
     Conversation {
         lines: "feed 0 1000\n",
         octets: ["", "", ""],
-        told: "F|0|0|0|0|0\n",
+        reported: "F|0|0|0|0|0\n",
         closing: Closing::Done,
     },
     Conversation {
         lines: "feed 0 2\n",
         octets: [UPDATE, EARLIER, UPDATE],
-        told: "B|0|1|2\nL|1|1704067199|1704067200\nB|1|2|3\nF|3|2|1|0|0\n",
+        reported: "B|0|1|2\nL|1|1704067199|1704067200\nB|1|2|3\nF|3|2|1|0|0\n",
         closing: Closing::Done,
     },
     Conversation {
         lines: "mark 0 1704067201\r\nat 1704067200 all\r\nfeed 0 1\r\n",
         octets: [UPDATE, "", ""],
-        told: "S|1704067201\nE|0\nB|0|0|1\nL|0|1704067200|1704067201\nF|1|0|1|0|0\n",
+        reported: "S|1704067201\nE|0\nB|0|0|1\nL|0|1704067200|1704067201\nF|1|0|1|0|0\n",
         closing: Closing::Done,
     },
     Conversation {
         lines: "feed 0 1000\n",
         octets: [LONG_PREFIX, SKIPPED, UPDATE],
-        told: "X|15|Malformed|0\nB|0|1|1\nF|3|1|0|1|1\n",
+        reported: "X|15|Malformed|0\nB|0|1|1\nF|3|1|0|1|1\n",
         closing: Closing::Done,
     },
     Conversation {
         lines: "feed 0 1000\n",
         octets: [RIB, "", ""],
-        told: "X|17|NoPeerTable|0\nF|1|0|0|1|0\n",
+        reported: "X|17|NoPeerTable|0\nF|1|0|0|1|0\n",
         closing: Closing::Done,
     },
     Conversation {
         lines: "feed 0 1000\n",
         octets: [UPDATE, TOO_LONG, UPDATE],
-        told: "B|0|1|1\nX|14|TooLong|1\nF|1|1|0|0|0\n",
+        reported: "B|0|1|1\nX|14|TooLong|1\nF|1|1|0|0|0\n",
         closing: Closing::Done,
     },
     Conversation {
         lines: "feed 0 1\n",
         octets: [UPDATE, FRONT, ""],
-        told: "B|0|1|1\nX|13|Truncated|1\nF|1|1|0|0|0\n",
+        reported: "B|0|1|1\nX|13|Truncated|1\nF|1|1|0|0|0\n",
         closing: Closing::Done,
     },
     Conversation {
         lines: "feed 0 1\n",
         octets: [UPDATE, FRONT, ""],
-        told: "B|0|1|1\nX|29|Outside\n",
+        reported: "B|0|1|1\nX|29|Outside\n",
         closing: Closing::Failed,
     },
     Conversation {
         lines: "feed 1 1\n",
         octets: [UPDATE, "", ""],
-        told: "X|22|NoCollector\n",
+        reported: "X|22|NoCollector\n",
         closing: Closing::Done,
     },
 ];
@@ -146,20 +146,20 @@ fn octets_of(alloc: Global, it: &Conversation) -> Option<Vec<u8>> {
     Some(all)
 }
 
-/// What a connection receives goes to `told`. Returns how it closes.
+/// What a connection receives goes to `reported`. Returns how it closes.
 fn serve_sent<B: Named>(
     rt: &impl Wait,
     alloc: Global,
     stage: &Stage<B>,
     first: &mut Pass<Unpromised<B>>,
     sent: Sent<'_>,
-    told: &mut Vec<u8>,
+    reported: &mut Vec<u8>,
 ) -> Option<Closing> {
     let mut pass = stage.split(first);
     let mut reader = Reader::new(rt, alloc, stage, 1).ok()?;
     let numbers = AtomicU64::new(0);
     let mut lines = LineReader::new(sent);
-    let mut out = Output::new(told);
+    let mut out = Output::new(reported);
     Some(serve_client(
         rt,
         alloc,
@@ -190,10 +190,10 @@ fn is_so<B: Named>(
         octets: all,
         is_lost: it.closing == Closing::Failed,
     };
-    let mut told = Vec::new(alloc);
-    let closing = serve_sent(rt, alloc, &stage, &mut first, sent, &mut told);
+    let mut reported = Vec::new(alloc);
+    let closing = serve_sent(rt, alloc, &stage, &mut first, sent, &mut reported);
     let _store = stage.close(Vec::new(alloc));
-    closing == Some(it.closing) && told.as_slice() == it.told.as_bytes()
+    closing == Some(it.closing) && reported.as_slice() == it.reported.as_bytes()
 }
 
 /// Whether a connection to an empty archive is replied what it has to be.
@@ -208,6 +208,6 @@ fn is_replied(rt: &impl Wait, alloc: Global, it: &Conversation) -> Option<bool> 
 fn connections_in_memory_are_replied_what_they_have_to_be(rt: HostRuntime) {
     for it in &CONVERSATIONS {
         let is_replied = is_replied(&rt, rt.alloc(), it);
-        be(&rt, is_replied == Some(true), it.told);
+        be(&rt, is_replied == Some(true), it.reported);
     }
 }

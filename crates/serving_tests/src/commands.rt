@@ -32,8 +32,8 @@ fn is_mark(command: &Command, collector: u8, seconds: u64) -> bool {
 }
 
 /// Whether the command asks this.
-fn is_asked(command: &Command, wanted: Asked) -> bool {
-    match wanted {
+fn is_asked(command: &Command, expected: Asked) -> bool {
+    match expected {
         Asked::Durable(collector) => *command == Command::Request(Request::Durable(collector)),
         Asked::Watermark => *command == Command::Request(Request::Watermark),
         Asked::Mark(collector, seconds) => is_mark(command, collector, seconds),
@@ -46,10 +46,10 @@ fn is_asked(command: &Command, wanted: Asked) -> bool {
 }
 
 /// Whether the line is read as this.
-fn is_read(alloc: Global, line: &[u8], wanted: Asked) -> bool {
+fn is_read(alloc: Global, line: &[u8], expected: Asked) -> bool {
     match read_command(alloc, line) {
-        Ok(command) => is_asked(&command, wanted),
-        Err(RequestError::BadRequest) => wanted == Asked::Nothing,
+        Ok(command) => is_asked(&command, expected),
+        Err(RequestError::BadRequest) => expected == Asked::Nothing,
         Err(RequestError::OutOfMemory) => false,
     }
 }
@@ -107,7 +107,7 @@ const LINES: [(&[u8], Asked); 38] = [
 
 #[test]
 fn lines_are_read(rt: HostRuntime) {
-    for (line, wanted) in &LINES {
-        be(&rt, is_read(rt.alloc(), line, *wanted), "lines are read");
+    for (line, expected) in &LINES {
+        be(&rt, is_read(rt.alloc(), line, *expected), "lines are read");
     }
 }

@@ -23,7 +23,7 @@ type Stage<B> = Shared<MemStore, Unpromised<B>, NoGate>;
 struct Conversation {
     port: Port,
     sent: &'static [u8],
-    told: &'static str,
+    reported: &'static str,
     ending: Ending,
 }
 
@@ -50,73 +50,73 @@ const CONVERSATIONS: [Conversation; 12] = [
     Conversation {
         port: ALL,
         sent: b"watermark\ndurable 0\nat 0 all\nquit\nwatermark\n",
-        told: "S|0\nN|0\nX|24|AboveWatermark|0\nok\n",
+        reported: "S|0\nN|0\nX|24|AboveWatermark|0\nok\n",
         ending: Ending::Done,
     },
     Conversation {
         port: ALL,
         sent: b"mark 0 1704067201\r\nat 1704067200 all\r\nat 1704067201 all\r\nwatermark\r\n",
-        told: "S|1704067201\nE|0\nX|24|AboveWatermark|1704067201\nS|1704067201\n",
+        reported: "S|1704067201\nE|0\nX|24|AboveWatermark|1704067201\nS|1704067201\n",
         ending: Ending::Done,
     },
     Conversation {
         port: ALL,
         sent: b"mark 0 1704067200\nmark 1 5\ndurable 1\nmark 0 2024-01-01T00:00:02Z\n",
-        told: "X|21|MarkBack\nX|22|NoCollector\nX|22|NoCollector\nS|1704067202\n",
+        reported: "X|21|MarkBack\nX|22|NoCollector\nX|22|NoCollector\nS|1704067202\n",
         ending: Ending::Done,
     },
     Conversation {
         port: ALL,
         sent: b"\nhello\nmark 0\n\xff\nat 1704067200 route 0 192.0.2.1 65001\ndurable 0",
-        told: "X|28|BadRequest\nX|28|BadRequest\nX|28|BadRequest\nX|28|BadRequest\nX|28|BadRequest\n",
+        reported: "X|28|BadRequest\nX|28|BadRequest\nX|28|BadRequest\nX|28|BadRequest\nX|28|BadRequest\n",
         ending: Ending::Done,
     },
     Conversation {
         port: ALL,
         sent: b"durable 0\nfeed 0 7\nwatermark\n",
-        told: "N|0\n",
+        reported: "N|0\n",
         ending: Ending::Feed(0, 7),
     },
     Conversation {
         port: ALL,
         sent: b"stop\nwatermark\n",
-        told: "ok\n",
+        reported: "ok\n",
         ending: Ending::Stop,
     },
     Conversation {
         port: ALL,
         sent: b"",
-        told: "",
+        reported: "",
         ending: Ending::Done,
     },
     Conversation {
         port: READ_ONLY,
         sent: b"mark 0 1704067300\nfeed 0 7\nstop\nwatermark\ndurable 0\nquit\n",
-        told: "X|28|BadRequest\nX|28|BadRequest\nX|28|BadRequest\nS|1704067202\nN|0\nok\n",
+        reported: "X|28|BadRequest\nX|28|BadRequest\nX|28|BadRequest\nS|1704067202\nN|0\nok\n",
         ending: Ending::Done,
     },
     Conversation {
         port: READ_ONLY,
         sent: b"POST / HTTP/1.1\r\n\r\nmark 0 4294967296\nwatermark\n",
-        told: "X|28|BadRequest\nX|28|BadRequest\nX|28|BadRequest\nS|1704067202\n",
+        reported: "X|28|BadRequest\nX|28|BadRequest\nX|28|BadRequest\nS|1704067202\n",
         ending: Ending::Done,
     },
     Conversation {
         port: CLOSES_HTTP,
         sent: b"watermark\nPOST / HTTP/1.1\r\n\r\nmark 0 4294967296\nstop\n",
-        told: "S|1704067202\nX|28|BadRequest\n",
+        reported: "S|1704067202\nX|28|BadRequest\n",
         ending: Ending::Done,
     },
     Conversation {
         port: CLOSES_HTTP,
         sent: b"GET / HTTP/1.0\nstop\n",
-        told: "X|28|BadRequest\n",
+        reported: "X|28|BadRequest\n",
         ending: Ending::Done,
     },
     Conversation {
         port: CLOSES_HTTP,
         sent: b"GET / HTTP/1.1 \nHTTP/1.1\nGET /\nstop\n",
-        told: "X|28|BadRequest\nX|28|BadRequest\nX|28|BadRequest\nok\n",
+        reported: "X|28|BadRequest\nX|28|BadRequest\nX|28|BadRequest\nok\n",
         ending: Ending::Stop,
     },
 ];
@@ -132,9 +132,9 @@ fn is_so<B: Named>(
     let mut pass = stage.split(first);
     let mut reader = Reader::new(rt, alloc, stage, 1).ok()?;
     let numbers = AtomicU64::new(0);
-    let mut told = Vec::new(alloc);
+    let mut reported = Vec::new(alloc);
     let mut lines = LineReader::new(it.sent);
-    let mut out = Output::new(&mut told);
+    let mut out = Output::new(&mut reported);
     let ending = serve_lines(
         rt,
         alloc,
@@ -146,7 +146,7 @@ fn is_so<B: Named>(
         &mut lines,
         &mut out,
     );
-    Some(ending == it.ending && told.as_slice() == it.told.as_bytes())
+    Some(ending == it.ending && reported.as_slice() == it.reported.as_bytes())
 }
 
 /// How many of the connections are as they should be, before the first that isn't.

@@ -2,7 +2,7 @@
 
 use crate::be;
 use crate::made::{COLLECTORS, empty_store};
-use crate::sockets::{are_warnings, is_whole, serve_behind};
+use crate::sockets::{are_warnings, is_whole, serve_after};
 use crate::steps::{Place, count_right_at};
 use crate::visits::{HELD_WORKERS, IDLE_CLIENTS, POSTED, READ_ONLY, UNREAD, Visit};
 use board::Opened;
@@ -87,7 +87,7 @@ fn visited<
     let steps = visit.steps;
     let clients = thread::spawn(&rt, move || count_right_at(&rt, alloc, &place, steps)).ok()?;
     let opened = Opened::new(alloc, COLLECTORS).ok()?;
-    let store = serve_behind::<MemStore, Brand, NoGate, R, Locked<R, Vec<u8>>>(
+    let store = serve_after::<MemStore, Brand, NoGate, R, Locked<R, Vec<u8>>>(
         &rt,
         alloc,
         opened,

@@ -43,7 +43,7 @@ pub(crate) const MANY_APPLIED: Made = Made {
 const EARLIER_QUESTION: &str = "at 1704067199 prefix 10.0.0.0/8\n";
 
 /// Asks for what stands at the watermark, for the watermark, and how many records were admitted.
-const BEHIND: &str = "at 1704067200 prefix 10.0.0.0/8\nwatermark\ndurable 0\n";
+const BEYOND: &str = "at 1704067200 prefix 10.0.0.0/8\nwatermark\ndurable 0\n";
 
 /// Two blocks are burnt for 606 of 701 versions of a prefix. What is below the watermark is answered, a record is kept that comes later,
 /// and nothing more is applied.
@@ -65,7 +65,7 @@ pub(crate) static BLOCKS: [Step; 26] = [
     Hear(1, "X|7|OnceFull\n"),
     Send(1, EARLIER_QUESTION),
     Hear(1, ANSWER),
-    Send(1, BEHIND),
+    Send(1, BEYOND),
     Hear(1, "X|24|AboveWatermark|1704067200\nS|1704067200\nN|701\n"),
     Connect,
     Send(3, "feed 0 1000\n"),
@@ -97,7 +97,7 @@ pub(crate) static PAGES: [Step; 27] = [
     Hear(1, "X|6|PagesFull\n"),
     Send(1, EARLIER_QUESTION),
     Hear(1, ANSWER),
-    Send(1, BEHIND),
+    Send(1, BEYOND),
     Hear(1, "X|24|AboveWatermark|1704067200\nS|1704067200\nN|2\n"),
     Connect,
     Send(3, "feed 0 1000\n"),
@@ -129,7 +129,7 @@ pub(crate) static RING: [Step; 31] = [
     SendOctets(3, UPDATE),
     SendNoMore(3),
     HearLast(3, "X|23|IntakeFull\n"),
-    Send(1, BEHIND),
+    Send(1, BEYOND),
     Hear(1, "X|24|AboveWatermark|1704067200\nS|1704067200\nN|2076\n"),
     Send(1, "mark 0 1704067201\n"),
     Hear(1, "S|1704067201\n"),

@@ -22,9 +22,9 @@ impl Screen {
     }
 
     /// Whether exactly this was written.
-    pub(crate) fn shows(&self, wanted: &str) -> bool {
+    pub(crate) fn shows(&self, expected: &str) -> bool {
         match self.text.try_borrow() {
-            Ok(text) => text.as_str() == wanted,
+            Ok(text) => text.as_str() == expected,
             Err(_) => false,
         }
     }

@@ -14,9 +14,13 @@ fn a_line_says_what_was_counted(rt: HostRuntime) {
         milliseconds: 2_500,
     };
     let line = format!(in rt.alloc(); "{counts}").expect(&rt, "memory for the line");
-    let wanted =
+    let expected =
         "octets 81499880, records 806188, changes applied 1000000, octets a second 32599952";
-    be(&rt, line.as_str() == wanted, "a line says what was counted");
+    be(
+        &rt,
+        line.as_str() == expected,
+        "a line says what was counted",
+    );
 }
 
 // The clock is read as the load begins and at each count: at 100, 200, 300 and 400 milliseconds.
@@ -74,10 +78,10 @@ fn a_line_is_gone_before_others_are_written(rt: HostRuntime) {
     out.write_all(b"second\n").expect(&rt, "a line is written");
     out.write_all(b"third\n").expect(&rt, "a line is written");
     drop(out);
-    let wanted = "\roctets 0, records 0, changes applied 2, octets a second 0\u{1b}[K\r\u{1b}[K";
+    let expected = "\roctets 0, records 0, changes applied 2, octets a second 0\u{1b}[K\r\u{1b}[K";
     be(
         &rt,
-        screen.shows(wanted),
+        screen.shows(expected),
         "a line is gone before others are written",
     );
     be(

@@ -28,8 +28,8 @@ const WORKERS: u8 = 2;
 /// How many seconds a client may be idle: more than a question is held, or a client waits.
 pub(crate) const IDLE: u32 = 60;
 
-/// Serves an archive behind these doors until a client stops the server. The archive that is handed back, if the server ended well.
-pub(crate) fn serve_behind<
+/// Serves an archive at these doors until a client stops the server. The archive that is handed back, if the server ended well.
+pub(crate) fn serve_after<
     A: Store + Drop + Send,
     B: Named + Send + Sync,
     G: Gate + Drop + Send + Sync,
@@ -115,7 +115,7 @@ where
     requires some { 1 ≤ opened.collectors }
 {
     let doors = doors_at(listener);
-    serve_behind::<A, B, G, R, L>(rt, alloc, opened, store, gate, &doors, WORKERS, log)
+    serve_after::<A, B, G, R, L>(rt, alloc, opened, store, gate, &doors, WORKERS, log)
 }
 
 /// Whether a line of a log is the warning of a socket that failed, with its client, the call and the moment.
@@ -161,7 +161,7 @@ pub(crate) fn is_whole(store: Option<MemStore>, trouble: Option<Trouble>, record
 }
 
 #[test]
-fn clients_are_told_what_they_have_to_be(rt: HostRuntime) {
+fn clients_are_reported_what_they_have_to_be(rt: HostRuntime) {
     let alloc = rt.alloc();
     for scene in &SCENES {
         let name = scene.name();
@@ -178,7 +178,7 @@ fn clients_are_told_what_they_have_to_be(rt: HostRuntime) {
         let clients = thread::spawn(&rt, move || count_right_at(&rt, alloc, &place, steps));
         let opened = Opened::new(alloc, COLLECTORS).expect(&rt, name);
         let doors = doors_with(&listener, &web);
-        let served = serve_behind::<
+        let served = serve_after::<
             MemStore,
             Brand,
             NoGate,

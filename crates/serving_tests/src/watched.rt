@@ -3,10 +3,10 @@
 ghost use Rattle.disk_archive.specs.Cursors.{IsGathered, asks};
 ghost use Rattle.disk_archive.specs.Descents.{IsErrandFor};
 ghost use Rattle.once_store.specs.Readers.{kept_blocks, reader_disk};
-ghost use Rattle.shared_archive.specs.Carried.{LiesInPast, gathered_on};
-ghost use Rattle.shared_archive.specs.Held.{HeldFlushes, HeldTells, HoldsPast, disk_in, pages_in, right_held};
+ghost use Rattle.shared_archive.specs.Represented.{LocatedInPast, gathered_on};
+ghost use Rattle.shared_archive.specs.Held.{HeldFlushes, HeldReports, HoldsPast, disk_in, pages_in, right_held};
 ghost use Rattle.shared_archive.specs.Reopened.{Reopens};
-ghost use Rattle.shared_archive.specs.Told.{Misses};
+ghost use Rattle.shared_archive.specs.Reported.{Misses};
 
 use crate::be;
 use crate::made::{COLLECTORS, empty_store};
@@ -61,7 +61,7 @@ impl Store for WatchedStore {
 
     type Cursor = Cursor;
 
-    ghost carries = { λ store p. HoldsPast store.inner.archive p };
+    ghost represents = { λ store p. HoldsPast store.inner.archive p };
 
     ghost pages = { λ store. pages_in store.inner.archive };
 
@@ -83,13 +83,13 @@ impl Store for WatchedStore {
 
     ghost fits = { λ errand cursor. IsErrandFor cursor errand };
 
-    ghost lies = { λ errand cursor disk p. LiesInPast (⟦<MemOnce as OnceDisk>⟧.block_count disk) errand cursor p };
+    ghost located = { λ errand cursor disk p. LocatedInPast (⟦<MemOnce as OnceDisk>⟧.block_count disk) errand cursor p };
 
-    ghost right = { λ store p carried. right_held store.inner.archive p carried };
+    ghost right = { λ store p represented. right_held store.inner.archive p represented };
 
     ghost stays = { λ cursor h g right begins below gathered. gathered_on cursor h g begins gathered };
 
-    ghost tells = { λ store trouble then. HeldTells store.inner.archive trouble then.inner.archive };
+    ghost reports = { λ store trouble then. HeldReports store.inner.archive trouble then.inner.archive };
 
     ghost reopens = { λ store returned then. Reopens store.inner.archive returned then.inner.archive };
 
@@ -126,12 +126,12 @@ impl Store for WatchedStore {
     }
 
     fn flush_step(&mut self) -> Result<Flush, Trouble> {
-        let told = self.inner.flush_step();
-        if told == Ok(Flush::Clean) {
+        let reported = self.inner.flush_step();
+        if reported == Ok(Flush::Clean) {
             let signals: &Signals = &self.signals;
             signals.is_done.store(true, Ordering::SeqCst);
         }
-        told
+        reported
     }
 
     fn reopen(&mut self, alloc: Global) -> Result<(), Trouble> {

@@ -10,13 +10,13 @@ use Rattle.tsb_walk.specs.Inside.{KeepsInside}
 use Rattle.tsb_walk.specs.Knowing.{ReadsWell}
 use Rattle.board.specs.Past.{Past}
 use Rattle.query_threads.specs.Looks.{AreSettled, AreTheSettled}
-use Rattle.query_threads.specs.Turns.{IsTold}
+use Rattle.query_threads.specs.Turns.{IsReported}
 use Rattle.disk_archive.specs.declared.ask_error.AskError.{AskError}
 use Rattle.disk_archive.specs.declared.ask_error.AskError.TheVariants as asks
 use Rattle.disk_archive.specs.declared.cursor.Cursor.{Cursor}
 use Rattle.disk_archive.specs.declared.errand.Errand.{Errand}
-use Rattle.disk_archive.specs.Descents.{Lies, LiesKnown}
-use Rattle.shared_archive.specs.Carried.{LiesInPast}
+use Rattle.disk_archive.specs.Descents.{Located, LocatedKnown}
+use Rattle.shared_archive.specs.Represented.{LocatedInPast}
 use Rattle.shared_archive.specs.inner.StoreCalls.{of_ask}
 use Rattle.shared_archive.proofs.Blocks.{block_of, entry_of}
 
@@ -25,17 +25,17 @@ pub not_answered : {R : Type 0} (down : Bool) (h : History) (query : Query) (e :
     → ((mark : ℕ) → (◌≡◌ {A = Result R AskError} (Err e) (Err (asks.AboveWatermark mark))) ↔ ((down ≡ false) × (mark ≡ settled h) × (settled h ≤ last_moment query)))
     → ((page : ℕ) → e ≡ asks.BadNode page → ⊥)
     → ((block : ℕ) → e ≡ asks.Damaged block → ⊥)
-    → IsTold (of_ask e) h query
+    → IsReported (of_ask e) h query
 not_answered down h query asks.NeedsRecovery above sound undamaged = tt
-not_answered down h query (asks.AboveWatermark mark) above sound undamaged = let told = (above mark).0 refl in (told.1, told.2)
+not_answered down h query (asks.AboveWatermark mark) above sound undamaged = let reported = (above mark).0 refl in (reported.1, reported.2)
 not_answered down h query (asks.BadNode page) above sound undamaged = sound page refl
 not_answered down h query (asks.Damaged block) above sound undamaged = undamaged block refl
 not_answered down h query asks.Fault above sound undamaged = tt
 not_answered down h query asks.OutOfMemory above sound undamaged = tt
 
 -- an errand that lies in settled blocks lies in those of the past, which are these
-pub lies_past : (count : ℕ) (known : ℕ → Option (List ℕ)) (errand : Errand) (c : Cursor) (p : Past) → AreTheSettled count known p.blocks → Lies count known errand c p.history → LiesInPast count errand c p
-lies_past count known errand c p are l other same = record {
+pub located_past : (count : ℕ) (known : ℕ → Option (List ℕ)) (errand : Errand) (c : Cursor) (p : Past) → AreTheSettled count known p.blocks → Located count known errand c p.history → LocatedInPast count errand c p
+located_past count known errand c p are l other same = record {
   right = l.right;
   below = l.below;
   gathered = l.gathered;
@@ -55,9 +55,9 @@ module _ {O Pen Seen : Type 0} (device : Ghosts O Pen Seen) (reader : ShelfReade
   keeps_inside are = λ n block k. (are n block (block_of (kept_blocks reader) n block k)).0
 
   -- the errand lies in the blocks that the reader knows
-  pub lies_known : (errand : Errand) (c : Cursor) (p : Past) → AreSettled (device.block_count (reader_disk reader)) (device.known seen) (kept_blocks reader) → device.honest_seen (reader_disk reader) seen → LiesInPast (device.block_count (reader_disk reader)) errand c p
-      → AreTheSettled (device.block_count (reader_disk reader)) (device.known seen) p.blocks → LiesKnown device reader seen errand c p.history
-  lies_known errand c p are honest l past = record { well = reads_well are honest; lies = l (device.known seen) past }
+  pub located_known : (errand : Errand) (c : Cursor) (p : Past) → AreSettled (device.block_count (reader_disk reader)) (device.known seen) (kept_blocks reader) → device.honest_seen (reader_disk reader) seen → LocatedInPast (device.block_count (reader_disk reader)) errand c p
+      → AreTheSettled (device.block_count (reader_disk reader)) (device.known seen) p.blocks → LocatedKnown device reader seen errand c p.history
+  located_known errand c p are honest l past = record { well = reads_well are honest; located = l (device.known seen) past }
 
   -- what a reader keeps afterwards is settled still
   pub settled_still : (new : ShelfReader O Pen Seen device) (seen' : Seen) → ReadsWell device new seen' → KeepsInside device new → reader_disk new ≡ reader_disk reader → device.known seen' ≡ device.known seen → AreSettled (device.block_count (reader_disk reader)) (device.known seen) (kept_blocks new)

@@ -1,5 +1,5 @@
 mod Blocks
 mod Serving
 mod Asking
-mod Telling
+mod Reporting
 mod Renewing

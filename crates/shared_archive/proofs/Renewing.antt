@@ -1,4 +1,4 @@
--- What the disks of an archive carry, while it is opened again.
+-- What the disks of an archive represent, while it is opened again.
 use Rattle.std.proofs.Common.{◌≡◌, ◌∙◌, ◌⊎◌, ◌<◌, ◌++◌, inl, inr, ℕ, zero, suc, List, [], ◌∷◌, length, Some, Result, Ok, Err, OnOk, IfErr, refl, sym, ap, subst, arith}
 use Rattle.std.specs.List.{slice_get}
 use Rattle.disk_models.specs.declared.erase.EraseDisk.{Ghosts as EraseGhosts}
@@ -12,32 +12,32 @@ use Rattle.buffer_pool.specs.Pool.{journal_of}
 use Rattle.page_tx.specs.Tx.{pool_of}
 use Rattle.route_meaning.specs.History.{History, IsHistory, Begins}
 use Rattle.route_meaning.proofs.api.Beginning.{Begins-refl}
-use Rattle.archive_pages.proofs.api.Bearing.{bears_grown}
+use Rattle.archive_pages.proofs.api.Representing.{head_represents_grown}
 use Rattle.board.specs.Past.{Past, GoesOnAs}
 use Rattle.query_threads.specs.Looks.{AreTheSettled}
 use Rattle.query_threads.specs.declared.refusal.Trouble.{Trouble}
 use Rattle.query_threads.specs.declared.refusal.Trouble.TheVariants as troubles
 use Rattle.disk_archive.specs.declared.archive.Archive.{Archive}
-use Rattle.disk_archive.specs.Archives.{Carries, GoesOn, erase_of, erase_state, once_of, once_state, pen_in, site_of}
+use Rattle.disk_archive.specs.Archives.{Represents, GoesOn, erase_of, erase_state, once_of, once_state, pen_in, site_of}
 use Rattle.disk_archive.specs.Creations.{CountsOne}
 use Rattle.disk_archive.specs.declared.open_error.OpenError.{OpenError}
 use Rattle.disk_archive.specs.declared.open_error.OpenError.TheVariants as openings
 use Rattle.disk_archive.specs.Openings.{ReadsAs}
-use Rattle.disk_archive.specs.Sites.{IsNoted, LeftCarries, Rests, Site}
-use Rattle.disk_archive.specs.Trees.{TreeLies}
+use Rattle.disk_archive.specs.Sites.{IsNoted, LeftRepresents, Rests, Site}
+use Rattle.disk_archive.specs.Trees.{TreeLocated}
 use Rattle.disk_archive.proofs.api.Trees.{tree_grows}
-use Rattle.shared_archive.specs.Carried.{CarriesPast, ring_pages}
+use Rattle.shared_archive.specs.Represented.{RepresentsPast, ring_pages}
 use Rattle.shared_archive.specs.Held.{AreDisks, HoldsPast, LacksPast, RestOn, disk_at, disk_in, pages_in, right_held}
 use Rattle.shared_archive.specs.Reopened.{Fails, IsAway, IsOpen, IsUp, Reopens, erase_faults, erase_faults_at, pen_faults, pen_faults_at}
-use Rattle.shared_archive.specs.Told.{Failed}
-use Rattle.shared_archive.proofs.Telling.{counts_one}
+use Rattle.shared_archive.specs.Reported.{Failed}
+use Rattle.shared_archive.proofs.Reporting.{counts_one}
 use Rattle.shared_archive.specs.inner.StoreCalls.{of_open}
 use Rattle.shared_archive.specs.declared.held.Disks.{Disks}
 use Rattle.shared_archive.specs.declared.held.Held.{Held}
 use Rattle.shared_archive.specs.declared.held.Held.TheVariants.{Open, Shut as Closed}
 use Rattle.shared_archive.proofs.Serving.{honest_of}
 
--- whatever a crash leaves now of an archive that goes on with a history carries one that it begins
+-- whatever a crash leaves now of an archive that goes on with a history represents one that it begins
 pub going_rests : {E O Pen Seen : Type 0} {erase : EraseGhosts E} {once : OnceGhosts O Pen Seen} (a : Archive E O Pen Seen erase once) (h : History) → GoesOn a h → Rests (site_of a) (erase_state a) (once_state a) h
 going_rests {erase = erase} {once = once} a h (inl k) = λ left now. (
   h,
@@ -45,11 +45,11 @@ going_rests {erase = erase} {once = once} a h (inl k) = λ left now. (
   record {
     pages = k.pages;
     means = kept_recovers erase (journal_of (pool_of a.tx)) k.pages k.maps.keeps left.erase now.erase;
-    carries = record {
+    represents = record {
       head = a.head;
       valid = k.valid;
       first = k.first;
-      bears = bears_grown (TreeLies (once.block_count (once_of a))) (tree_grows (once.block_count (once_of a))) a.settings (settled_in (once_state a)) (settled_in left.once) now.settled a.head k.pages h k.bears;
+      head_represents = head_represents_grown (TreeLocated (once.block_count (once_of a))) (tree_grows (once.block_count (once_of a))) a.settings (settled_in (once_state a)) (settled_in left.once) now.settled a.head k.pages h k.head_represents;
     };
   },
 )
@@ -81,16 +81,16 @@ module _ {E O Pen Seen : Type 0} (erase : EraseGhosts E) (once : OnceGhosts O Pe
     blocks = r.blocks;
   }
 
-  -- what the disks read as carries a history that the past's begins
+  -- what the disks read as represents a history that the past's begins
   pub rest_reads : (g : History) × Begins p.history g × ReadsAs r.site (once.block_count disks.once.value) (erase.model disks.erase) (once.model disks.pen) g
   rest_reads =
       let e = erase.model disks.erase in
       let o = once.model disks.pen in
       let f = r.rests (present e o) (present_now e o) in
-      (f.0, f.1, record { count = r.count; noted = r.noted; carries = f.2 })
+      (f.0, f.1, record { count = r.count; noted = r.noted; represents = f.2 })
 
--- the disks that an archive gives up carry what it carries
-pub rest_of : {E O Pen Seen : Type 0} {erase : EraseGhosts E} {once : OnceGhosts O Pen Seen} (a : Archive E O Pen Seen erase once) (p : Past) → CarriesPast a p → (disks : Disks E O Pen Seen) → disks.erase ≡ erase_of a → disks.once.value ≡ once_of a → disks.pen ≡ pen_in a
+-- the disks that an archive gives up represent what it represents
+pub rest_of : {E O Pen Seen : Type 0} {erase : EraseGhosts E} {once : OnceGhosts O Pen Seen} (a : Archive E O Pen Seen erase once) (p : Past) → RepresentsPast a p → (disks : Disks E O Pen Seen) → disks.erase ≡ erase_of a → disks.once.value ≡ once_of a → disks.pen ≡ pen_in a
     → (ring : ℕ) → ring_pages a ≡ ring → RestOn erase once disks ring p
 rest_of {erase = erase} {once = once} a p k disks e o n ring same = record {
   erasable = subst (λ x. erase.honest x) (sym e) (honest_of a p k).0;
@@ -103,10 +103,10 @@ rest_of {erase = erase} {once = once} a p k disks e o n ring same = record {
   blocks = subst (λ x. AreTheSettled (once.block_count x) (once.model disks.pen).settled p.blocks) (sym o) (subst (λ x. AreTheSettled (once.block_count (once_of a)) (once.model x).settled p.blocks) (sym n) k.blocks);
 }
 
--- an archive that was opened on disks carries what they read as, with their blocks
-pub carried_on : {E O Pen Seen : Type 0} {erase : EraseGhosts E} {once : OnceGhosts O Pen Seen} (a : Archive E O Pen Seen erase once) (g : History) (p : Past) (disk : O) (o : OnceState) → Carries a g → once_of a ≡ disk → once_state a ≡ o → AreTheSettled (once.block_count disk) o.settled p.blocks
-    → CarriesPast a (record { history = g; blocks = p.blocks })
-carried_on {once = once} a g p disk o k is same blocks = record {
+-- an archive that was opened on disks represents what they read as, with their blocks
+pub represented_on : {E O Pen Seen : Type 0} {erase : EraseGhosts E} {once : OnceGhosts O Pen Seen} (a : Archive E O Pen Seen erase once) (g : History) (p : Past) (disk : O) (o : OnceState) → Represents a g → once_of a ≡ disk → once_state a ≡ o → AreTheSettled (once.block_count disk) o.settled p.blocks
+    → RepresentsPast a (record { history = g; blocks = p.blocks })
+represented_on {once = once} a g p disk o k is same blocks = record {
   goes_on = inl k;
   blocks = subst (λ x. AreTheSettled (once.block_count x) (once_state a).settled p.blocks) (sym is) (subst (λ (y : OnceState). AreTheSettled (once.block_count disk) y.settled p.blocks) (sym same) blocks);
 }
@@ -157,7 +157,7 @@ module _ {E O Pen Seen : Type 0} {erase : EraseGhosts E} {once : OnceGhosts O Pe
   pub stays_held : (held : Held E O Pen Seen erase once) (p : Past) → HoldsPast held p → GoesOnAs p p
   stays_held held p k = record { right = right_held held p k; begins = Begins-refl p.history; blocks = λ n octets b. b }
 
-  -- a held archive carries a past only on disks that follow their models
+  -- a held archive represents a past only on disks that follow their models
   pub holds_honest : (held : Held E O Pen Seen erase once) (p : Past) → HoldsPast held p → (e : E) × erase.honest e
   holds_honest (Open a) p k = (erase_of a, (honest_of a p k).0)
   holds_honest (Closed s) p k = (k.disks.erase, k.lacks.rest.erasable)
@@ -180,7 +180,7 @@ module _ {E O Pen Seen : Type 0} {erase : EraseGhosts E} {once : OnceGhosts O Pe
   reopens_by a mid b disks (Ok done) e p same pen taken opens fails = (opens.0, λ x k. opens.1 x (taken x k))
   reopens_by a mid b disks (Err t) e p same pen taken opens fails = fails_of (IsAway a) e (erase_faults a) (erase_faults b) p (pen_faults a) (pen_faults b) t same pen fails
 
-  -- the same where no past can be carried
+  -- the same where no past can be represented
   pub reopens_files : (a b : Held E O Pen Seen erase once) (r : Result (Unit {0}) Trouble) (e p : ℕ) → e ≡ erase_faults a → p ≡ pen_faults a → ((x : Past) → HoldsPast a x → ⊥) → OnOk r (IsOpen b) → IfErr r (λ t. Fails ⊥ e (erase_faults b) p (pen_faults b) t) → Reopens a r b
   reopens_files a b (Ok done) e p same pen never opens fails = (opens, λ x k. absurd (never x k))
   reopens_files a b (Err t) e p same pen never opens fails = fails_of (IsAway a) e (erase_faults a) (erase_faults b) p (pen_faults a) (pen_faults b) t same pen fails

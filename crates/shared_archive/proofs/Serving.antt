@@ -1,4 +1,4 @@
--- What calls do to a past that an archive carries.
+-- What calls do to a past that an archive represents.
 use Rattle.std.proofs.Common.{◌≡◌, ◌∙◌, ◌↔◌, ◌<◌, ◌≤◌, ◌+◌, ◌*◌, ℕ, Bool, false, List, [], length, map, sum_by, Option, Some, None, Err, Result, refl, sym, ap, subst, arith, ⊎_elim}
 use Rattle.std.specs.List.{slice_get}
 use Rattle.std.specs.Option.{option_map}
@@ -41,25 +41,25 @@ use Rattle.disk_archive.specs.declared.flush_error.FlushError.TheVariants as flu
 use Rattle.disk_archive.specs.Archives.{GoesOn, IsHonest, once_of, once_state, settings_of}
 use Rattle.disk_archive.specs.Limits.{IsCounterFull, IsRingFull}
 use Rattle.disk_archive.specs.Moves.{Moves}
-use Rattle.shared_archive.specs.Carried.{CarriesPast}
+use Rattle.shared_archive.specs.Represented.{RepresentsPast}
 use Rattle.shared_archive.specs.inner.StoreCalls.{of_admit, of_apply, of_block, of_flush, of_mark}
 use Rattle.shared_archive.proofs.Blocks.{listed, listed_are}
 
-module _ {E O Pen Seen : Type 0} {erase : EraseGhosts E} {once : OnceGhosts O Pen Seen} (a : Archive E O Pen Seen erase once) (p : Past) (k : CarriesPast a p) where
+module _ {E O Pen Seen : Type 0} {erase : EraseGhosts E} {once : OnceGhosts O Pen Seen} (a : Archive E O Pen Seen erase once) (p : Past) (k : RepresentsPast a p) where
   -- an archive goes on with a history only on disks that follow their models
   pub honest_of : IsHonest a
-  honest_of = ⊎_elim (λ carries. carries.honest) (λ waits. waits.honest) k.goes_on
+  honest_of = ⊎_elim (λ represents. represents.honest) (λ waits. waits.honest) k.goes_on
 
   -- the history is right
   pub right_of : IsHistory p.history
-  right_of = ⊎_elim (λ carries. carries.bears.right) (λ waits. waits.told.right) k.goes_on
+  right_of = ⊎_elim (λ represents. represents.head_represents.right) (λ waits. waits.reported.right) k.goes_on
 
   -- and has as many collectors as the archive was made with
   pub number_of : length p.history.intakes ≡ (settings_of a).collectors
-  number_of = ⊎_elim (λ carries. carries.bears.number) (λ waits. waits.told.number) k.goes_on
+  number_of = ⊎_elim (λ represents. represents.head_represents.number) (λ waits. waits.reported.number) k.goes_on
 
   -- the archive goes on with a history that this one begins, and with the same blocks
-  pub same_blocks : (z : Archive E O Pen Seen erase once) (g : History) → once_of z ≡ once_of a → once_state z ≡ once_state a → GoesOn z g → CarriesPast z (record { history = g; blocks = p.blocks })
+  pub same_blocks : (z : Archive E O Pen Seen erase once) (g : History) → once_of z ≡ once_of a → once_state z ≡ once_state a → GoesOn z g → RepresentsPast z (record { history = g; blocks = p.blocks })
   same_blocks z g disk state on = record {
     goes_on = on;
     blocks = subst (λ (s : OnceState). AreTheSettled (once.block_count (once_of z)) s.settled p.blocks) (sym state) (subst (λ (d : O). AreTheSettled (once.block_count d) (once_state a).settled p.blocks) (sym disk) k.blocks);
@@ -69,7 +69,7 @@ module _ {E O Pen Seen : Type 0} {erase : EraseGhosts E} {once : OnceGhosts O Pe
   on_same_blocks g begins = record { right = right_of; begins = begins; blocks = λ n octets b. b }
 
   -- the same with more blocks
-  pub more_blocks : (z : Archive E O Pen Seen erase once) (g : History) → GoesOn z g → CarriesPast z (record { history = g; blocks = listed (once.block_count (once_of z)) (once_state z).settled })
+  pub more_blocks : (z : Archive E O Pen Seen erase once) (g : History) → GoesOn z g → RepresentsPast z (record { history = g; blocks = listed (once.block_count (once_of z)) (once_state z).settled })
   more_blocks z g on = record { goes_on = on; blocks = listed_are (once.block_count (once_of z)) (once_state z).settled }
 
   pub on_more_blocks : (z : Archive E O Pen Seen erase once) (g : History) → once_of z ≡ once_of a → Grows (once_state a) (once_state z) → Begins p.history g → GoesOnAs p (record { history = g; blocks = listed (once.block_count (once_of z)) (once_state z).settled })

@@ -1,4 +1,4 @@
--- What a held archive carries, whether it is open or waits to be opened again.
+-- What a held archive represents, whether it is open or waits to be opened again.
 use Rattle.std.specs.Prelude.{◌≡◌, ◌<◌, ℕ, List, length, Option, Some, None, slice_get}
 use Rattle.disk_models.specs.declared.erase.EraseDisk.{Ghosts as EraseGhosts}
 use Rattle.disk_models.specs.declared.once.OnceDisk.{Ghosts as OnceGhosts}
@@ -12,8 +12,8 @@ use Rattle.query_threads.specs.declared.refusal.Trouble.TheVariants.{NeedsRecove
 use Rattle.query_threads.specs.declared.refusal.Flush.{Flush}
 use Rattle.disk_archive.specs.Archives.{erase_of, once_of, pen_in}
 use Rattle.disk_archive.specs.Sites.{Site, IsNoted, Rests}
-use Rattle.shared_archive.specs.Carried.{CarriesPast, right_going, ring_pages}
-use Rattle.shared_archive.specs.Told.{Flushes, Tells}
+use Rattle.shared_archive.specs.Represented.{RepresentsPast, right_going, ring_pages}
+use Rattle.shared_archive.specs.Reported.{Flushes, Reports}
 use Rattle.shared_archive.specs.declared.held.Disks.{Disks}
 use Rattle.shared_archive.specs.declared.held.Shut.{Shut}
 use Rattle.shared_archive.specs.declared.held.Held.{Held}
@@ -52,7 +52,7 @@ pub record Remembers {E O Pen Seen : Type 0} {once : OnceGhosts O Pen Seen} (s :
   pub counts : AreCounts s.counts.items h
 
 -- Disks that follow their models, of an archive with `ring` pages in each ring. Whatever they read as, or a crash may leave of them now,
--- carries a history that the past's begins, and exactly the past's blocks are settled.
+-- represents a history that the past's begins, and exactly the past's blocks are settled.
 pub record RestOn {E O Pen Seen : Type 0} (erase : EraseGhosts E) (once : OnceGhosts O Pen Seen) (disks : Disks E O Pen Seen) (ring : ℕ) (p : Past) : Type 0 where
   pub erasable : erase.honest disks.erase
   pub burnable : once.honest disks.once.value disks.pen
@@ -63,7 +63,7 @@ pub record RestOn {E O Pen Seen : Type 0} (erase : EraseGhosts E) (once : OnceGh
   pub rests : Rests site (erase.model disks.erase) (once.model disks.pen) p.history
   pub blocks : AreTheSettled (once.block_count disks.once.value) (once.model disks.pen).settled p.blocks
 
--- with these disks, which are away, it carries the past
+-- with these disks, which are away, it represents the past
 pub record Lacks {E O Pen Seen : Type 0} (erase : EraseGhosts E) (once : OnceGhosts O Pen Seen) (s : Shut E O Pen Seen once) (disks : Disks E O Pen Seen) (p : Past) : Type 0 where
   pub remembers : Remembers s p.history
   pub rest : RestOn erase once disks s.ring p
@@ -76,7 +76,7 @@ pub record ShutPast {E O Pen Seen : Type 0} (erase : EraseGhosts E) (once : Once
 
 -- What it holds stands for the past. Where it isn't open, what is found when it is opened stands for one that this begins.
 abbrev pub HoldsPast : {E O Pen Seen : Type 0} {erase : EraseGhosts E} {once : OnceGhosts O Pen Seen} → Held E O Pen Seen erase once → Past → Type 0
-HoldsPast (Open a) p = CarriesPast a p
+HoldsPast (Open a) p = RepresentsPast a p
 HoldsPast {erase = erase} {once = once} (Closed s) p = ShutPast erase once s p
 
 -- a history that it holds is right
@@ -84,16 +84,16 @@ abbrev pub right_held : {E O Pen Seen : Type 0} {erase : EraseGhosts E} {once : 
 right_held (Open a) p holds = right_going a p.history holds.goes_on
 right_held (Closed s) p holds = holds.lacks.remembers.right
 
--- it isn't open, and with these disks it carries the past
+-- it isn't open, and with these disks it represents the past
 abbrev pub LacksPast : {E O Pen Seen : Type 0} {erase : EraseGhosts E} {once : OnceGhosts O Pen Seen} → Held E O Pen Seen erase once → Disks E O Pen Seen → Past → Type 0
 LacksPast (Open a) disks p = ⊥
 LacksPast {erase = erase} {once = once} (Closed s) disks p = Lacks erase once s disks p
 
--- A call was refused for this trouble: where the archive is open, as Tells says, and else because it must be opened again.
-abbrev pub HeldTells : {E O Pen Seen : Type 0} {erase : EraseGhosts E} {once : OnceGhosts O Pen Seen} → Held E O Pen Seen erase once → Trouble → Held E O Pen Seen erase once → Type 0
-HeldTells (Open a) trouble (Open b) = Tells a trouble b
-HeldTells (Open a) trouble (Closed t) = ⊥
-HeldTells (Closed s) trouble b = trouble ≡ NeedsRecovery
+-- A call was refused for this trouble: where the archive is open, as `Reports` says, and else because it must be opened again.
+abbrev pub HeldReports : {E O Pen Seen : Type 0} {erase : EraseGhosts E} {once : OnceGhosts O Pen Seen} → Held E O Pen Seen erase once → Trouble → Held E O Pen Seen erase once → Type 0
+HeldReports (Open a) trouble (Open b) = Reports a trouble b
+HeldReports (Open a) trouble (Closed t) = ⊥
+HeldReports (Closed s) trouble b = trouble ≡ NeedsRecovery
 
 -- a step of flushing did this, which it does of an archive that is open alone
 abbrev pub HeldFlushes : {E O Pen Seen : Type 0} {erase : EraseGhosts E} {once : OnceGhosts O Pen Seen} → Held E O Pen Seen erase once → Flush → Held E O Pen Seen erase once → Type 0

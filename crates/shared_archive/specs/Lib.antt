@@ -1,5 +1,5 @@
-pub mod Carried
-pub mod Told
+pub mod Represented
+pub mod Reported
 pub mod Held
 pub mod Reopened
 pub mod inner

@@ -5,8 +5,8 @@ ghost use Rattle.board.specs.Past.{Past, GoesOnAs};
 ghost use Rattle.query_threads.specs.Steps.{IsCrowded, DoesAdmit, DoesMark, DoesApply, DoesFlush};
 ghost use Rattle.query_threads.specs.Troubles.{OnAdmitTrouble, OnMarkTrouble};
 ghost use Rattle.disk_archive.specs.Archives.{once_of};
-ghost use Rattle.shared_archive.specs.Carried.{CarriesPast, ring_pages};
-ghost use Rattle.shared_archive.specs.Told.{Flushes, Tells};
+ghost use Rattle.shared_archive.specs.Represented.{RepresentsPast, ring_pages};
+ghost use Rattle.shared_archive.specs.Reported.{Flushes, Reports};
 
 use crate::refusals::{admit_refusal, apply_trouble, flush_trouble, mark_refusal};
 use disk_archive::Archive;
@@ -21,9 +21,9 @@ pub(crate) fn admit<E: EraseDisk + Drop, O: OnceDisk + Drop>(
     collector: u8,
     batch: &[Admission],
 ) -> Result<BatchReply, AdmitError>
-    ensures done { (p : Past) → CarriesPast archive.old p → (q : Past) × GoesOnAs p q × CarriesPast archive.new q × DoesAdmit collector batch.now result p.history q.history }
-    ensures full { (p : Past) → CarriesPast archive.old p → result ≡ Err AdmitError.IntakeFull → IsCrowded (ring_pages archive.old) p.history collector batch.now }
-    ensures trouble { IfErr result (OnAdmitTrouble (λ t. Tells archive.old t archive.new)) }
+    ensures done { (p : Past) → RepresentsPast archive.old p → (q : Past) × GoesOnAs p q × RepresentsPast archive.new q × DoesAdmit collector batch.now result p.history q.history }
+    ensures full { (p : Past) → RepresentsPast archive.old p → result ≡ Err AdmitError.IntakeFull → IsCrowded (ring_pages archive.old) p.history collector batch.now }
+    ensures trouble { IfErr result (OnAdmitTrouble (λ t. Reports archive.old t archive.new)) }
     ensures disk { once_of archive.new ≡ once_of archive.old }
     ensures pages { ring_pages archive.new ≡ ring_pages archive.old }
 {
@@ -39,8 +39,8 @@ pub(crate) fn mark<E: EraseDisk + Drop, O: OnceDisk + Drop>(
     collector: u8,
     mark: Mark,
 ) -> Result<(), MarkError>
-    ensures done { (p : Past) → CarriesPast archive.old p → (q : Past) × GoesOnAs p q × CarriesPast archive.new q × DoesMark collector mark result p.history q.history }
-    ensures trouble { IfErr result (OnMarkTrouble (λ t. Tells archive.old t archive.new)) }
+    ensures done { (p : Past) → RepresentsPast archive.old p → (q : Past) × GoesOnAs p q × RepresentsPast archive.new q × DoesMark collector mark result p.history q.history }
+    ensures trouble { IfErr result (OnMarkTrouble (λ t. Reports archive.old t archive.new)) }
     ensures disk { once_of archive.new ≡ once_of archive.old }
     ensures pages { ring_pages archive.new ≡ ring_pages archive.old }
 {
@@ -54,8 +54,8 @@ pub(crate) fn mark<E: EraseDisk + Drop, O: OnceDisk + Drop>(
 pub(crate) fn apply_step<E: EraseDisk + Drop, O: OnceDisk + Drop>(
     archive: &mut Archive<E, O>,
 ) -> Result<Step, Trouble>
-    ensures done { (p : Past) → CarriesPast archive.old p → (q : Past) × GoesOnAs p q × CarriesPast archive.new q × DoesApply result p.history q.history }
-    ensures trouble { IfErr result (λ t. Tells archive.old t archive.new) }
+    ensures done { (p : Past) → RepresentsPast archive.old p → (q : Past) × GoesOnAs p q × RepresentsPast archive.new q × DoesApply result p.history q.history }
+    ensures trouble { IfErr result (λ t. Reports archive.old t archive.new) }
     ensures disk { once_of archive.new ≡ once_of archive.old }
     ensures pages { ring_pages archive.new ≡ ring_pages archive.old }
 {
@@ -70,9 +70,9 @@ pub(crate) fn apply_step<E: EraseDisk + Drop, O: OnceDisk + Drop>(
 pub(crate) fn flush_step<E: EraseDisk + Drop, O: OnceDisk + Drop>(
     archive: &mut Archive<E, O>,
 ) -> Result<Flush, Trouble>
-    ensures done { (p : Past) → CarriesPast archive.old p → (q : Past) × GoesOnAs p q × CarriesPast archive.new q × DoesFlush result p.history q.history }
+    ensures done { (p : Past) → RepresentsPast archive.old p → (q : Past) × GoesOnAs p q × RepresentsPast archive.new q × DoesFlush result p.history q.history }
     ensures flushes { IfOk result (λ step. Flushes archive.old step archive.new) }
-    ensures trouble { IfErr result (λ t. Tells archive.old t archive.new) }
+    ensures trouble { IfErr result (λ t. Reports archive.old t archive.new) }
     ensures disk { once_of archive.new ≡ once_of archive.old }
     ensures pages { ring_pages archive.new ≡ ring_pages archive.old }
 {

@@ -8,11 +8,11 @@ ghost use Rattle.board.specs.Past.{Past, GoesOnAs, count_of};
 ghost use Rattle.query_threads.specs.Looks.{AreTheSettled};
 ghost use Rattle.query_threads.specs.Steps.{IsCrowded, DoesAdmit, DoesMark, DoesApply, DoesFlush};
 ghost use Rattle.query_threads.specs.Troubles.{IsOutside, OnAdmitTrouble, OnAskTrouble, OnMarkTrouble};
-ghost use Rattle.query_threads.specs.Turns.{TurnGives, IsTold};
+ghost use Rattle.query_threads.specs.Turns.{TurnGives, IsReported};
 ghost use Rattle.once_store.specs.Readers.{kept_blocks, reader_disk};
 ghost use Rattle.disk_archive.specs.Cursors.{IsGathered, asks};
 ghost use Rattle.disk_archive.specs.Descents.{IsErrandFor};
-ghost use Rattle.shared_archive.specs.Carried.{LiesInPast};
+ghost use Rattle.shared_archive.specs.Represented.{LocatedInPast};
 
 use crate::held::Held;
 use crate::{calls, turns};
@@ -24,7 +24,7 @@ use query_threads::{AdmitError, AskError, Flush, MarkError, Step, Trouble, Turn}
 use route_model::{Admission, Mark};
 
 impl<E: EraseDisk + Drop, O: OnceDisk + Drop> Held<E, O> {
-    ghost use Rattle.shared_archive.specs.Held.{HeldFlushes, HeldTells, HoldsPast, disk_in, pages_in};
+    ghost use Rattle.shared_archive.specs.Held.{HeldFlushes, HeldReports, HoldsPast, disk_in, pages_in};
 
     /// How many collectors there are.
     pub fn collectors(&self) -> u8
@@ -73,7 +73,7 @@ impl<E: EraseDisk + Drop, O: OnceDisk + Drop> Held<E, O> {
     pub fn admit(&mut self, collector: u8, batch: &[Admission]) -> Result<BatchReply, AdmitError>
         ensures done { (p : Past) → HoldsPast self.old p → (q : Past) × GoesOnAs p q × HoldsPast self.new q × DoesAdmit collector batch.now result p.history q.history }
         ensures full { (p : Past) → HoldsPast self.old p → result ≡ Err AdmitError.IntakeFull → IsCrowded (pages_in self.old) p.history collector batch.now }
-        ensures trouble { IfErr result (OnAdmitTrouble (λ t. HeldTells self.old t self.new)) }
+        ensures trouble { IfErr result (OnAdmitTrouble (λ t. HeldReports self.old t self.new)) }
         ensures disk { disk_in self.new ≡ disk_in self.old }
         ensures pages { pages_in self.new ≡ pages_in self.old }
     {
@@ -86,7 +86,7 @@ impl<E: EraseDisk + Drop, O: OnceDisk + Drop> Held<E, O> {
     /// Raises the mark of a collector.
     pub fn mark(&mut self, collector: u8, mark: Mark) -> Result<(), MarkError>
         ensures done { (p : Past) → HoldsPast self.old p → (q : Past) × GoesOnAs p q × HoldsPast self.new q × DoesMark collector mark result p.history q.history }
-        ensures trouble { IfErr result (OnMarkTrouble (λ t. HeldTells self.old t self.new)) }
+        ensures trouble { IfErr result (OnMarkTrouble (λ t. HeldReports self.old t self.new)) }
         ensures disk { disk_in self.new ≡ disk_in self.old }
         ensures pages { pages_in self.new ≡ pages_in self.old }
     {
@@ -99,7 +99,7 @@ impl<E: EraseDisk + Drop, O: OnceDisk + Drop> Held<E, O> {
     /// Applies the next change, and perhaps some more.
     pub fn apply_step(&mut self) -> Result<Step, Trouble>
         ensures done { (p : Past) → HoldsPast self.old p → (q : Past) × GoesOnAs p q × HoldsPast self.new q × DoesApply result p.history q.history }
-        ensures trouble { IfErr result (λ t. HeldTells self.old t self.new) }
+        ensures trouble { IfErr result (λ t. HeldReports self.old t self.new) }
         ensures disk { disk_in self.new ≡ disk_in self.old }
         ensures pages { pages_in self.new ≡ pages_in self.old }
     {
@@ -113,7 +113,7 @@ impl<E: EraseDisk + Drop, O: OnceDisk + Drop> Held<E, O> {
     pub fn flush_step(&mut self) -> Result<Flush, Trouble>
         ensures done { (p : Past) → HoldsPast self.old p → (q : Past) × GoesOnAs p q × HoldsPast self.new q × DoesFlush result p.history q.history }
         ensures flushes { IfOk result (λ step. HeldFlushes self.old step self.new) }
-        ensures trouble { IfErr result (λ t. HeldTells self.old t self.new) }
+        ensures trouble { IfErr result (λ t. HeldReports self.old t self.new) }
         ensures disk { disk_in self.new ≡ disk_in self.old }
         ensures pages { pages_in self.new ≡ pages_in self.old }
     {
@@ -125,13 +125,13 @@ impl<E: EraseDisk + Drop, O: OnceDisk + Drop> Held<E, O> {
 
     /// A turn of a question.
     pub fn descend(&mut self, cursor: &mut Cursor) -> Result<Turn<Errand>, AskError>
-        ensures carries { (p : Past) → HoldsPast self.old p → HoldsPast self.new p }
+        ensures represents { (p : Past) → HoldsPast self.old p → HoldsPast self.new p }
         ensures asks { asks cursor.new ≡ asks cursor.old }
         ensures fits { IfOk result (λ turn. TurnGives (λ errand. IsErrandFor cursor.new errand) ⊤ (λ _. ⊤) turn) }
         ensures settled { (p : Past) → HoldsPast self.old p → OnOk result (last_moment (asks cursor.old) < settled p.history) }
-        ensures gives { (p : Past) → HoldsPast self.old p → IsGathered cursor.old p.history → IfOk result (λ turn. TurnGives (λ errand. LiesInPast (O.block_count (disk_in self.old)) errand cursor.new p) (IsGathered cursor.new p.history) (λ answer. IsAnswered (applied p.history) (asks cursor.old) answer) turn) }
-        ensures told { (p : Past) → HoldsPast self.old p → IfErr result (λ e. IsTold e p.history (asks cursor.old)) }
-        ensures trouble { IfErr result (OnAskTrouble (λ t. HeldTells self.old t self.new)) }
+        ensures gives { (p : Past) → HoldsPast self.old p → IsGathered cursor.old p.history → IfOk result (λ turn. TurnGives (λ errand. LocatedInPast (O.block_count (disk_in self.old)) errand cursor.new p) (IsGathered cursor.new p.history) (λ answer. IsAnswered (applied p.history) (asks cursor.old) answer) turn) }
+        ensures reported { (p : Past) → HoldsPast self.old p → IfErr result (λ e. IsReported e p.history (asks cursor.old)) }
+        ensures trouble { IfErr result (OnAskTrouble (λ t. HeldReports self.old t self.new)) }
         ensures disk { disk_in self.new ≡ disk_in self.old }
         ensures pages { pages_in self.new ≡ pages_in self.old }
     {
@@ -143,11 +143,11 @@ impl<E: EraseDisk + Drop, O: OnceDisk + Drop> Held<E, O> {
 
     /// A look at which blocks are settled.
     pub fn seen(&mut self) -> Result<O::Seen, Trouble>
-        ensures carries { (p : Past) → HoldsPast self.old p → HoldsPast self.new p }
+        ensures represents { (p : Past) → HoldsPast self.old p → HoldsPast self.new p }
         ensures honest { (p : Past) → HoldsPast self.old p → IfOk result (λ s. O.honest_seen (disk_in self.old) s) }
         ensures known { (p : Past) → HoldsPast self.old p → IfOk result (λ s. AreTheSettled (O.block_count (disk_in self.old)) (O.known s) p.blocks) }
         ensures sound { (p : Past) → HoldsPast self.old p → IfErr result IsOutside }
-        ensures trouble { IfErr result (λ t. HeldTells self.old t self.new) }
+        ensures trouble { IfErr result (λ t. HeldReports self.old t self.new) }
         ensures disk { disk_in self.new ≡ disk_in self.old }
         ensures pages { pages_in self.new ≡ pages_in self.old }
     {

@@ -4,10 +4,10 @@ ghost use Rattle.std.specs.Prelude.{◌≡◌};
 ghost use Rattle.disk_archive.specs.Cursors.{IsGathered, asks};
 ghost use Rattle.disk_archive.specs.Descents.{IsErrandFor};
 ghost use Rattle.once_store.specs.Readers.{kept_blocks, reader_disk};
-ghost use Rattle.shared_archive.specs.Carried.{LiesInPast, gathered_on};
-ghost use Rattle.shared_archive.specs.Held.{HeldFlushes, HeldTells, HoldsPast, disk_in, pages_in, right_held};
+ghost use Rattle.shared_archive.specs.Represented.{LocatedInPast, gathered_on};
+ghost use Rattle.shared_archive.specs.Held.{HeldFlushes, HeldReports, HoldsPast, disk_in, pages_in, right_held};
 ghost use Rattle.shared_archive.specs.Reopened.{Reopens};
-ghost use Rattle.shared_archive.specs.Told.{Misses};
+ghost use Rattle.shared_archive.specs.Reported.{Misses};
 
 use crate::held::Held;
 use crate::turns;
@@ -49,7 +49,7 @@ impl Store for MemStore {
 
     type Cursor = Cursor;
 
-    ghost carries = { λ store p. HoldsPast store.archive p };
+    ghost represents = { λ store p. HoldsPast store.archive p };
 
     ghost pages = { λ store. pages_in store.archive };
 
@@ -71,13 +71,13 @@ impl Store for MemStore {
 
     ghost fits = { λ errand cursor. IsErrandFor cursor errand };
 
-    ghost lies = { λ errand cursor disk p. LiesInPast (⟦<MemOnce as OnceDisk>⟧.block_count disk) errand cursor p };
+    ghost located = { λ errand cursor disk p. LocatedInPast (⟦<MemOnce as OnceDisk>⟧.block_count disk) errand cursor p };
 
-    ghost right = { λ store p carried. right_held store.archive p carried };
+    ghost right = { λ store p represented. right_held store.archive p represented };
 
     ghost stays = { λ cursor h g right begins below gathered. gathered_on cursor h g begins gathered };
 
-    ghost tells = { λ store trouble then. HeldTells store.archive trouble then.archive };
+    ghost reports = { λ store trouble then. HeldReports store.archive trouble then.archive };
 
     ghost reopens = { λ store returned then. Reopens store.archive returned then.archive };
 

@@ -5,7 +5,7 @@ ghost use Rattle.disk_models.specs.Erase.{Counts};
 ghost use Rattle.route_meaning.specs.History.{Begins};
 ghost use Rattle.board.specs.Past.{Past};
 ghost use Rattle.disk_archive.specs.Archives.{is_down, once_of};
-ghost use Rattle.shared_archive.specs.Carried.{CarriesPast, ring_pages};
+ghost use Rattle.shared_archive.specs.Represented.{RepresentsPast, ring_pages};
 ghost use Rattle.shared_archive.specs.Held.{RestOn};
 ghost use Rattle.shared_archive.specs.Reopened.{Fails};
 ghost use Rattle.shared_archive.specs.inner.StoreCalls.{of_open};
@@ -62,7 +62,7 @@ fn open_synced<E: EraseDisk + Drop, O: OnceDisk + Drop>(
     disks: Disks<E, O>,
     ring: u16,
 ) -> Result<Archive<E, O>, Unopened<E, O>>
-    ensures opened { ((i : ℕ) → ¬ (E.model disks.erase).unsynced i) → (p : Past) → RestOn E.EraseDisk O.OnceDisk disks ring p → IfOk result (λ a. (is_down a ≡ false) × (q : Past) × Begins p.history q.history × (q.blocks ≡ p.blocks) × CarriesPast a q) }
+    ensures opened { ((i : ℕ) → ¬ (E.model disks.erase).unsynced i) → (p : Past) → RestOn E.EraseDisk O.OnceDisk disks ring p → IfOk result (λ a. (is_down a ≡ false) × (q : Past) × Begins p.history q.history × (q.blocks ≡ p.blocks) × RepresentsPast a q) }
     ensures kept { ((i : ℕ) → ¬ (E.model disks.erase).unsynced i) → (p : Past) → RestOn E.EraseDisk O.OnceDisk disks ring p → IfErr result (λ u. RestOn E.EraseDisk O.OnceDisk u.disks ring p) }
     ensures ring { IfOk result (λ a. ring_pages a ≡ ring) }
     ensures disk { IfOk result (λ a. once_of a ≡ disks.once.value) }
@@ -87,13 +87,13 @@ fn open_synced<E: EraseDisk + Drop, O: OnceDisk + Drop>(
 }
 
 /// Opens disks as an archive with rings of `ring` pages, once all that was written is on the device. Where that fails they are handed
-/// back, and carry what they carried.
+/// back, and represent what they represented.
 pub(crate) fn open<E: EraseDisk + Drop, O: OnceDisk + Drop>(
     alloc: Global,
     mut disks: Disks<E, O>,
     ring: u16,
 ) -> Result<Archive<E, O>, Unopened<E, O>>
-    ensures opened { (p : Past) → RestOn E.EraseDisk O.OnceDisk disks ring p → IfOk result (λ a. (is_down a ≡ false) × (q : Past) × Begins p.history q.history × (q.blocks ≡ p.blocks) × CarriesPast a q) }
+    ensures opened { (p : Past) → RestOn E.EraseDisk O.OnceDisk disks ring p → IfOk result (λ a. (is_down a ≡ false) × (q : Past) × Begins p.history q.history × (q.blocks ≡ p.blocks) × RepresentsPast a q) }
     ensures kept { (p : Past) → RestOn E.EraseDisk O.OnceDisk disks ring p → IfErr result (λ u. RestOn E.EraseDisk O.OnceDisk u.disks ring p) }
     ensures ring { IfOk result (λ a. ring_pages a ≡ ring) }
     ensures disk { IfOk result (λ a. once_of a ≡ disks.once.value) }

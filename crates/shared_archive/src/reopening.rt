@@ -3,7 +3,7 @@
 ghost use Rattle.std.specs.Prelude.{◌≡◌, ◌<◌, ◌≤◌, ◌⊎◌, ℕ, length, Some, None, IfErr, IfOk, IfSome, OnErr, OnOk, slice_get};
 ghost use Rattle.board.specs.Past.{Past, GoesOnAs};
 ghost use Rattle.query_threads.specs.Steps.{DoesReopen};
-ghost use Rattle.shared_archive.specs.Carried.{CarriesPast, ring_pages};
+ghost use Rattle.shared_archive.specs.Represented.{RepresentsPast, ring_pages};
 ghost use Rattle.shared_archive.specs.Held.{AreCounts, Remembers};
 ghost use Rattle.shared_archive.specs.Reopened.{Fails};
 
@@ -21,7 +21,7 @@ fn counts_of<E: EraseDisk + Drop, O: OnceDisk + Drop>(
     alloc: Global,
     archive: &Archive<E, O>,
 ) -> Result<Vec<u64>, AllocError>
-    ensures { (p : Past) → CarriesPast archive.now p → IfOk result (λ counts. AreCounts counts.items p.history) }
+    ensures { (p : Past) → RepresentsPast archive.now p → IfOk result (λ counts. AreCounts counts.items p.history) }
 {
     let mut counts = Vec::new(alloc);
     for collector in 0..archive.collectors() {
@@ -35,7 +35,7 @@ fn snapshot_of<E: EraseDisk + Drop, O: OnceDisk + Drop>(
     alloc: Global,
     archive: &Archive<E, O>,
 ) -> Result<Shut<E, O>, Trouble>
-    ensures remembers { (p : Past) → CarriesPast archive.now p → IfOk result (λ shut. Remembers shut p.history) }
+    ensures remembers { (p : Past) → RepresentsPast archive.now p → IfOk result (λ shut. Remembers shut p.history) }
     ensures ring { IfOk result (λ shut. shut.ring ≡ ring_pages archive.now) }
     ensures away { IfOk result (λ shut. shut.disks ≡ None) }
     ensures memory { IfErr result (λ e. e ≡ Trouble.OutOfMemory) }

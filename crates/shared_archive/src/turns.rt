@@ -6,14 +6,14 @@ ghost use Rattle.interleaving_core.specs.Does.{last_moment};
 ghost use Rattle.interleaving_core.specs.Headline.{IsAnswered};
 ghost use Rattle.board.specs.Past.{Past, count_of};
 ghost use Rattle.query_threads.specs.Looks.{AreSettled, AreTheSettled, IsErrandOn};
-ghost use Rattle.query_threads.specs.Turns.{TurnGives, IsTold};
+ghost use Rattle.query_threads.specs.Turns.{TurnGives, IsReported};
 ghost use Rattle.query_threads.specs.Troubles.{IsOutside, OnAskTrouble};
 ghost use Rattle.once_store.specs.Readers.{kept_blocks, reader_disk};
 ghost use Rattle.disk_archive.specs.Archives.{once_of};
 ghost use Rattle.disk_archive.specs.Cursors.{IsGathered, asks};
 ghost use Rattle.disk_archive.specs.Descents.{IsErrandFor};
-ghost use Rattle.shared_archive.specs.Carried.{CarriesPast, LiesInPast, ring_pages};
-ghost use Rattle.shared_archive.specs.Told.{Misses, Tells};
+ghost use Rattle.shared_archive.specs.Represented.{RepresentsPast, LocatedInPast, ring_pages};
+ghost use Rattle.shared_archive.specs.Reported.{Misses, Reports};
 
 use crate::refusals::{ask_refusal, block_trouble};
 use disk_archive::{Archive, Cursor, Descent, Errand};
@@ -27,7 +27,7 @@ pub(crate) fn admitted<E: EraseDisk + Drop, O: OnceDisk + Drop>(
     archive: &Archive<E, O>,
     collector: u8,
 ) -> u64
-    ensures count { (p : Past) → CarriesPast archive.now p → result ≡ count_of p.history collector }
+    ensures count { (p : Past) → RepresentsPast archive.now p → result ≡ count_of p.history collector }
 {
     if collector >= archive.collectors() {
         return 0;
@@ -40,13 +40,13 @@ pub(crate) fn descend<E: EraseDisk + Drop, O: OnceDisk + Drop>(
     archive: &mut Archive<E, O>,
     cursor: &mut Cursor,
 ) -> Result<Turn<Errand>, AskError>
-    ensures carries { (p : Past) → CarriesPast archive.old p → CarriesPast archive.new p }
+    ensures represents { (p : Past) → RepresentsPast archive.old p → RepresentsPast archive.new p }
     ensures asks { asks cursor.new ≡ asks cursor.old }
     ensures fits { IfOk result (λ turn. TurnGives (λ errand. IsErrandFor cursor.new errand) ⊤ (λ _. ⊤) turn) }
-    ensures settled { (p : Past) → CarriesPast archive.old p → OnOk result (last_moment (asks cursor.old) < settled p.history) }
-    ensures gives { (p : Past) → CarriesPast archive.old p → IsGathered cursor.old p.history → IfOk result (λ turn. TurnGives (λ errand. LiesInPast (O.block_count (once_of archive.old)) errand cursor.new p) (IsGathered cursor.new p.history) (λ answer. IsAnswered (applied p.history) (asks cursor.old) answer) turn) }
-    ensures told { (p : Past) → CarriesPast archive.old p → IfErr result (λ e. IsTold e p.history (asks cursor.old)) }
-    ensures trouble { IfErr result (OnAskTrouble (λ t. Tells archive.old t archive.new)) }
+    ensures settled { (p : Past) → RepresentsPast archive.old p → OnOk result (last_moment (asks cursor.old) < settled p.history) }
+    ensures gives { (p : Past) → RepresentsPast archive.old p → IsGathered cursor.old p.history → IfOk result (λ turn. TurnGives (λ errand. LocatedInPast (O.block_count (once_of archive.old)) errand cursor.new p) (IsGathered cursor.new p.history) (λ answer. IsAnswered (applied p.history) (asks cursor.old) answer) turn) }
+    ensures reported { (p : Past) → RepresentsPast archive.old p → IfErr result (λ e. IsReported e p.history (asks cursor.old)) }
+    ensures trouble { IfErr result (OnAskTrouble (λ t. Reports archive.old t archive.new)) }
     ensures disk { once_of archive.new ≡ once_of archive.old }
     ensures pages { ring_pages archive.new ≡ ring_pages archive.old }
 {
@@ -62,11 +62,11 @@ pub(crate) fn descend<E: EraseDisk + Drop, O: OnceDisk + Drop>(
 pub(crate) fn seen<E: EraseDisk + Drop, O: OnceDisk + Drop>(
     archive: &mut Archive<E, O>,
 ) -> Result<O::Seen, Trouble>
-    ensures carries { (p : Past) → CarriesPast archive.old p → CarriesPast archive.new p }
-    ensures honest { (p : Past) → CarriesPast archive.old p → IfOk result (λ s. O.honest_seen (once_of archive.old) s) }
-    ensures known { (p : Past) → CarriesPast archive.old p → IfOk result (λ s. AreTheSettled (O.block_count (once_of archive.old)) (O.known s) p.blocks) }
-    ensures sound { (p : Past) → CarriesPast archive.old p → IfErr result IsOutside }
-    ensures trouble { IfErr result (λ t. Tells archive.old t archive.new) }
+    ensures represents { (p : Past) → RepresentsPast archive.old p → RepresentsPast archive.new p }
+    ensures honest { (p : Past) → RepresentsPast archive.old p → IfOk result (λ s. O.honest_seen (once_of archive.old) s) }
+    ensures known { (p : Past) → RepresentsPast archive.old p → IfOk result (λ s. AreTheSettled (O.block_count (once_of archive.old)) (O.known s) p.blocks) }
+    ensures sound { (p : Past) → RepresentsPast archive.old p → IfErr result IsOutside }
+    ensures trouble { IfErr result (λ t. Reports archive.old t archive.new) }
     ensures disk { once_of archive.new ≡ once_of archive.old }
     ensures pages { ring_pages archive.new ≡ ring_pages archive.old }
 {
@@ -102,12 +102,12 @@ pub(crate) fn finish<O: OnceDisk + Drop>(
     cursor: &mut Cursor,
 ) -> Result<(), Trouble>
     requires fits { IsErrandFor cursor.old errand }
-    ensures kept { (p : Past) → IsErrandOn (λ e disk past. LiesInPast (O.block_count disk) e cursor.old past) O.honest_seen O.block_count O.known p errand seen.old (reader_disk reader.old) → AreSettled (O.block_count (reader_disk reader.old)) (O.known seen.old) (kept_blocks reader.old) → AreSettled (O.block_count (reader_disk reader.old)) (O.known seen.old) (kept_blocks reader.new) }
-    ensures sound { (p : Past) → IsErrandOn (λ e disk past. LiesInPast (O.block_count disk) e cursor.old past) O.honest_seen O.block_count O.known p errand seen.old (reader_disk reader.old) → AreSettled (O.block_count (reader_disk reader.old)) (O.known seen.old) (kept_blocks reader.old) → IfErr result IsOutside }
+    ensures kept { (p : Past) → IsErrandOn (λ e disk past. LocatedInPast (O.block_count disk) e cursor.old past) O.honest_seen O.block_count O.known p errand seen.old (reader_disk reader.old) → AreSettled (O.block_count (reader_disk reader.old)) (O.known seen.old) (kept_blocks reader.old) → AreSettled (O.block_count (reader_disk reader.old)) (O.known seen.old) (kept_blocks reader.new) }
+    ensures sound { (p : Past) → IsErrandOn (λ e disk past. LocatedInPast (O.block_count disk) e cursor.old past) O.honest_seen O.block_count O.known p errand seen.old (reader_disk reader.old) → AreSettled (O.block_count (reader_disk reader.old)) (O.known seen.old) (kept_blocks reader.old) → IfErr result IsOutside }
     ensures trouble { IfErr result (λ t. Misses O.OnceDisk seen.old t seen.new) }
     ensures disk { reader_disk reader.new ≡ reader_disk reader.old }
     ensures asks { asks cursor.new ≡ asks cursor.old }
-    ensures gathered { OnOk result ((p : Past) → IsErrandOn (λ e disk past. LiesInPast (O.block_count disk) e cursor.old past) O.honest_seen O.block_count O.known p errand seen.old (reader_disk reader.old) → AreSettled (O.block_count (reader_disk reader.old)) (O.known seen.old) (kept_blocks reader.old) → IsGathered cursor.new p.history) }
+    ensures gathered { OnOk result ((p : Past) → IsErrandOn (λ e disk past. LocatedInPast (O.block_count disk) e cursor.old past) O.honest_seen O.block_count O.known p errand seen.old (reader_disk reader.old) → AreSettled (O.block_count (reader_disk reader.old)) (O.known seen.old) (kept_blocks reader.old) → IsGathered cursor.new p.history) }
 {
     match errand.finish(alloc, reader, seen, cursor) {
         Ok(()) => Ok(()),

@@ -17,7 +17,7 @@ use Rattle.resolve.specs.declared.fault.ResolveFault.{ResolveFault}
 use Rattle.service.specs.Faults.{of_record}
 use Rattle.service.specs.FeedLines.{admitted_text}
 use Rattle.service.specs.FeedTexts.{capped}
-use Rattle.service.specs.Outputs.{OutputState, Tells}
+use Rattle.service.specs.Outputs.{OutputState, Reports}
 use Rattle.service.specs.Refusals.{refused_record_line}
 use Rattle.service.specs.Turns.{Turn, Offer, Refuse, refusals}
 use Rattle.service.specs.declared.faults.FeedStop.{FeedStop}
@@ -70,15 +70,15 @@ capped_more a b = omega arith
 
 -- a batch more
 pub done_offer : (promised : Type 0) (b c : ℕ) (v : View) (turns : List Turn) (batch given : List Admitted) (old new : FeedCounts) (reply : BatchReply) (w u : View) (was mid now : OutputState)
-    → b ≡ c → given ≡ batch → Admits promised b given reply w u → Since w u → Tells mid now (admitted_text reply)
+    → b ≡ c → given ≡ batch → Admits promised b given reply w u → Since w u → Reports mid now (admitted_text reply)
     → new.admitted ≡ capped (old.admitted + admitted_in reply) → new.late ≡ capped (old.late + late_in reply) → new.refused ≡ old.refused
     → HasDone promised c v turns old w was mid → HasDone promised c v (turns ++ Offer batch ∷ []) new u was now
-done_offer promised b c v turns batch given old new reply w u was mid now one same admits_ since tells admitted late refused d =
+done_offer promised b c v turns batch given old new reply w u was mid now one same admits_ since reports admitted late refused d =
     let sums = sum_by_push admitted_in d.replies reply in
     let lates = sum_by_push late_in d.replies reply in
     record {
       replies = d.replies ++ reply ∷ [];
-      makes = Offered turns d.replies w u mid now batch reply d.makes (subst (λ (k : ℕ). Admits promised k batch reply w u) one (subst (λ (t : List Admitted). Admits promised b t reply w u) same admits_)) tells;
+      makes = Offered turns d.replies w u mid now batch reply d.makes (subst (λ (k : ℕ). Admits promised k batch reply w u) one (subst (λ (t : List Admitted). Admits promised b t reply w u) same admits_)) reports;
       since = since_both v w u d.since since;
       admitted = let before = d.admitted in admitted ∙ ap (λ (n : ℕ). capped (n + admitted_in reply)) before ∙ capped_more _ _ ∙ ap capped (sym sums);
       late = let before = d.late in late ∙ ap (λ (n : ℕ). capped (n + late_in reply)) before ∙ capped_more _ _ ∙ ap capped (sym lates);
@@ -92,12 +92,12 @@ done_no_more promised c v turns counts w was now d = subst (λ (t : List Turn). 
 
 -- a record more is refused
 pub done_refuse : (promised : Type 0) (c : ℕ) (v : View) (turns : List Turn) (old new : FeedCounts) (w : View) (was mid now : OutputState) (place n : ℕ) (fault : ResolveFault)
-    → place ≡ capped n → Tells mid now (refused_record_line (of_record fault) place)
+    → place ≡ capped n → Reports mid now (refused_record_line (of_record fault) place)
     → new.admitted ≡ old.admitted → new.late ≡ old.late → new.refused ≡ capped (old.refused + 1)
     → HasDone promised c v turns old w was mid → HasDone promised c v (turns ++ Refuse n fault ∷ []) new w was now
-done_refuse promised c v turns old new w was mid now place n fault is tells admitted late refused d = record {
+done_refuse promised c v turns old new w was mid now place n fault is reports admitted late refused d = record {
   replies = d.replies;
-  makes = Refused turns d.replies w mid now n fault d.makes (subst (λ (k : ℕ). Tells mid now (refused_record_line (of_record fault) k)) is tells);
+  makes = Refused turns d.replies w mid now n fault d.makes (subst (λ (k : ℕ). Reports mid now (refused_record_line (of_record fault) k)) is reports);
   since = d.since;
   admitted = admitted ∙ d.admitted;
   late = late ∙ d.late;

@@ -5,7 +5,7 @@ use Rattle.std.proofs.KnownBytes.{Consumes-nil, Consumes-trans}
 use Rattle.std.proofs.lemmas.List.{map-append}
 use Rattle.route_model.specs.Admission.{Admitted}
 use Rattle.board.specs.Views.{View}
-use Rattle.mrt_records.specs.Values.{Told, told}
+use Rattle.mrt_records.specs.Values.{Reported, reported}
 use Rattle.mrt_records.specs.Records.{Over}
 use Rattle.mrt_records.specs.Streams.{GainsFrames, EndsOver}
 use Rattle.mrt_records.specs.declared.item.Item.{Item}
@@ -14,7 +14,7 @@ use Rattle.mrt_records.proofs.api.Streams.{frames_none, part_begins_none, over_b
 use Rattle.service.specs.Feeds.{IsCut, MayGive}
 use Rattle.service.specs.FeedLines.{counts_line}
 use Rattle.service.specs.FeedTexts.{cut_line}
-use Rattle.service.specs.Outputs.{OutputState, Tells}
+use Rattle.service.specs.Outputs.{OutputState, Reports}
 use Rattle.service.specs.Turns.{Turn, turns_for, last_turns, feed_turns}
 use Rattle.service.specs.declared.faults.FeedCut.{FeedCut}
 use Rattle.service.specs.declared.faults.FeedCut.TheVariants as cuts
@@ -23,47 +23,47 @@ use Rattle.service.specs.declared.faults.FeedStop.TheVariants as stops
 use Rattle.service.specs.declared.intake.End.TheVariants as ends
 use Rattle.service.specs.declared.limits.BatchLimits.{BatchLimits}
 use Rattle.shared_feed.specs.SharedFeeds.{IsReason, IsTakenIn, counts_by}
-use Rattle.shared_feed.specs.inner.Feeding.{HasDone, IsBehind, Reads, IsHeld, IsRead, IsReadOut, IsSameFeed, StopsWithin}
+use Rattle.shared_feed.specs.inner.Feeding.{HasDone, IsAfter, Reads, IsHeld, IsRead, IsReadOut, IsSameFeed, StopsWithin}
 use Rattle.shared_feed.specs.declared.feeding.Feeding.{Feeding}
-use Rattle.shared_feed.proofs.GivingUp.{within_more, stops_behind, means_from}
+use Rattle.shared_feed.proofs.GivingUp.{within_more, stops_after, means_from}
 
 -- the same items after others
-gains_behind : (bytes now : List ℕ) (none items mid : List Item) → none ≡ [] → GainsFrames bytes now none items → GainsFrames bytes now mid (mid ++ items)
-gains_behind bytes now none items mid e p = (p.0, p.1, (p.2.0, p.2.1, ap (λ (t : List Item). mid ++ t) (p.2.2 ∙ ap (λ (t : List Item). t ++ p.2.0) e)))
+gains_after : (bytes now : List ℕ) (none items mid : List Item) → none ≡ [] → GainsFrames bytes now none items → GainsFrames bytes now mid (mid ++ items)
+gains_after bytes now none items mid e p = (p.0, p.1, (p.2.0, p.2.1, ap (λ (t : List Item). mid ++ t) (p.2.2 ∙ ap (λ (t : List Item). t ++ p.2.0) e)))
 
 -- one more piece, after which this rest is left
 pub piece_read : (promised : Type 0) (c : ℕ) (limit : BatchLimits) (v : View) (bytes held piece rest : List ℕ) (old new : Feeding) (w u : View) (was mid now : OutputState) (none items got : List Item)
     → none ≡ [] → got ≡ items → GainsFrames (held ++ piece) rest none items
-    → ((records : List Told) → IsBehind promised c limit v records old w was mid → IsBehind promised c limit v (records ++ map told got) new u was now)
+    → ((records : List Reported) → IsAfter promised c limit v records old w was mid → IsAfter promised c limit v (records ++ map reported got) new u was now)
     → Reads promised c limit v bytes held old w was mid → Reads promised c limit v (bytes ++ piece) rest new u was now
-piece_read promised c limit v bytes held piece rest old new w u was mid now none items got empty same gains behind r =
-    let both : map told r.items ++ map told got ≡ map told (r.items ++ items) = ap (λ (t : List Item). map told r.items ++ map told t) same ∙ sym (map-append told r.items items) in
+piece_read promised c limit v bytes held piece rest old new w u was mid now none items got empty same gains beyond r =
+    let both : map reported r.items ++ map reported got ≡ map reported (r.items ++ items) = ap (λ (t : List Item). map reported r.items ++ map reported t) same ∙ sym (map-append reported r.items items) in
     record {
       items = r.items ++ items;
-      framed = frames_then bytes held piece rest [] r.items (r.items ++ items) r.framed (gains_behind (held ++ piece) rest none items r.items empty gains);
-      behind = subst (λ (t : List Told). IsBehind promised c limit v t new u was now) both (behind (map told r.items) r.behind);
+      framed = frames_then bytes held piece rest [] r.items (r.items ++ items) r.framed (gains_after (held ++ piece) rest none items r.items empty gains);
+      beyond = subst (λ (t : List Reported). IsAfter promised c limit v t new u was now) both (beyond (map reported r.items) r.beyond);
     }
 
 -- one more piece, and the feed goes on
 pub piece_goes : (promised : Type 0) (c : ℕ) (limit : BatchLimits) (v : View) (bytes held piece now_held : List ℕ) (old new : Feeding) (w u : View) (was mid now : OutputState) (none items got : List Item) (on : Bool)
     → on ≡ true → none ≡ [] → got ≡ items → GainsFrames (held ++ piece) now_held none items
-    → ((records : List Told) → IsBehind promised c limit v records old w was mid → IsBehind promised c limit v (records ++ map told got) new u was now)
+    → ((records : List Reported) → IsAfter promised c limit v records old w was mid → IsAfter promised c limit v (records ++ map reported got) new u was now)
     → Reads promised c limit v bytes held old w was mid → IsRead promised c limit v (bytes ++ piece) now_held on new u was now
-piece_goes promised c limit v bytes held piece now_held old new w u was mid now none items got on goes_on empty same gains behind r =
+piece_goes promised c limit v bytes held piece now_held old new w u was mid now none items got on goes_on empty same gains beyond r =
     subst (λ (t : Bool). IsRead promised c limit v (bytes ++ piece) now_held t new u was now) (sym goes_on)
-    (record { rest = now_held; holds = refl; reads = piece_read promised c limit v bytes held piece now_held old new w u was mid now none items got empty same gains behind r })
+    (record { rest = now_held; holds = refl; reads = piece_read promised c limit v bytes held piece now_held old new w u was mid now none items got empty same gains beyond r })
 
 -- one more piece, and a Length above the limit follows its records
 pub piece_stops : (promised : Type 0) (c : ℕ) (limit : BatchLimits) (v : View) (bytes held piece now_held : List ℕ) (old new : Feeding) (w u : View) (was mid now : OutputState) (none items got : List Item) (on : Bool)
     → on ≡ false → none ≡ [] → got ≡ items → EndsOver (held ++ piece) now_held none items
-    → ((records : List Told) → IsBehind promised c limit v records old w was mid → IsBehind promised c limit v (records ++ map told got) new u was now)
+    → ((records : List Reported) → IsAfter promised c limit v records old w was mid → IsAfter promised c limit v (records ++ map reported got) new u was now)
     → Reads promised c limit v bytes held old w was mid → IsRead promised c limit v (bytes ++ piece) now_held on new u was now
-piece_stops promised c limit v bytes held piece now_held old new w u was mid now none items got on stops empty same ends behind r =
+piece_stops promised c limit v bytes held piece now_held old new w u was mid now none items got on stops empty same ends beyond r =
     subst (λ (t : Bool). IsRead promised c limit v (bytes ++ piece) now_held t new u was now) (sym stops)
     (record {
       rest = now_held ++ ends.0;
       holds = (ends.0, refl, ends.2);
-      reads = piece_read promised c limit v bytes held piece (now_held ++ ends.0) old new w u was mid now none items got empty same ends.1 behind r;
+      reads = piece_read promised c limit v bytes held piece (now_held ++ ends.0) old new w u was mid now none items got empty same ends.1 beyond r;
     })
 
 -- what a reader still has, where that is known
@@ -132,7 +132,7 @@ taken_gives promised c limit v bytes known reader held feeding w was now why rea
       l.done ++ rest,
       may_give known reader l.done l.gone,
       subst (λ (t : List ℕ). StopsWithin promised c limit v t w was now why) (append_assoc bytes l.done rest)
-          (within_more promised c limit v (bytes ++ l.done) rest w was now why (stops_behind promised c limit v (bytes ++ l.done) held feeding w was now why reason l.reads)),
+          (within_more promised c limit v (bytes ++ l.done) rest w was now why (stops_after promised c limit v (bytes ++ l.done) held feeding w was now why reason l.reads)),
     )
 
 -- the feed is given up in the next piece
@@ -160,7 +160,7 @@ taken_failed promised c limit v bytes piece known reader next held left old new 
       may_give known next (l.done ++ piece) (Consumes-trans known reader next l.done piece l.gone gone),
       subst (λ (t : List ℕ). StopsWithin promised c limit v t u was now stops.Outside) (pieces_join bytes l.done piece rest)
           (within_more promised c limit v ((bytes ++ l.done) ++ piece) rest u was now stops.Outside
-          (stops_behind promised c limit v ((bytes ++ l.done) ++ piece) read.rest new u was now stops.Outside tt read.reads)),
+          (stops_after promised c limit v ((bytes ++ l.done) ++ piece) read.rest new u was now stops.Outside tt read.reads)),
     )
 
 -- what follows a Length above the limit is left with it
@@ -187,7 +187,7 @@ taken_stops promised c limit v bytes piece known reader next held left old new w
           reads = record {
             items = read.reads.items;
             framed = subst (λ (t : List ℕ). GainsFrames t (read.rest ++ rest) [] read.reads.items) (pieces_join bytes l.done piece rest) (over_more ((bytes ++ l.done) ++ piece) read.rest rest read.reads.items over read.reads.framed);
-            behind = read.reads.behind;
+            beyond = read.reads.beyond;
           };
         },
       ),
@@ -195,11 +195,11 @@ taken_stops promised c limit v bytes piece known reader next held left old new w
 
 -- nothing is read yet
 pub reads_none : (promised : Type 0) (c : ℕ) (limit : BatchLimits) (v : View) (held : List ℕ) (feeding : Feeding) (w : View) (was : OutputState)
-    → held ≡ [] → IsBehind promised c limit v [] feeding w was was → Reads promised c limit v [] held feeding w was was
+    → held ≡ [] → IsAfter promised c limit v [] feeding w was was → Reads promised c limit v [] held feeding w was was
 reads_none promised c limit v held feeding w was empty b = record {
   items = [];
   framed = subst (λ (t : List ℕ). GainsFrames [] t [] []) (sym empty) (frames_none [] [] (part_begins_none [] (inl (omega arith))));
-  behind = b;
+  beyond = b;
 }
 
 -- why a feed is cut that has this rest, by what the framer holds of it
@@ -213,12 +213,12 @@ cut_short held rest false (Some cuts.TooLong) over is = subst Over (sym over.1) 
 pub all_taken_in : (promised : Type 0) (c : ℕ) (limit : BatchLimits) (v : View) (bytes held : List ℕ) (cut : Option FeedCut) (old new : Feeding) (w u : View) (was mid then now : OutputState)
     → IsReadOut promised c limit v bytes held old w was mid → IsCut held cut → IsSameFeed old new
     → ((turns : List Turn) → old.collector ≡ c → HasDone promised c v turns old.counts w was mid → HasDone promised c v (turns ++ last_turns old.gathered.items) new.counts u was then)
-    → Tells then now (cut_line cut new.counts.records ++ counts_line new.counts)
+    → Reports then now (cut_line cut new.counts.records ++ counts_line new.counts)
     → IsTakenIn promised c limit bytes cut v was u now
-all_taken_in promised c limit v bytes held cut old new w u was mid then now out is same rest told_ =
+all_taken_in promised c limit v bytes held cut old new w u was mid then now out is same rest reported_ =
     let read = out.1 in
-    let b = read.reads.behind in
-    let records = map told read.reads.items in
+    let b = read.reads.beyond in
+    let records = map reported read.reads.items in
     let d = rest _ b.collector b.done in
     let turns : turns_for limit 0 [] b.results ++ last_turns old.gathered.items ≡ feed_turns limit b.results = ap (λ (t : List Admitted). turns_for limit 0 [] b.results ++ last_turns t) b.waits in
     let done = subst (λ (t : List Turn). HasDone promised c v t new.counts u was then) turns d in
@@ -228,11 +228,11 @@ all_taken_in promised c limit v bytes held cut old new w u was mid then now out 
       rest = read.rest;
       records = records;
       results = b.results;
-      feed = record { items = read.reads.items; framed = read.reads.framed; told_are = refl; means = means_from c records b.results b.means };
+      feed = record { items = read.reads.items; framed = read.reads.framed; reported_are = refl; means = means_from c records b.results b.means };
       cut_is = cut_short held read.rest out.0 cut read.holds is;
       replies = done.replies;
       then = then;
       makes = done.makes;
-      tells = subst (λ (t : List ℕ). Tells then now t) (λ k. cut_line cut ((same.records ∙ b.recorded) k) ++ counts_line (counted k)) told_;
+      reports = subst (λ (t : List ℕ). Reports then now t) (λ k. cut_line cut ((same.records ∙ b.recorded) k) ++ counts_line (counted k)) reported_;
       since = done.since;
     }

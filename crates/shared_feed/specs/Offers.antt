@@ -12,7 +12,7 @@ use Rattle.server.specs.Marks.{AppliesUntilIdle}
 use Rattle.service.specs.Faults.{of_record}
 use Rattle.service.specs.FeedLines.{admitted_text}
 use Rattle.service.specs.FeedTexts.{capped}
-use Rattle.service.specs.Outputs.{OutputState, Tells}
+use Rattle.service.specs.Outputs.{OutputState, Reports}
 use Rattle.service.specs.Refusals.{refused_record_line}
 use Rattle.service.specs.Turns.{Turn, Offer, Refuse}
 use Rattle.service.specs.declared.faults.FeedStop.{FeedStop}
@@ -60,6 +60,6 @@ late_in reply = length reply.late.items
 pub data Makes (promised : Type 0) (c : ℕ) (v : View) (was : OutputState) : List Turn → List BatchReply → View → OutputState → Type 0 where
   Begun : Makes promised c v was [] [] v was
   Offered : (turns : List Turn) (replies : List BatchReply) (w x : View) (now out : OutputState) (batch : List Admitted) (reply : BatchReply)
-      → Makes promised c v was turns replies w now → Admits promised c batch reply w x → Tells now out (admitted_text reply) → Makes promised c v was (turns ++ Offer batch ∷ []) (replies ++ reply ∷ []) x out
+      → Makes promised c v was turns replies w now → Admits promised c batch reply w x → Reports now out (admitted_text reply) → Makes promised c v was (turns ++ Offer batch ∷ []) (replies ++ reply ∷ []) x out
   Refused : (turns : List Turn) (replies : List BatchReply) (w : View) (now out : OutputState) (place : ℕ) (fault : ResolveFault)
-      → Makes promised c v was turns replies w now → Tells now out (refused_record_line (of_record fault) (capped place)) → Makes promised c v was (turns ++ Refuse place fault ∷ []) replies w out
+      → Makes promised c v was turns replies w now → Reports now out (refused_record_line (of_record fault) (capped place)) → Makes promised c v was (turns ++ Refuse place fault ∷ []) replies w out

@@ -3,7 +3,7 @@ use Rattle.std.specs.Prelude.{◌≡◌, ◌⊎◌, ◌<◌, ◌≤◌, ◌*◌,
 use Rattle.route_model.specs.Admission.{Admitted}
 use Rattle.board.specs.Views.{View}
 use Rattle.interleaving_core.specs.declared.reply.BatchReply.{BatchReply}
-use Rattle.mrt_records.specs.Values.{Told}
+use Rattle.mrt_records.specs.Values.{Reported}
 use Rattle.query_threads.specs.Seeing.{Since}
 use Rattle.resolve.specs.declared.fault.ResolveFault.{ResolveFault}
 use Rattle.resolve.specs.declared.without_hop.WithoutHop.TheVariants as rules
@@ -11,7 +11,7 @@ use Rattle.service.specs.Faults.{of_stop}
 use Rattle.service.specs.FeedLines.{counts_line}
 use Rattle.service.specs.FeedTexts.{capped, cut_line, skips}
 use Rattle.service.specs.Feeds.{IsFeed, IsCut}
-use Rattle.service.specs.Outputs.{OutputState, Tells}
+use Rattle.service.specs.Outputs.{OutputState, Reports}
 use Rattle.service.specs.Refusals.{refusal_line}
 use Rattle.service.specs.Turns.{Turn, Offer, refusals, feed_turns}
 use Rattle.service.specs.declared.faults.FeedCut.{FeedCut}
@@ -29,7 +29,7 @@ abbrev pub limits_of : ℕ → ℕ → BatchLimits
 limits_of records ring = record { records = records; octets = min 262144 (max 131076 (ring * 16384)) }
 
 -- what became of these records, of which these turns were made, with these replies to the batches
-abbrev pub counts_by : List Told → List Turn → List BatchReply → FeedCounts
+abbrev pub counts_by : List Reported → List Turn → List BatchReply → FeedCounts
 counts_by records turns replies = record {
   records = capped (length records);
   admitted = capped (sum_by admitted_in replies);
@@ -41,14 +41,14 @@ counts_by records turns replies = record {
 -- All turns of the feed were made, then the line of why it was cut short, if it was, and the line of its counts were written.
 pub record IsTakenIn (promised : Type 0) (c : ℕ) (limit : BatchLimits) (bytes : List ℕ) (cut : Option FeedCut) (v : View) (was : OutputState) (w : View) (now : OutputState) : Type 0 where
   pub rest : List ℕ
-  pub records : List Told
+  pub records : List Reported
   pub results : List (Result (Option Admitted) ResolveFault)
   pub feed : IsFeed rules.Refused c 0 bytes rest records results
   pub cut_is : IsCut rest cut
   pub replies : List BatchReply
   pub then : OutputState
   pub makes : Makes promised c v was (feed_turns limit results) replies w then
-  pub tells : Tells then now (cut_line cut (capped (length records)) ++ counts_line (counts_by records (feed_turns limit results) replies))
+  pub reports : Reports then now (cut_line cut (capped (length records)) ++ counts_line (counts_by records (feed_turns limit results) replies))
   pub since : Since v w
 
 -- why the next turns aren't made: the next batch isn't taken; or memory ran out, or a reader or a writer failed
@@ -62,7 +62,7 @@ pub record IsGivenUp (promised : Type 0) (c : ℕ) (limit : BatchLimits) (bytes 
   pub seen : List ℕ
   pub later : List ℕ
   pub parts : bytes ≡ seen ++ later
-  pub records : List Told
+  pub records : List Reported
   pub results : List (Result (Option Admitted) ResolveFault)
   pub feed : IsFeed rules.Refused c 0 seen [] records results
   pub made : List Turn
@@ -73,14 +73,14 @@ pub record IsGivenUp (promised : Type 0) (c : ℕ) (limit : BatchLimits) (bytes 
   pub then : OutputState
   pub makes : Makes promised c v was made replies last then
   pub reason : IsReason promised c unmade last w why
-  pub tells : Tells then now (refusal_line (of_stop why))
+  pub reports : Reports then now (refusal_line (of_stop why))
   pub since : Since v w
 
 -- there is no such collector, and only that was written, and the pass sees what it saw
 pub record IsOfNone (collectors c : ℕ) (v : View) (was : OutputState) (w : View) (now : OutputState) : Type 0 where
   pub none : collectors ≤ c
   pub same : w ≡ v
-  pub tells : Tells was now (refusal_line (of_stop stops.NoCollector))
+  pub reports : Reports was now (refusal_line (of_stop stops.NoCollector))
 
 -- How a feed of these octets ended, of an archive with this many collectors: all of it was read, or it was cut short, or it was given up
 -- for this. For a collector that doesn't exist only that is written.

@@ -2,14 +2,14 @@
 
 ghost use Rattle.std.specs.Prelude.{◌≡◌, ◌≤◌, ◌∷◌, ◌++◌, ◌+◌, ltb, ℕ, List, [], None, Some, Ok, map, OnOk, OnErr, IfErr, IsSome};
 ghost use Rattle.board.specs.Views.{View};
-ghost use Rattle.mrt_records.specs.Values.{Told, told};
+ghost use Rattle.mrt_records.specs.Values.{Reported, reported};
 ghost use Rattle.service.specs.Turns.{Turn, Offer, offer_where, wait_unless, is_full, turns_at, waits_after, last_turns};
 ghost use Rattle.service.specs.FeedTexts.{capped};
-ghost use Rattle.service.specs.Outputs.{OutputState, Tells};
+ghost use Rattle.service.specs.Outputs.{OutputState, Reports};
 ghost use Rattle.service.specs.Refusals.{refused_record_line};
 ghost use Rattle.service.specs.Faults.{of_record};
 ghost use Rattle.service.specs.declared.limits.BatchLimits.{BatchLimits};
-ghost use Rattle.shared_feed.specs.inner.Feeding.{HasDone, IsSameFeed, IsCounted, IsBehind, TakesNext, GivesUp, StopsAmong};
+ghost use Rattle.shared_feed.specs.inner.Feeding.{HasDone, IsSameFeed, IsCounted, IsAfter, TakesNext, GivesUp, StopsAmong};
 
 use crate::making_room::admit_with_room;
 use archive_calls::Trouble;
@@ -18,7 +18,7 @@ use mrt_records::Item;
 use query_threads::{Gate, OnDisk, Shared, Store};
 use resolve::{ResolveFault, Resolver, WithoutHop};
 use route_model::Admission;
-use service::{BatchLimits, FeedCounts, FeedStop, Output, tell_batch, tell_refused};
+use service::{BatchLimits, FeedCounts, FeedStop, Output, report_batch, report_refused};
 use std::alloc::{AllocError, Global};
 use std::io::Write;
 use std::sync::Wait;
@@ -51,7 +51,7 @@ fn read_next(
     resolver: &mut Resolver,
     item: &Item,
 ) -> Result<Option<Admission>, ResolveFault>
-    ensures takes { TakesNext resolver.old resolver.new (told item.now) result }
+    ensures takes { TakesNext resolver.old resolver.new (reported item.now) result }
 {
     resolver.record(alloc, WithoutHop::Refused, item)
 }
@@ -98,7 +98,7 @@ impl Feeding {
         ensures given_up { (c : ℕ) (v : View) (turns : List Turn) (was : OutputState) → self.old.collector ≡ c → IsCounted self.old → HasDone (IsSome N.disk) c v turns self.old.counts pass.old was out.old → IfErr result (GivesUp (IsSome N.disk) c v (turns ++ Offer self.old.gathered.items ∷ []) pass.new was out.new) }
     {
         let reply = admit_with_room(rt, shared, pass, self.collector, &self.gathered)?;
-        tell_batch(out, &reply);
+        report_batch(out, &reply);
         self.counts.count_batch(&reply);
         self.gathered.clear();
         self.octets = 0;
@@ -214,16 +214,16 @@ impl Feeding {
         ensures late { self.new.counts.late ≡ self.old.counts.late }
         ensures remembered { OnOk result (fault ≡ ResolveFault.OutOfMemory → ⊥) }
         ensures counted { OnOk result (self.new.counts.refused ≡ capped (self.old.counts.refused + 1)) }
-        ensures told { OnOk result (Tells out.old out.new (refused_record_line (of_record fault) place)) }
-        ensures untold { OnErr result (out.new ≡ out.old) }
+        ensures reported { OnOk result (Reports out.old out.new (refused_record_line (of_record fault) place)) }
+        ensures unreported { OnErr result (out.new ≡ out.old) }
         ensures uncounted { OnErr result (self.new.counts ≡ self.old.counts) }
-        ensures wanting { IfErr result (λ why. why ≡ FeedStop.Trouble Trouble.OutOfMemory) }
+        ensures lacking { IfErr result (λ why. why ≡ FeedStop.Trouble Trouble.OutOfMemory) }
     {
         if fault == ResolveFault::OutOfMemory {
             return Err(FeedStop::Trouble(Trouble::OutOfMemory));
         }
         self.counts.refused = self.counts.refused.saturating_add(1);
-        tell_refused(out, fault, place);
+        report_refused(out, fault, place);
         Ok(())
     }
 
@@ -237,8 +237,8 @@ impl Feeding {
         item: &Item,
         out: &mut Output<W>,
     ) -> Result<(), FeedStop>
-        ensures behind { (c : ℕ) (limit : BatchLimits) (v : View) (records : List Told) (was : OutputState) → IsBehind (IsSome N.disk) c limit v records self.old pass.old was out.old → OnOk result (IsBehind (IsSome N.disk) c limit v (records ++ told item.now ∷ []) self.new pass.new was out.new) }
-        ensures given_up { (c : ℕ) (limit : BatchLimits) (v : View) (records : List Told) (was : OutputState) → IsBehind (IsSome N.disk) c limit v records self.old pass.old was out.old → IfErr result (StopsAmong (IsSome N.disk) c limit v records (item.now ∷ []) pass.new was out.new) }
+        ensures beyond { (c : ℕ) (limit : BatchLimits) (v : View) (records : List Reported) (was : OutputState) → IsAfter (IsSome N.disk) c limit v records self.old pass.old was out.old → OnOk result (IsAfter (IsSome N.disk) c limit v (records ++ reported item.now ∷ []) self.new pass.new was out.new) }
+        ensures given_up { (c : ℕ) (limit : BatchLimits) (v : View) (records : List Reported) (was : OutputState) → IsAfter (IsSome N.disk) c limit v records self.old pass.old was out.old → IfErr result (StopsAmong (IsSome N.disk) c limit v records (item.now ∷ []) pass.new was out.new) }
     {
         let place = self.counts.records;
         self.counts.count_record(item);
@@ -259,8 +259,8 @@ impl Feeding {
         items: &[Item],
         out: &mut Output<W>,
     ) -> Result<(), FeedStop>
-        ensures behind { (c : ℕ) (limit : BatchLimits) (v : View) (records : List Told) (was : OutputState) → IsBehind (IsSome N.disk) c limit v records self.old pass.old was out.old → OnOk result (IsBehind (IsSome N.disk) c limit v (records ++ map told items.now) self.new pass.new was out.new) }
-        ensures given_up { (c : ℕ) (limit : BatchLimits) (v : View) (records : List Told) (was : OutputState) → IsBehind (IsSome N.disk) c limit v records self.old pass.old was out.old → IfErr result (StopsAmong (IsSome N.disk) c limit v records items.now pass.new was out.new) }
+        ensures beyond { (c : ℕ) (limit : BatchLimits) (v : View) (records : List Reported) (was : OutputState) → IsAfter (IsSome N.disk) c limit v records self.old pass.old was out.old → OnOk result (IsAfter (IsSome N.disk) c limit v (records ++ map reported items.now) self.new pass.new was out.new) }
+        ensures given_up { (c : ℕ) (limit : BatchLimits) (v : View) (records : List Reported) (was : OutputState) → IsAfter (IsSome N.disk) c limit v records self.old pass.old was out.old → IfErr result (StopsAmong (IsSome N.disk) c limit v records items.now pass.new was out.new) }
     {
         for item in items {
             self.take(rt, alloc, shared, pass, item, out)?;

@@ -15,7 +15,7 @@ use archive_calls::{MAX_BATCH_LEN, Trouble};
 use board::{Named, Pass};
 use mrt_records::{FrameError, Framer};
 use query_threads::{Gate, OnDisk, Shared, Store};
-use service::{BatchLimits, End, FeedCut, FeedStop, Output, cut_of, tell_end, tell_stop};
+use service::{BatchLimits, End, FeedCut, FeedStop, Output, cut_of, report_end, report_stop};
 use std::alloc::Global;
 use std::io::{Read, Write};
 use std::sync::Wait;
@@ -121,7 +121,7 @@ fn take_in<A: Store, N: Named + OnDisk<A::Disk>, G: Gate + Drop, R: Read, W: Wri
     feeding.take_stream(rt, alloc, shared, pass, &mut framer, reader, out)?;
     feeding.offer_rest(rt, shared, pass, out)?;
     let cut = cut_of(&framer);
-    tell_end(&cut, &feeding.counts, out);
+    report_end(&cut, &feeding.counts, out);
     Ok(cut)
 }
 
@@ -146,14 +146,14 @@ pub fn feed<A: Store, N: Named + OnDisk<A::Disk>, G: Gate + Drop, R: Read, W: Wr
     ensures since { Since pass.old pass.new }
 {
     if collector >= shared.collectors() {
-        tell_stop(FeedStop::NoCollector, out);
+        report_stop(FeedStop::NoCollector, out);
         return End::Refused(FeedStop::NoCollector);
     }
     match take_in(rt, alloc, shared, pass, collector, limit, reader, out) {
         Ok(None) => End::Well,
         Ok(Some(_)) => End::Cut,
         Err(why) => {
-            tell_stop(why, out);
+            report_stop(why, out);
             End::Refused(why)
         }
     }

@@ -57,7 +57,7 @@ pub(crate) fn query_of(asked: &Asked) -> Query {
 fn same_change(one: &Change, other: &Change) -> bool {
     match (one, other) {
         (Change::Announce(_, _, route), Change::Announce(_, _, same)) => {
-            route.spelling() == same.spelling()
+            route.encoding() == same.encoding()
         }
         (Change::Withdraw(_, _), Change::Withdraw(_, _)) => true,
         (Change::Down(_), Change::Down(_)) => true,
@@ -68,7 +68,7 @@ fn same_change(one: &Change, other: &Change) -> bool {
 fn same_row(one: &Row, other: &Row) -> bool {
     one.peer == other.peer
         && one.prefix == other.prefix
-        && one.route.spelling() == other.route.spelling()
+        && one.route.encoding() == other.route.encoding()
 }
 
 fn same_rows(one: &[Row], other: &[Row]) -> bool {
@@ -102,8 +102,8 @@ fn same_answer(one: &Answer, other: &Answer) -> bool {
 }
 
 /// Whether an archive answers a question as the pure machine does.
-pub(crate) fn same(answer: &Result<Answer, AskError>, wanted: &Reply) -> bool {
-    match (answer, wanted) {
+pub(crate) fn same(answer: &Result<Answer, AskError>, expected: &Reply) -> bool {
+    match (answer, expected) {
         (Ok(answer), Reply::Done(same)) => same_answer(answer, same),
         (Err(AskError::AboveWatermark(mark)), Reply::AboveWatermark(same)) => *mark == *same,
         _ => false,

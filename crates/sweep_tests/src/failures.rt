@@ -206,8 +206,8 @@ fn calls_fail_once_where_the_root_rises(rt: HostRuntime) {
 #[test]
 fn reads_of_blocks_fail(rt: HostRuntime) {
     let stage = prepare(&rt, rt.alloc(), &LONG);
-    for (number, wanted) in READS.iter().enumerate() {
+    for (number, expected) in READS.iter().enumerate() {
         let refused = refused_reads(&rt, &stage, number as u64);
-        be_at(&rt, refused == *wanted, "refused questions", refused);
+        be_at(&rt, refused == *expected, "refused questions", refused);
     }
 }

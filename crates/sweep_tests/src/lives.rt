@@ -177,10 +177,10 @@ fn what_happens(rt: &impl Abort, stage: &Stage, lived: &Both) -> Happened {
 }
 
 /// This happens in a life.
-fn happens(rt: &impl Abort, stage: &Stage, changes: u64, wanted: &Happened) {
+fn happens(rt: &impl Abort, stage: &Stage, changes: u64, expected: &Happened) {
     let lived = live(rt, stage, changes);
     let happened = what_happens(rt, stage, &lived);
-    be(rt, happened == *wanted, "what happens");
+    be(rt, happened == *expected, "what happens");
 }
 
 /// How many rows or events each question of [`crate::acts::ASKED`] has at the end of the life.

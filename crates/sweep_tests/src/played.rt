@@ -168,9 +168,9 @@ fn of_ask(error: AskError) -> Outcome {
     }
 }
 
-/// What an answer comes to where this one is wanted.
-fn of_answer(answer: &Result<Answer, AskError>, wanted: &Reply) -> Outcome {
-    if same(answer, wanted) {
+/// What an answer comes to where this one is expected.
+fn of_answer(answer: &Result<Answer, AskError>, expected: &Reply) -> Outcome {
+    if same(answer, expected) {
         return Outcome::Done;
     }
     match answer {
@@ -180,9 +180,9 @@ fn of_answer(answer: &Result<Answer, AskError>, wanted: &Reply) -> Outcome {
 }
 
 /// Asks a question: done where it is answered so.
-pub(crate) fn ask(archive: &mut Played, query: &Query, wanted: &Reply) -> Outcome {
+pub(crate) fn ask(archive: &mut Played, query: &Query, expected: &Reply) -> Outcome {
     let answer = archive.answer(*query);
-    of_answer(&answer, wanted)
+    of_answer(&answer, expected)
 }
 
 /// The same by a reader that keeps the blocks which it reads.
@@ -190,10 +190,10 @@ pub(crate) fn ask_with(
     archive: &mut Played,
     reader: &mut ShelfReader<MemOnce>,
     query: &Query,
-    wanted: &Reply,
+    expected: &Reply,
 ) -> Outcome {
     let answer = archive.answer_with(reader, *query);
-    of_answer(&answer, wanted)
+    of_answer(&answer, expected)
 }
 
 /// Makes the first turn of a question.

@@ -13,7 +13,7 @@ use archive_calls::{AskError, RouteArchive};
 use interleaving_core::Query;
 use route_meaning::{EventsQuestion, RowsQuestion};
 use service::{
-    Output, Request, Status, ask, read_request, told, write_ending, write_events_ending,
+    Output, Request, Status, ask, read_request, reported, write_ending, write_events_ending,
     write_refusal,
 };
 use std::alloc::Global;
@@ -22,7 +22,7 @@ use std::io::Write;
 /// What stands on standard error where an answer for a person has an end that isn't that of all.
 const MORE: &str = "rha: 256 lines shown, and more follow; --all prints all\n";
 
-/// How much of an answer is wanted, and for whom.
+/// How much of an answer is asked for, and for whom.
 #[derive(Clone, Copy, Debug, PartialEq, Eq)]
 pub struct Manner {
     /// All rows or events, and not the first 256.
@@ -47,7 +47,7 @@ fn first_rows<A: RouteArchive>(
     question: RowsQuestion,
     text: &mut String,
 ) -> Result<bool, AskError>
-    ensures kept { (h : History) → A.carries archive.old h → A.carries archive.new h }
+    ensures kept { (h : History) → A.represents archive.old h → A.represents archive.new h }
 {
     let writer = of_memory(RowWriter::new(alloc, form, question.moment))?;
     let answer = rows_page(archive, question)?;
@@ -64,7 +64,7 @@ fn first_events<A: RouteArchive>(
     question: EventsQuestion,
     text: &mut String,
 ) -> Result<bool, AskError>
-    ensures kept { (h : History) → A.carries archive.old h → A.carries archive.new h }
+    ensures kept { (h : History) → A.represents archive.old h → A.represents archive.new h }
 {
     let skip = question.skip;
     let answer = events_page(archive, question)?;
@@ -82,7 +82,7 @@ fn answer_first<A: RouteArchive, W: Write, E: Write>(
     out: &mut Output<W>,
     err: &mut Output<E>,
 ) -> Status
-    ensures kept { (h : History) → A.carries archive.old h → A.carries archive.new h }
+    ensures kept { (h : History) → A.represents archive.old h → A.represents archive.new h }
 {
     let mut text = String::new(alloc);
     let answered = match query {
@@ -95,11 +95,11 @@ fn answer_first<A: RouteArchive, W: Write, E: Write>(
             if more {
                 err.text(MORE);
             }
-            told(alloc, Status::Done, out, err)
+            reported(alloc, Status::Done, out, err)
         }
         Err(why) => {
             write_refusal(out, &refusal_of(why));
-            told(alloc, Status::Refused, out, err)
+            reported(alloc, Status::Refused, out, err)
         }
     }
 }
@@ -113,7 +113,7 @@ fn answer_all<A: RouteArchive, W: Write, E: Write>(
     out: &mut Output<W>,
     err: &mut Output<E>,
 ) -> Status
-    ensures kept { (h : History) → A.carries archive.old h → A.carries archive.new h }
+    ensures kept { (h : History) → A.represents archive.old h → A.represents archive.new h }
 {
     match query {
         Query::Rows(question) => write_table(alloc, archive, form, question, out, err),
@@ -139,7 +139,7 @@ pub(crate) fn ask_for<A: RouteArchive, W: Write, E: Write>(
     out: &mut Output<W>,
     err: &mut Output<E>,
 ) -> Status
-    ensures kept { (h : History) → A.carries archive.old h → A.carries archive.new h }
+    ensures kept { (h : History) → A.represents archive.old h → A.represents archive.new h }
 {
     let form = manner.form();
     let Ok(Request::Question(query)) = read_request(alloc, line) else {

@@ -57,7 +57,7 @@ fn order_of(first: &Option<Row>, second: &Option<Row>) -> Ordering {
 
 /// Writes the line of two rows of one place, if their routes aren't the same: whether it did.
 fn write_change(out: &mut String, first: &Row, second: &Row) -> Result<bool, AllocError> {
-    if first.route.spelling() == second.route.spelling() {
+    if first.route.encoding() == second.route.encoding() {
         return Ok(false);
     }
     write_two(out, first, second)?;
@@ -93,7 +93,7 @@ fn write_lines<A: RouteArchive, W: Write>(
     new: &mut Cursor,
     out: &mut Output<W>,
 ) -> Result<u64, AskError>
-    ensures kept { (h : History) → A.carries archive.old h → A.carries archive.new h }
+    ensures kept { (h : History) → A.represents archive.old h → A.represents archive.new h }
 {
     let mut first = old.take(archive)?;
     let mut second = new.take(archive)?;
@@ -131,7 +131,7 @@ pub(crate) fn write_differences<A: RouteArchive, W: Write, E: Write>(
     out: &mut Output<W>,
     err: &mut Output<E>,
 ) -> (u64, Status)
-    ensures kept { (h : History) → A.carries archive.old h → A.carries archive.new h }
+    ensures kept { (h : History) → A.represents archive.old h → A.represents archive.new h }
 {
     let mut old = Cursor::new(alloc, asked.from, asked.within);
     let mut new = Cursor::new(alloc, asked.to, asked.within);

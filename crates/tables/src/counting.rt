@@ -87,7 +87,7 @@ fn write_counts<A: RouteArchive, W: Write>(
     moment: Moment,
     out: &mut Output<W>,
 ) -> Result<u64, AskError>
-    ensures kept { (h : History) → A.carries archive.old h → A.carries archive.new h }
+    ensures kept { (h : History) → A.represents archive.old h → A.represents archive.new h }
 {
     let mut question = RowsQuestion {
         moment,
@@ -131,7 +131,7 @@ pub(crate) fn write_peers<A: RouteArchive, W: Write, E: Write>(
     out: &mut Output<W>,
     err: &mut Output<E>,
 ) -> Status
-    ensures kept { (h : History) → A.carries archive.old h → A.carries archive.new h }
+    ensures kept { (h : History) → A.represents archive.old h → A.represents archive.new h }
 {
     let ended = write_counts(alloc, archive, moment, out);
     end_lines(alloc, ended, out, err)

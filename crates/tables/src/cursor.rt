@@ -41,18 +41,18 @@ impl Cursor {
         }
     }
 
-    /// Whether the row is among those that are wanted.
-    fn is_wanted(&self, row: &Row) -> bool {
+    /// Whether the row is among those that are asked for.
+    fn is_expected(&self, row: &Row) -> bool {
         match &self.within {
             Some(outer) => is_inside(&row.prefix, outer),
             None => true,
         }
     }
 
-    /// Takes the next row of those that were found, if it is wanted and there is one.
+    /// Takes the next row of those that were found, if it is asked for and there is one.
     fn take_found(&mut self) -> Option<Row> {
         while let Some(row) = self.found.pop() {
-            if self.is_wanted(&row) {
+            if self.is_expected(&row) {
                 return Some(row);
             }
         }
@@ -61,7 +61,7 @@ impl Cursor {
 
     /// Takes the next row, or none after the last one.
     pub(crate) fn take<A: RouteArchive>(&mut self, archive: &mut A) -> Result<Option<Row>, AskError>
-        ensures kept { (h : History) → A.carries archive.old h → A.carries archive.new h }
+        ensures kept { (h : History) → A.represents archive.old h → A.represents archive.new h }
     {
         'pages: for _ in 0..u64::MAX {
             if let Some(row) = self.take_found() {

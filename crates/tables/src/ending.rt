@@ -6,7 +6,7 @@ ghost use Rattle.archive_calls.specs.declared.refusal.AskError.TheVariants as as
 ghost use Rattle.tables.specs.Tables.{of_ask};
 
 use archive_calls::{AskError, Trouble};
-use service::{Output, Refusal, Status, told, write_refusal};
+use service::{Output, Refusal, Status, reported, write_refusal};
 use std::alloc::{AllocError, Global};
 use std::io::Write;
 
@@ -43,11 +43,11 @@ pub(crate) fn end_lines<W: Write, E: Write>(
             out.text("E|");
             out.number(count);
             out.text("\n");
-            told(alloc, Status::Done, out, err)
+            reported(alloc, Status::Done, out, err)
         }
         Err(why) => {
             write_refusal(out, &refusal_of(why));
-            told(alloc, Status::Refused, out, err)
+            reported(alloc, Status::Refused, out, err)
         }
     }
 }

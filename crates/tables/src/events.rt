@@ -42,7 +42,7 @@ fn write_page<A: RouteArchive, W: Write>(
     text: &mut String,
     out: &mut Output<W>,
 ) -> Result<(u64, bool), AskError>
-    ensures kept { (h : History) → A.carries archive.old h → A.carries archive.new h }
+    ensures kept { (h : History) → A.represents archive.old h → A.represents archive.new h }
 {
     let answer = events_page(archive, question)?;
     text.clear();
@@ -51,7 +51,7 @@ fn write_page<A: RouteArchive, W: Write>(
     Ok((answer.events.len() as u64, answer.more))
 }
 
-/// The same question, which skips so many events.
+/// The same question, which skips this many events.
 fn skipping(question: &EventsQuestion, skip: u64) -> EventsQuestion {
     EventsQuestion {
         from: question.from,
@@ -70,7 +70,7 @@ fn write_pages<A: RouteArchive, W: Write>(
     question: EventsQuestion,
     out: &mut Output<W>,
 ) -> Result<u64, AskError>
-    ensures kept { (h : History) → A.carries archive.old h → A.carries archive.new h }
+    ensures kept { (h : History) → A.represents archive.old h → A.represents archive.new h }
 {
     let mut text = String::new(alloc);
     let mut skip = question.skip;
@@ -102,7 +102,7 @@ pub(crate) fn write_history<A: RouteArchive, W: Write, E: Write>(
     out: &mut Output<W>,
     err: &mut Output<E>,
 ) -> Status
-    ensures kept { (h : History) → A.carries archive.old h → A.carries archive.new h }
+    ensures kept { (h : History) → A.represents archive.old h → A.represents archive.new h }
 {
     let ended = write_pages(alloc, archive, form, question, out);
     end_lines(alloc, ended, out, err)

@@ -1,8 +1,27 @@
 //! Whole tables of a moment: all rows of a question, the peers that have routes, and what differs between two moments.
 //!
-//! An answer has 256 rows at most; here the next question is asked until none are left, and each row is written once it is found, so
-//! memory doesn't grow with the table. All questions of a call are of one history: an archive that one process has changes by nothing
-//! that it is asked.
+//!     command   what is asked of the archive               a line of standard output                           exit status
+//!     ask       the request line, once or to its end       as service writes it, or with dates for a person    0, 1
+//!     dump      all routes of a moment, or of a peer       one for each row, in the form asked for             0, 1
+//!     peers     all routes of a moment                     P|COLLECTOR|ADDRESS|AS|ROUTES for each peer         0, 1
+//!     diff      all routes of two moments                  one for each place that differs, with -, + or ~     0, 1, 2
+//!
+//! An answer has 256 rows at most; here the next question is asked until none are left, and rows are written once they are found, so
+//! memory doesn't grow with the table. The next question begins after the place of the last row, or skips the events that were found
+//! (`pages`, `events`). All questions of a call are of one history: an archive that one process has changes by nothing that it is asked.
+//!
+//! Rows come in the order of peers, and of prefixes for each peer. So `peers` holds one count at a time, and `diff` goes through two tables
+//! side by side (`cursor`, `comparing`): the lesser place has a route at one moment alone, `-` for the first and `+` for the second; at the
+//! same place two routes differ, `~`, if their encodings do. A prefix that the rows of `diff` must lie in is applied here, to the rows of
+//! all prefixes.
+//!
+//! Without a moment `dump` and `peers` take the last that is settled; if none is, the question is refused. A table ends in E and the count
+//! of lines, and a refusal is the last line, so a table that was cut can be seen. The forms bgpdump and json, which other programs read,
+//! have no such end: there the refusal is on standard error. Once a write has failed no more is asked.
+//!
+//! On a terminal the names of the columns stand on standard error (`headings`), so standard output is the same for programs and people.
+//! `reading` reads the arguments, `running` does the commands; `lines`, `human`, `bgpdump` and `json` are the forms of a row, and `known`
+//! writes communities as texts (RFC 1997, RFC 4360, RFC 5668, RFC 8092).
 #![tactic(auto)]
 
 mod asking;

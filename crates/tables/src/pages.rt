@@ -15,13 +15,13 @@ pub(crate) fn rows_page<A: RouteArchive>(
     archive: &mut A,
     question: RowsQuestion,
 ) -> Result<RowsAnswer, AskError>
-    ensures answered { (h : History) → A.carries archive.old h → IfOk result (λ answer. (question.moment < settled h) × IsAnswer (applied h) question answer.rows.items answer.more) }
-    ensures refused { (h : History) → A.carries archive.old h → IfErr result (λ why. IsAnswerOf h (Query.Rows question) (Err why)) }
-    ensures kept { (h : History) → A.carries archive.old h → A.carries archive.new h }
+    ensures answered { (h : History) → A.represents archive.old h → IfOk result (λ answer. (question.moment < settled h) × IsAnswer (applied h) question answer.rows.items answer.more) }
+    ensures refused { (h : History) → A.represents archive.old h → IfErr result (λ why. IsAnswerOf h (Query.Rows question) (Err why)) }
+    ensures kept { (h : History) → A.represents archive.old h → A.represents archive.new h }
 {
     match archive.answer(Query::Rows(question)) {
         Ok(Answer::Rows(answer)) => Ok(answer),
-        // No archive that carries a history answers so.
+        // No archive that represents a history answers so.
         Ok(Answer::Events(_)) => Err(AskError::Trouble(Trouble::Fault)),
         Err(why) => Err(why),
     }
@@ -32,13 +32,13 @@ pub(crate) fn events_page<A: RouteArchive>(
     archive: &mut A,
     question: EventsQuestion,
 ) -> Result<EventsAnswer, AskError>
-    ensures answered { (h : History) → A.carries archive.old h → IfOk result (λ answer. (question.to < settled h) × IsEventsAnswer (applied h) question answer.events.items answer.more) }
-    ensures refused { (h : History) → A.carries archive.old h → IfErr result (λ why. IsAnswerOf h (Query.Events question) (Err why)) }
-    ensures kept { (h : History) → A.carries archive.old h → A.carries archive.new h }
+    ensures answered { (h : History) → A.represents archive.old h → IfOk result (λ answer. (question.to < settled h) × IsEventsAnswer (applied h) question answer.events.items answer.more) }
+    ensures refused { (h : History) → A.represents archive.old h → IfErr result (λ why. IsAnswerOf h (Query.Events question) (Err why)) }
+    ensures kept { (h : History) → A.represents archive.old h → A.represents archive.new h }
 {
     match archive.answer(Query::Events(question)) {
         Ok(Answer::Events(answer)) => Ok(answer),
-        // No archive that carries a history answers so.
+        // No archive that represents a history answers so.
         Ok(Answer::Rows(_)) => Err(AskError::Trouble(Trouble::Fault)),
         Err(why) => Err(why),
     }

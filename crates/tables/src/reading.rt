@@ -99,7 +99,7 @@ pub fn read_comparison(asked: &Comparing<'_>) -> Result<Comparison, BadArgument>
 
 /// The moment that is asked for, or else the last that is settled; where none is, the first of all, which is refused then.
 pub fn moment_of<A: RouteArchive>(archive: &A, at: Option<Moment>) -> Moment
-    ensures moment { (h : History) → A.carries archive.now h → result ≡ moment_in h at }
+    ensures moment { (h : History) → A.represents archive.now h → result ≡ moment_in h at }
 {
     if let Some(moment) = at {
         return moment;

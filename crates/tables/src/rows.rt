@@ -8,7 +8,7 @@ use crate::lines::RowWriter;
 use crate::pages::{question_after, rows_page};
 use archive_calls::{AskError, RouteArchive, Trouble};
 use route_meaning::RowsQuestion;
-use service::{Output, Status, told, write_error};
+use service::{Output, Status, reported, write_error};
 use std::alloc::Global;
 use std::io::Write;
 
@@ -21,7 +21,7 @@ fn write_page<A: RouteArchive, W: Write>(
     text: &mut String,
     out: &mut Output<W>,
 ) -> Result<(u64, Option<RowsQuestion>), AskError>
-    ensures kept { (h : History) → A.carries archive.old h → A.carries archive.new h }
+    ensures kept { (h : History) → A.represents archive.old h → A.represents archive.new h }
 {
     let answer = rows_page(archive, question)?;
     text.clear();
@@ -39,7 +39,7 @@ fn write_rows<A: RouteArchive, W: Write>(
     question: RowsQuestion,
     out: &mut Output<W>,
 ) -> Result<u64, AskError>
-    ensures kept { (h : History) → A.carries archive.old h → A.carries archive.new h }
+    ensures kept { (h : History) → A.represents archive.old h → A.represents archive.new h }
 {
     let writer = of_memory(RowWriter::new(alloc, form, question.moment))?;
     let mut text = String::new(alloc);
@@ -72,17 +72,17 @@ pub(crate) fn write_table<A: RouteArchive, W: Write, E: Write>(
     out: &mut Output<W>,
     err: &mut Output<E>,
 ) -> Status
-    ensures kept { (h : History) → A.carries archive.old h → A.carries archive.new h }
+    ensures kept { (h : History) → A.represents archive.old h → A.represents archive.new h }
 {
     let ended = write_rows(alloc, archive, form, question, out);
     if form.has_end() {
         return end_lines(alloc, ended, out, err);
     }
     match ended {
-        Ok(_) => told(alloc, Status::Done, out, err),
+        Ok(_) => reported(alloc, Status::Done, out, err),
         Err(why) => {
             write_error(err, &refusal_of(why));
-            told(alloc, Status::Refused, out, err)
+            reported(alloc, Status::Refused, out, err)
         }
     }
 }

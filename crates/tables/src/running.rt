@@ -27,7 +27,7 @@ pub fn ask<A: RouteArchive, W: Write, E: Write>(
     out: &mut Output<W>,
     err: &mut Output<E>,
 ) -> u8
-    ensures kept { (h : History) → A.carries archive.old h → A.carries archive.new h }
+    ensures kept { (h : History) → A.represents archive.old h → A.represents archive.new h }
 {
     let manner = Manner {
         all: asked.all,
@@ -51,7 +51,7 @@ pub fn dump<A: RouteArchive, W: Write, E: Write>(
     out: &mut Output<W>,
     err: &mut Output<E>,
 ) -> u8
-    ensures kept { (h : History) → A.carries archive.old h → A.carries archive.new h }
+    ensures kept { (h : History) → A.represents archive.old h → A.represents archive.new h }
 {
     let question = RowsQuestion {
         moment: moment_of(archive, table.at),
@@ -74,7 +74,7 @@ pub fn peers<A: RouteArchive, W: Write, E: Write>(
     out: &mut Output<W>,
     err: &mut Output<E>,
 ) -> u8
-    ensures kept { (h : History) → A.carries archive.old h → A.carries archive.new h }
+    ensures kept { (h : History) → A.represents archive.old h → A.represents archive.new h }
 {
     let moment = moment_of(archive, at);
     if terminal {
@@ -97,7 +97,7 @@ pub fn diff<A: RouteArchive, W: Write, E: Write>(
     out: &mut Output<W>,
     err: &mut Output<E>,
 ) -> u8
-    ensures kept { (h : History) → A.carries archive.old h → A.carries archive.new h }
+    ensures kept { (h : History) → A.represents archive.old h → A.represents archive.new h }
 {
     if terminal {
         write_heading(Columns::Differences, Form::Lines, err);

@@ -1,4 +1,7 @@
 //! Octets that tests write as text.
+//!
+//! Tables of tests have records and messages as hexadecimal digits, grouped by spaces and line ends as a reader likes: `02 0003 fde9`.
+//! `octets` takes the spaces out and decodes the rest, and its clause states that. What isn't such a text is an error.
 #![tactic(auto)]
 
 ghost use Rattle.std.specs.Prelude.{◌≡◌, IfOk, filter};

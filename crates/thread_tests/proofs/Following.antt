@@ -1,4 +1,4 @@
--- Calls that follow one another, up to what an archive carries when it is closed.
+-- Calls that follow one another, up to what an archive represents when it is closed.
 use Rattle.std.proofs.Common.{◌≡◌, ◌<◌, ◌+◌, ◌++◌, ℕ, List, [], ◌∷◌, length, take, get_or, Option, Some, IfSome, IsSome, Result, Ok, Err, IfOk, IfErr, OnOk, inl, inr, refl, sym, ◌∙◌, ap, subst, zero-le}
 use Rattle.std.specs.Prelude.{is_ok, if◌then◌else◌}
 use Rattle.std.specs.Global.{Vec}
@@ -12,7 +12,7 @@ use Rattle.interleaving_core.specs.Headline.{IsAnswered}
 use Rattle.board.specs.Past.{Past, GoesOnAs}
 use Rattle.board.specs.Views.{View, IsFrontOf}
 use Rattle.query_threads.specs.Seeing.{Since}
-use Rattle.query_threads.specs.Turns.{IsTold}
+use Rattle.query_threads.specs.Turns.{IsReported}
 use Rattle.query_threads.specs.declared.refusal.AskError.{AskError}
 use Rattle.query_threads.proofs.Answering.{answer_stays}
 use Rattle.query_threads.proofs.Seen.{goes_on_then}
@@ -34,7 +34,7 @@ at_some o P x is p = subst (λ (k : Option _). IfSome k P) is p
 -- ---- one call
 
 -- what a question returned, by the clauses of `ask`
-pub reply_over : (h : History) (query : Query) (r : Result Answer AskError) → IfOk r (λ answer. IsAnswered (applied h) query answer) → OnOk r (last_moment query < settled h) → IfErr r (λ e. IsTold e h query) → IsReplyOver h query r
+pub reply_over : (h : History) (query : Query) (r : Result Answer AskError) → IfOk r (λ answer. IsAnswered (applied h) query answer) → OnOk r (last_moment query < settled h) → IfErr r (λ e. IsReported e h query) → IsReplyOver h query r
 reply_over h query (Ok answer) is below refused = (is, below)
 reply_over h query (Err refusal) is below refused = refused
 
@@ -96,8 +96,8 @@ is_work works returned v w last follows front = record { seen = w; follows = fol
 -- ---- two threads
 
 -- two passes are pushed
-pushed : {V X E : Type 0} (told : Result X E) (x : X) (old new : List V) (v : V) → new ≡ (if is_ok told then old ++ v ∷ [] else old) → told ≡ Ok x → new ≡ old ++ v ∷ []
-pushed told x old new v is ok = is ∙ ap (λ (r : Result _ _). if is_ok r then old ++ v ∷ [] else old) ok
+pushed : {V X E : Type 0} (reported : Result X E) (x : X) (old new : List V) (v : V) → new ≡ (if is_ok reported then old ++ v ∷ [] else old) → reported ≡ Ok x → new ≡ old ++ v ∷ []
+pushed reported x old new v is ok = is ∙ ap (λ (r : Result _ _). if is_ok r then old ++ v ∷ [] else old) ok
 
 pub two_pushed : {V X E : Type 0} (a b : Result X E) (x y : X) (none one both : List V) (v w : V) → none ≡ [] → one ≡ (if is_ok a then none ++ v ∷ [] else none) → both ≡ (if is_ok b then one ++ w ∷ [] else one) → a ≡ Ok x → b ≡ Ok y → both ≡ v ∷ w ∷ []
 two_pushed a b x y none one both v w empty first second ok_a ok_b =
@@ -115,7 +115,7 @@ is_played works others v from also to end closed ran too store one two same as_w
     let other = at_some too (λ r. Follows others r.items also end) two is_too second in
     record {
       last = last.0;
-      carried = last.1;
+      represented = last.1;
       one = is_work works one.items v to last.0 (subst (λ (x : View). Follows works one.items x to) same front) last.2;
       two = is_work others two.items v end last.0 (subst (λ (x : View). Follows others two.items x end) as_well other) last.3;
     }

@@ -11,14 +11,14 @@ use Rattle.route_meaning.specs.History.{Intake, History, IsHistory, all_of}
 use Rattle.interleaving_core.specs.Steps.{empty}
 use Rattle.archive_head.specs.declared.lane.Lane.{Lane}
 use Rattle.archive_pages.specs.declared.settings.Settings.{Settings}
-use Rattle.archive_pages.specs.Carried.{LaneStands}
+use Rattle.archive_pages.specs.Represented.{LaneStands}
 use Rattle.disk_archive.specs.declared.archive.Archive.{Archive}
-use Rattle.disk_archive.specs.Archives.{BearsOn, Carries, GoesOn, settings_of}
+use Rattle.disk_archive.specs.Archives.{HeadRepresentsOn, Represents, GoesOn, settings_of}
 
 -- an archive goes on with histories of as many collectors as it was made for
 pub number_of : {E O Pen Seen : Type 0} {erase : EraseGhosts E} {once : OnceGhosts O Pen Seen} (a : Archive E O Pen Seen erase once) (h : History) → GoesOn a h → length h.intakes ≡ (settings_of a).collectors
-number_of a h (inl carries) = carries.bears.number
-number_of a h (inr waits) = waits.told.number
+number_of a h (inl represents) = represents.head_represents.number
+number_of a h (inr waits) = waits.reported.number
 
 -- ---- by its head alone an archive to which nothing was given has no other history
 
@@ -73,13 +73,13 @@ same_empty n lanes h right begun many number none some =
     let whole : h.whole ≡ 0 = omega (arith, within, long) in
     λ k. record { intakes = intakes k; whole = whole k; some = begun k }
 
-bears_only : {E O Pen Seen : Type 0} {erase : EraseGhosts E} {once : OnceGhosts O Pen Seen} (a : Archive E O Pen Seen erase once) (old pages : List (List ℕ)) (n : ℕ) (h : History) → BearsOn a old (empty n) → BearsOn a pages h → h ≡ empty n
-bears_only a old pages n h was now =
+head_represents_only : {E O Pen Seen : Type 0} {erase : EraseGhosts E} {once : OnceGhosts O Pen Seen} (a : Archive E O Pen Seen erase once) (old pages : List (List ℕ)) (n : ℕ) (h : History) → HeadRepresentsOn a old (empty n) → HeadRepresentsOn a pages h → h ≡ empty n
+head_represents_only a old pages n h was now =
     let size : a.settings.collectors ≡ n = sym was.number ∙ length-replicate n silent in
     same_empty n a.head.lanes h now.right (sym now.begun ∙ was.begun) (now.lanes_number ∙ size) (now.number ∙ size)
     (λ c lane i there here. counts_of _ _ c lane i _ (was.lanes c lane i there here))
     (λ c lane i there here. counts_of _ _ c lane i _ (now.lanes c lane i there here))
 
-pub only_empty : {E O Pen Seen : Type 0} {erase : EraseGhosts E} {once : OnceGhosts O Pen Seen} (a : Archive E O Pen Seen erase once) (n : ℕ) (h : History) → Carries a (empty n) → GoesOn a h → h ≡ empty n
-only_empty a n h was (inl now) = bears_only a was.pages now.pages n h was.bears now.bears
-only_empty a n h was (inr waits) = bears_only a was.pages waits.pages n h was.bears waits.told
+pub only_empty : {E O Pen Seen : Type 0} {erase : EraseGhosts E} {once : OnceGhosts O Pen Seen} (a : Archive E O Pen Seen erase once) (n : ℕ) (h : History) → Represents a (empty n) → GoesOn a h → h ≡ empty n
+only_empty a n h was (inl now) = head_represents_only a was.pages now.pages n h was.head_represents now.head_represents
+only_empty a n h was (inr waits) = head_represents_only a was.pages waits.pages n h was.head_represents waits.reported

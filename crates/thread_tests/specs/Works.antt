@@ -10,7 +10,7 @@ use Rattle.board.specs.Past.{Past}
 use Rattle.board.specs.Views.{View, IsFrontOf}
 use Rattle.query_threads.specs.Seeing.{Sees, Since}
 use Rattle.query_threads.specs.Steps.{DoesAdmit, DoesMark, DoesApply}
-use Rattle.query_threads.specs.Turns.{IsTold}
+use Rattle.query_threads.specs.Turns.{IsReported}
 use Rattle.query_threads.specs.declared.refusal.AskError.{AskError}
 use Rattle.shared_archive.specs.Held.{HoldsPast}
 use Rattle.thread_tests.specs.declared.works.Work.{Work}
@@ -23,7 +23,7 @@ use Rattle.thread_tests.specs.declared.sharing.Played.{Played}
 -- a trouble from outside.
 abbrev pub IsReplyOver : History → Query → Result Answer AskError → Type 0
 IsReplyOver h query (Ok answer) = IsAnswered (applied h) query answer × (last_moment query < settled h)
-IsReplyOver h query (Err refusal) = IsTold refusal h query
+IsReplyOver h query (Err refusal) = IsReported refusal h query
 
 -- A call returned this, between what the thread's pass saw before it and after it: it was made on a past that goes on from the first, and the
 -- reply is that of this past.
@@ -53,10 +53,10 @@ pub record IsWork (works : List Work) (returned : List Returned) (first : View) 
   pub front : IsFrontOf last seen
   pub answers : AllZip (IsAnswerOf last.history) works returned
 
--- What two threads did on an archive that they shared, whose passes saw this first: when it is closed it carries a past, up to which the calls
+-- What two threads did on an archive that they shared, whose passes saw this first: when it is closed it represents a past, up to which the calls
 -- of both lead.
 pub record IsPlayed (first : View) (works others : List Work) (played : Played) : Type 0 where
   pub last : Past
-  pub carried : HoldsPast played.store.archive last
+  pub represented : HoldsPast played.store.archive last
   pub one : IsWork works played.one.items first last
   pub two : IsWork others played.two.items first last

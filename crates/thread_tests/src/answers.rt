@@ -17,7 +17,7 @@ fn rows_alike(one: &RowsAnswer, other: &RowsAnswer) -> bool {
 fn row_alike(one: &Row, other: &Row) -> bool {
     one.peer == other.peer
         && one.prefix == other.prefix
-        && one.route.spelling() == other.route.spelling()
+        && one.route.encoding() == other.route.encoding()
 }
 
 fn events_alike(one: &EventsAnswer, other: &EventsAnswer) -> bool {
@@ -37,7 +37,7 @@ fn event_alike(one: &Event, other: &Event) -> bool {
 fn changes_alike(one: &Change, other: &Change) -> bool {
     match (one, other) {
         (Change::Announce(peer, prefix, route), Change::Announce(who, what, it)) => {
-            peer == who && prefix == what && route.spelling() == it.spelling()
+            peer == who && prefix == what && route.encoding() == it.encoding()
         }
         (Change::Withdraw(peer, prefix), Change::Withdraw(who, what)) => {
             peer == who && prefix == what

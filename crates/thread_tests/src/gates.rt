@@ -20,15 +20,15 @@ const REQUEST: u64 = 7;
 
 /// How often each was called, and whether all came in its turn.
 #[derive(Drop)]
-struct Told {
+struct Reported {
     descended: AtomicU64,
     answered: AtomicU64,
     is_wrong: AtomicBool,
 }
 
-impl Told {
-    fn new() -> Told {
-        Told {
+impl Reported {
+    fn new() -> Reported {
+        Reported {
             descended: AtomicU64::new(0),
             answered: AtomicU64::new(0),
             is_wrong: AtomicBool::new(false),
@@ -53,24 +53,24 @@ impl Told {
 #[derive(Drop)]
 struct CountGate {
     signals: Arc<Signals>,
-    told: Arc<Told>,
+    reported: Arc<Reported>,
 }
 
 impl Gate for CountGate {
     fn descended(&self, request: u64) {
         let signals: &Signals = &self.signals;
-        let told: &Told = &self.told;
+        let reported: &Reported = &self.reported;
         let turns = signals.turns.load(Ordering::SeqCst);
-        let replies = told.answered.load(Ordering::SeqCst);
-        told.expect(request == REQUEST && turns == 1 && replies == 0);
-        let _before = told.descended.fetch_add(1, Ordering::SeqCst);
+        let replies = reported.answered.load(Ordering::SeqCst);
+        reported.expect(request == REQUEST && turns == 1 && replies == 0);
+        let _before = reported.descended.fetch_add(1, Ordering::SeqCst);
     }
 
     fn answered(&self, request: u64) {
-        let told: &Told = &self.told;
-        let first_turns = told.descended.load(Ordering::SeqCst);
-        told.expect(request == REQUEST && first_turns == 1);
-        let _before = told.answered.fetch_add(1, Ordering::SeqCst);
+        let reported: &Reported = &self.reported;
+        let first_turns = reported.descended.load(Ordering::SeqCst);
+        reported.expect(request == REQUEST && first_turns == 1);
+        let _before = reported.answered.fetch_add(1, Ordering::SeqCst);
     }
 }
 
@@ -122,17 +122,17 @@ struct Replied {
 
 // What a question of all that was announced up to this moment is replied. None where the gate was called otherwise than it must be.
 fn reply_to<R: Wait>(rt: &R, alloc: Global, signals: &Arc<Signals>, last: u64) -> Option<Replied> {
-    let told = Arc::new(alloc, Told::new()).ok()?;
+    let reported = Arc::new(alloc, Reported::new()).ok()?;
     let gate = CountGate {
         signals: signals.clone().ok()?,
-        told: told.clone().ok()?,
+        reported: reported.clone().ok()?,
     };
     let store = ArmedStore::loaded(alloc, signals, &mut Log::new(alloc))?;
     let opened = Opened::new(alloc, COLLECTORS).ok()?;
     let query = history_of(FIRST, last);
     let reply = play::<Brand, R>(rt, alloc, opened, store, gate, query)?;
     let turns = signals.turns.load(Ordering::SeqCst);
-    if told.is_right() {
+    if reported.is_right() {
         Some(Replied { reply, turns })
     } else {
         None

@@ -1,4 +1,4 @@
-//! Two threads on a new archive, whose replies are proved: by `share_new` each answer is that of the history which the closed archive carries.
+//! Two threads on a new archive, whose replies are proved: by `share_new` each answer is that of the history which the closed archive represents.
 
 use crate::be;
 use crate::made::{
@@ -46,11 +46,11 @@ fn play<R: Threads + Wait + Sync>(rt: &R, alloc: Global) -> Option<Played> {
 fn is_left(row: &Row, route: &SharedRoute) -> bool {
     row.peer == peer_of(0, 1)
         && row.prefix == prefix_of(0)
-        && row.route.spelling() == route.spelling()
+        && row.route.encoding() == route.encoding()
 }
 
 // Whether that route is the only row.
-fn is_wanted(answer: &Answer, route: &SharedRoute) -> bool {
+fn is_expected(answer: &Answer, route: &SharedRoute) -> bool {
     match answer {
         Answer::Rows(rows) => {
             rows.rows.len() == 1 && !rows.more && rows.rows.iter().all(|row| is_left(row, route))
@@ -59,13 +59,13 @@ fn is_wanted(answer: &Answer, route: &SharedRoute) -> bool {
     }
 }
 
-// Whether a call succeeded, by the wanted answer if it was a question. That may also be refused as not settled yet.
+// Whether a call succeeded, by the expected answer if it was a question. That may also be refused as not settled yet.
 fn is_right(returned: &Returned, route: &SharedRoute) -> bool {
     match returned {
         Returned::Admitted(reply) => reply.is_ok(),
         Returned::Marked(marked) => marked.is_ok(),
         Returned::Applied(step) => step.is_ok(),
-        Returned::Answered(Ok(answer)) => is_wanted(answer, route),
+        Returned::Answered(Ok(answer)) => is_expected(answer, route),
         Returned::Answered(Err(why)) => matches!(why, AskError::AboveWatermark(_)),
     }
 }
@@ -82,7 +82,7 @@ fn all_right(played: &Played, route: &SharedRoute) -> bool {
 }
 
 #[test]
-fn threads_are_answered_what_the_closed_archive_carries(rt: HostRuntime) {
+fn threads_are_answered_what_the_closed_archive_represents(rt: HostRuntime) {
     let route = route_of(rt.alloc(), 0).expect(&rt, "memory for the route");
     let played = play(&rt, rt.alloc()).expect(&rt, "memory for the threads");
     be(&rt, all_right(&played, &route), "all is replied");

@@ -24,7 +24,7 @@ use std::alloc::Global;
 use std::sync::Arc;
 use std::sync::atomic::Ordering;
 
-/// An archive with its blocks on an armed disk, which counts turns. Nothing is promised of it, so that it carries no past, and reports
+/// An archive with its blocks on an armed disk, which counts turns. Nothing is promised of it, so that it represents no past, and reports
 /// most troubles as a failed device.
 #[derive(Drop)]
 pub(crate) struct ArmedStore {
@@ -90,7 +90,7 @@ impl Store for ArmedStore {
 
     type Cursor = Cursor;
 
-    ghost carries = { λ _ _. ⊥ };
+    ghost represents = { λ _ _. ⊥ };
 
     ghost pages = { λ store. (settings_of store.archive).ring };
 
@@ -112,13 +112,13 @@ impl Store for ArmedStore {
 
     ghost fits = { λ errand cursor. IsErrandFor cursor errand };
 
-    ghost lies = { λ _ _ _ _. ⊥ };
+    ghost located = { λ _ _ _ _. ⊥ };
 
-    ghost right = { λ _ _ carried. absurd carried };
+    ghost right = { λ _ _ represented. absurd represented };
 
     ghost stays = { λ _ _ _ _ _ _ gathered. gathered };
 
-    ghost tells = { λ _ _ _. ⊤ };
+    ghost reports = { λ _ _ _. ⊤ };
 
     ghost reopens = { λ _ _ _. ⊤ };
 

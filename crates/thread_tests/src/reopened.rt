@@ -95,7 +95,7 @@ fn goes_on<B: Named>(
     let refused = ask(rt, alloc, stage, pass).err();
     let first = stage.reopen(rt, pass, alloc);
     let shut = stage.apply(rt, pass);
-    let told = durable_in(stage, pass);
+    let reported = durable_in(stage, pass);
     let second = stage.reopen(rt, pass, alloc);
     let again = events_in(ask(rt, alloc, stage, pass));
     let given = give(rt, alloc, stage, pass);
@@ -104,7 +104,7 @@ fn goes_on<B: Named>(
         && refused == Some(AskError::Trouble(Trouble::NeedsRecovery))
         && first == Err(Trouble::Fault)
         && shut == Err(Trouble::NeedsRecovery)
-        && told == durable
+        && reported == durable
         && second == Ok(())
         && again == before
         && given == Ok(())

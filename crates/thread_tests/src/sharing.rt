@@ -8,7 +8,7 @@ ghost use Rattle.board.specs.Opened.{name_of};
 ghost use Rattle.board.specs.Past.{Past};
 ghost use Rattle.board.specs.Views.{IsFrontOf, View};
 ghost use Rattle.disk_archive.specs.Archives.{GoesOn};
-ghost use Rattle.shared_archive.specs.Carried.{CarriesPast};
+ghost use Rattle.shared_archive.specs.Represented.{RepresentsPast};
 ghost use Rattle.shared_archive.specs.Held.{HoldsPast, disk_in, pages_in};
 ghost use Rattle.thread_tests.specs.Works.{Follows, IsPlayed};
 
@@ -19,7 +19,7 @@ use board::{Named, Opened, Pass};
 use disk_archive::Archive;
 use disk_memory::{MemErase, MemOnce};
 use query_threads::{NoGate, OnDisk, Shared};
-use shared_archive::laws::past_is_carried;
+use shared_archive::laws::past_is_represented;
 use shared_archive::{Held, MemStore};
 use std::alloc::Global;
 use std::marker::Brand;
@@ -91,7 +91,7 @@ fn play<N: Named + OnDisk<MemOnce> + Send + Sync, R: Threads + Wait + Sync>(
     requires some { 1 ≤ opened.collectors }
     requires disk { N.disk ≡ Some (disk_in store.archive) }
     requires pages { N.pages ≡ pages_in store.archive }
-    requires carried { (p : Past) × HoldsPast store.archive p × (length p.history.intakes ≡ opened.collectors) }
+    requires represented { (p : Past) × HoldsPast store.archive p × (length p.history.intakes ≡ opened.collectors) }
     ensures played { IfSome result (λ played. (first : View) × HoldsPast store.archive first.past × IsPlayed first one.items two.items played) }
 {
     let (stage, mut first): (Stage<N>, Pass<N>) = Shared::new(opened, store, NoGate);
@@ -120,10 +120,10 @@ pub fn share<R: Threads + Wait + Sync>(
     one: Vec<Work>,
     two: Vec<Work>,
 ) -> Option<Played>
-    requires carried { (h : History) × GoesOn archive h }
-    ensures played { IfSome result (λ played. (first : View) × CarriesPast archive first.past × IsPlayed first one.items two.items played) }
+    requires represented { (h : History) × GoesOn archive h }
+    ensures played { IfSome result (λ played. (first : View) × RepresentsPast archive first.past × IsPlayed first one.items two.items played) }
 {
-    past_is_carried(&archive);
+    past_is_represented(&archive);
     let Ok(opened) = Opened::new(alloc, archive.collectors()) else {
         return None;
     };
@@ -133,7 +133,7 @@ pub fn share<R: Threads + Wait + Sync>(
     play::<Brand, R>(rt, alloc, opened, store, one, two)
 }
 
-/// The same on a new archive, on disks of so many octets and blocks. None where it can't be made.
+/// The same on a new archive, on disks of this many octets and blocks. None where it can't be made.
 pub fn share_new<R: Threads + Wait + Sync>(
     rt: &R,
     alloc: Global,

@@ -18,18 +18,18 @@ use Rattle.route_history.specs.declared.events_turn.EventsTurn.{EventsTurn}
 use Rattle.route_history.specs.declared.events_turn.EventsTurn.TheVariants as events
 use Rattle.route_history.specs.Fronts.{front_number}
 use Rattle.route_history.specs.Points.{PartsAt as PartsAtPoint}
-use Rattle.route_history.specs.Spans.{HasTold, HasToldSo, IsSameTelling}
+use Rattle.route_history.specs.Spans.{HasReported, HasReportedSo, IsSameReporting}
 use Rattle.route_history.specs.Walks.{IsGathered, Gathered, IsSame, Rose, NotBack}
 use Rattle.tsb_walk.specs.declared.looks.Parted.{Parted}
 use Rattle.tsb_walk.specs.declared.looks.Parted.TheVariants as parted
 use Rattle.tsb_walk.specs.declared.page_place.PagePlace.{PagePlace}
-use Rattle.tsb_walk.specs.Looked.{PartsAt, TellsAll}
+use Rattle.tsb_walk.specs.Looked.{PartsAt, ReportsAll}
 use Rattle.version_model.specs.Blocks.{BlockNode}
 use Rattle.version_model.specs.Pages.{Store}
 use Rattle.version_model.specs.Ranges.{end_or}
 use Rattle.version_model.specs.Versions.{Version}
 use Rattle.tree_questions.specs.Turning.{ShowsTree, TurnsRows, TurnsEvents, GoesOnRows, GoesOnEvents}
-use Rattle.tree_questions.specs.inner.Telling.{KeepsEvents, KeepsRows, TellsOn, ToldEvents, ToldRows}
+use Rattle.tree_questions.specs.inner.Reporting.{KeepsEvents, KeepsRows, ReportsOn, ReportedEvents, ReportedRows}
 
 -- where pages were only read
 pub shows_pages : {P : Type 0} (pages : Ghosts P) (root : PagePlace) (burnt : ℕ) (store : Store) (all : List Version) (held held' : P) → ((start : Start) (shown : List (List ℕ)) → pages.shows held start shown → pages.shows held' start shown)
@@ -60,30 +60,30 @@ rows_same all ps c d s g =
     (subst (λ (x : List Row). IsGathered all ps c.question (front_number c.front) c.ended x d.more) (sym s.rows)
     (subst (λ (x : Bool). IsGathered all ps c.question (front_number c.front) c.ended c.rows.items x) (sym s.more) g))))
 
-pub events_same : (all : List Version) (ps : List (Placed Admitted)) (c d : EventsCursor) → IsSameTelling c d → HasToldSo all ps c → HasToldSo all ps d
+pub events_same : (all : List Version) (ps : List (Placed Admitted)) (c d : EventsCursor) → IsSameReporting c d → HasReportedSo all ps c → HasReportedSo all ps d
 events_same all ps c d s g =
-    subst (λ (x : EventsQuestion). HasTold all ps x d.at d.left d.told.items d.more) (sym s.question)
-    (subst (λ (x : Option ℕ). HasTold all ps c.question x d.left d.told.items d.more) (sym s.at)
-    (subst (λ (x : ℕ). HasTold all ps c.question c.at x d.told.items d.more) (sym s.left)
-    (subst (λ (x : List Event). HasTold all ps c.question c.at c.left x d.more) (sym s.told)
-    (subst (λ (x : Bool). HasTold all ps c.question c.at c.left c.told.items x) (sym s.more) g))))
+    subst (λ (x : EventsQuestion). HasReported all ps x d.at d.left d.reported.items d.more) (sym s.question)
+    (subst (λ (x : Option ℕ). HasReported all ps c.question x d.left d.reported.items d.more) (sym s.at)
+    (subst (λ (x : ℕ). HasReported all ps c.question c.at x d.reported.items d.more) (sym s.left)
+    (subst (λ (x : List Event). HasReported all ps c.question c.at c.left x d.more) (sym s.reported)
+    (subst (λ (x : Bool). HasReported all ps c.question c.at c.left c.reported.items x) (sym s.more) g))))
 
 -- ---- what is returned after a look, as a turn: from one cursor, by way of another, to the last
 
-pub rows_told : (blocks : ℕ → Option BlockNode) (all : List Version) (ps : List (Placed Admitted)) (c d e : RowsCursor) (turn : RowsTurn) → ToldRows ps d e turn → KeepsRows d e turn → d.question ≡ c.question → Rose (front_number c.front) (front_number d.front) → TurnsRows blocks all ps c e turn
-rows_told blocks all ps c d e (rows.Done answer) told keeps same rose = subst (λ (q : RowsQuestion). IsAnswer ps q answer.rows.items answer.more) same told
-rows_told blocks all ps c d e rows.Again told keeps same rose = subst (λ (x : RowsCursor). Rose (front_number c.front) (front_number x.front)) (sym keeps) rose
-rows_told blocks all ps c d e (rows.Historical errand) told keeps same rose = absurd told
+pub rows_reported : (blocks : ℕ → Option BlockNode) (all : List Version) (ps : List (Placed Admitted)) (c d e : RowsCursor) (turn : RowsTurn) → ReportedRows ps d e turn → KeepsRows d e turn → d.question ≡ c.question → Rose (front_number c.front) (front_number d.front) → TurnsRows blocks all ps c e turn
+rows_reported blocks all ps c d e (rows.Done answer) reported keeps same rose = subst (λ (q : RowsQuestion). IsAnswer ps q answer.rows.items answer.more) same reported
+rows_reported blocks all ps c d e rows.Again reported keeps same rose = subst (λ (x : RowsCursor). Rose (front_number c.front) (front_number x.front)) (sym keeps) rose
+rows_reported blocks all ps c d e (rows.Historical errand) reported keeps same rose = absurd reported
 
 pub rows_kept : (c d e : RowsCursor) (turn : RowsTurn) → KeepsRows d e turn → Rose (front_number c.front) (front_number d.front) → GoesOnRows c e turn
 rows_kept c d e (rows.Done answer) keeps rose = tt
 rows_kept c d e rows.Again keeps rose = subst (λ (x : RowsCursor). Rose (front_number c.front) (front_number x.front)) (sym keeps) rose
 rows_kept c d e (rows.Historical errand) keeps rose = absurd keeps
 
-pub events_told : (blocks : ℕ → Option BlockNode) (all : List Version) (ps : List (Placed Admitted)) (c d e : EventsCursor) (turn : EventsTurn) → ToldEvents ps d e turn → KeepsEvents d e turn → d.question ≡ c.question → Rose c.at d.at → TurnsEvents blocks all ps c e turn
-events_told blocks all ps c d e (events.Done answer) told keeps same rose = subst (λ (q : EventsQuestion). IsEventsAnswer ps q answer.events.items answer.more) same told
-events_told blocks all ps c d e events.Again told keeps same rose = subst (λ (x : EventsCursor). Rose c.at x.at) (sym keeps) rose
-events_told blocks all ps c d e (events.Historical errand) told keeps same rose = absurd told
+pub events_reported : (blocks : ℕ → Option BlockNode) (all : List Version) (ps : List (Placed Admitted)) (c d e : EventsCursor) (turn : EventsTurn) → ReportedEvents ps d e turn → KeepsEvents d e turn → d.question ≡ c.question → Rose c.at d.at → TurnsEvents blocks all ps c e turn
+events_reported blocks all ps c d e (events.Done answer) reported keeps same rose = subst (λ (q : EventsQuestion). IsEventsAnswer ps q answer.events.items answer.more) same reported
+events_reported blocks all ps c d e events.Again reported keeps same rose = subst (λ (x : EventsCursor). Rose c.at x.at) (sym keeps) rose
+events_reported blocks all ps c d e (events.Historical errand) reported keeps same rose = absurd reported
 
 pub events_kept : (c d e : EventsCursor) (turn : EventsTurn) → KeepsEvents d e turn → Rose c.at d.at → GoesOnEvents c e turn
 events_kept c d e (events.Done answer) keeps rose = tt
@@ -97,6 +97,6 @@ parts_at key from (parted.Here part) at = tt
 parts_at key from (parted.InBlock place) at = at
 
 -- if all versions are returned, they go up to the end of all stamps
-pub tells_on : (from : ℕ) (p : Parted) → from < 256 ^ 16 → TellsAll p → TellsOn from p
-tells_on from (parted.Here part) fits all = subst (λ (o : Option ℕ). from < end_or o) (sym all) (let lt : from < 256 ^ 16 = fits in omega (arith, lt))
-tells_on from (parted.InBlock place) fits all = tt
+pub reports_on : (from : ℕ) (p : Parted) → from < 256 ^ 16 → ReportsAll p → ReportsOn from p
+reports_on from (parted.Here part) fits all = subst (λ (o : Option ℕ). from < end_or o) (sym all) (let lt : from < 256 ^ 16 = fits in omega (arith, lt))
+reports_on from (parted.InBlock place) fits all = tt

@@ -1,3 +1,3 @@
 pub mod Left
-pub mod Telling
+pub mod Reporting
 pub mod Taking

@@ -11,9 +11,9 @@ ghost use Rattle.tsb_walk.specs.Refusals.{LookRefusal, OnlyReads};
 ghost use Rattle.tsb_walk.specs.Shown.{keys_at};
 ghost use Rattle.route_history.specs.Blame.{BlamesNone};
 ghost use Rattle.route_history.specs.Points.{PartsAt};
-ghost use Rattle.route_history.specs.Spans.{TellsEvents, HasToldSo};
+ghost use Rattle.route_history.specs.Spans.{ReportsEvents, HasReportedSo};
 ghost use Rattle.tree_questions.specs.Turning.{ShowsTree, TurnsEvents, GoesOnEvents, EventsBelow};
-ghost use Rattle.tree_questions.specs.inner.Telling.{KeepsEvents, TellsOn, ToldEvents};
+ghost use Rattle.tree_questions.specs.inner.Reporting.{KeepsEvents, ReportsOn, ReportedEvents};
 
 use crate::naming::part_named;
 use page_tx::Pages;
@@ -28,8 +28,8 @@ use version_model::Stamp;
 
 // The answer of a walk that is over. The cursor is then at the start of its question again.
 fn take_answer(alloc: Global, cursor: &mut EventsCursor) -> EventsAnswer
-    ensures answer { (all : List Version) (ps : List (Placed Admitted)) → HasToldSo all ps cursor.old → cursor.old.at ≡ None → IsEventsAnswer ps cursor.old.question result.events.items result.more }
-    ensures anew { (all : List Version) (ps : List (Placed Admitted)) → TellsEvents all ps cursor.old.question → HasToldSo all ps cursor.new }
+    ensures answer { (all : List Version) (ps : List (Placed Admitted)) → HasReportedSo all ps cursor.old → cursor.old.at ≡ None → IsEventsAnswer ps cursor.old.question result.events.items result.more }
+    ensures anew { (all : List Version) (ps : List (Placed Admitted)) → ReportsEvents all ps cursor.old.question → HasReportedSo all ps cursor.new }
     ensures question { cursor.new.question ≡ cursor.old.question }
 {
     let anew = EventsCursor::start(alloc, cursor.question);
@@ -37,10 +37,10 @@ fn take_answer(alloc: Global, cursor: &mut EventsCursor) -> EventsAnswer
 }
 
 // The answer if the walk is over; or that it goes on.
-fn tell(alloc: Global, cursor: &mut EventsCursor) -> EventsTurn
-    ensures told { (all : List Version) (ps : List (Placed Admitted)) → HasToldSo all ps cursor.old → ToldEvents ps cursor.old cursor.new result }
+fn report(alloc: Global, cursor: &mut EventsCursor) -> EventsTurn
+    ensures reported { (all : List Version) (ps : List (Placed Admitted)) → HasReportedSo all ps cursor.old → ReportedEvents ps cursor.old cursor.new result }
     ensures goes_on { KeepsEvents cursor.old cursor.new result }
-    ensures gathered { (all : List Version) (ps : List (Placed Admitted)) → TellsEvents all ps cursor.old.question → HasToldSo all ps cursor.old → HasToldSo all ps cursor.new }
+    ensures gathered { (all : List Version) (ps : List (Placed Admitted)) → ReportsEvents all ps cursor.old.question → HasReportedSo all ps cursor.old → HasReportedSo all ps cursor.new }
     ensures question { cursor.new.question ≡ cursor.old.question }
 {
     match cursor.at {
@@ -63,7 +63,7 @@ fn look<P: Pages>(
     ensures part { (store : Store) (all : List Version) → ShowsTree P.Pages pages.old root.now burnt store all → IfOk result (IsParted store.blocks all key from) }
     ensures stays { (store : Store) (all : List Version) → ShowsTree P.Pages pages.old root.now burnt store all → ShowsTree P.Pages pages.new root.now burnt store all }
     ensures point { IfOk result (PartsAt key from) }
-    ensures onward { IfOk result (TellsOn from) }
+    ensures onward { IfOk result (ReportsOn from) }
     ensures named { IfOk result (PartsBelow burnt) }
     ensures blames { (store : Store) (all : List Version) → ShowsTree P.Pages pages.old root.now burnt store all → IfErr result BlamesNone }
     ensures refused { IfErr result (LookRefusal (P.down pages.old)) }
@@ -88,10 +88,10 @@ pub fn events_turn<P: Pages>(
 ) -> Result<EventsTurn, NodeError>
     requires all { keys_at root.now ≡ all_keys }
     requires level { 1 ≤ root.now.level }
-    ensures turn { (store : Store) (all : List Version) (ps : List (Placed Admitted)) → ShowsTree P.Pages pages.old root.now burnt store all → TellsEvents all ps cursor.old.question → HasToldSo all ps cursor.old → IfOk result (TurnsEvents store.blocks all ps cursor.old cursor.new) }
+    ensures turn { (store : Store) (all : List Version) (ps : List (Placed Admitted)) → ShowsTree P.Pages pages.old root.now burnt store all → ReportsEvents all ps cursor.old.question → HasReportedSo all ps cursor.old → IfOk result (TurnsEvents store.blocks all ps cursor.old cursor.new) }
     ensures goes_on { IfOk result (GoesOnEvents cursor.old cursor.new) }
     ensures burnt { IfOk result (EventsBelow burnt) }
-    ensures gathered { (store : Store) (all : List Version) (ps : List (Placed Admitted)) → ShowsTree P.Pages pages.old root.now burnt store all → TellsEvents all ps cursor.old.question → HasToldSo all ps cursor.old → HasToldSo all ps cursor.new }
+    ensures gathered { (store : Store) (all : List Version) (ps : List (Placed Admitted)) → ShowsTree P.Pages pages.old root.now burnt store all → ReportsEvents all ps cursor.old.question → HasReportedSo all ps cursor.old → HasReportedSo all ps cursor.new }
     ensures question { cursor.new.question ≡ cursor.old.question }
     ensures blames { (store : Store) (all : List Version) → ShowsTree P.Pages pages.old root.now burnt store all → IfErr result BlamesNone }
     ensures refused { IfErr result (LookRefusal (P.down pages.old)) }
@@ -107,7 +107,7 @@ pub fn events_turn<P: Pages>(
     match (route, session) {
         (Parted::Here(route), Parted::Here(session)) => {
             cursor.take_parts(alloc, &route, &session)?;
-            Ok(tell(alloc, cursor))
+            Ok(report(alloc, cursor))
         }
         (route, session) => Ok(EventsTurn::Historical(EventsErrand {
             from,

@@ -11,7 +11,7 @@ ghost use Rattle.tsb_walk.specs.AllVersions.{VersionsRefusal};
 ghost use Rattle.tsb_walk.specs.Refusals.{OnlyReads};
 ghost use Rattle.tsb_walk.specs.Shown.{keys_at};
 ghost use Rattle.route_history.specs.Blame.{BlamesNone};
-ghost use Rattle.route_history.specs.Spans.{TellsEvents, HasToldSo};
+ghost use Rattle.route_history.specs.Spans.{ReportsEvents, HasReportedSo};
 ghost use Rattle.tree_questions.specs.Reading.{ReadsTree};
 ghost use Rattle.tree_questions.specs.inner.Left.{stamps_left};
 
@@ -38,7 +38,7 @@ fn take_look<P: Pages, O: OnceDisk + Drop>(
 ) -> Result<bool, NodeError>
     requires all { keys_at root.now ≡ all_keys }
     requires level { 1 ≤ root.now.level }
-    ensures told { (all : List Version) (ps : List (Placed Admitted)) → ReadsTree P.Pages pages.old O.OnceDisk reader.old seen.old root.now burnt all → TellsEvents all ps cursor.old.question → HasToldSo all ps cursor.old → OnOk result (HasToldSo all ps cursor.new) }
+    ensures reported { (all : List Version) (ps : List (Placed Admitted)) → ReadsTree P.Pages pages.old O.OnceDisk reader.old seen.old root.now burnt all → ReportsEvents all ps cursor.old.question → HasReportedSo all ps cursor.old → OnOk result (HasReportedSo all ps cursor.new) }
     ensures over { result ≡ Ok false → cursor.new.at ≡ None }
     ensures onward { result ≡ Ok true → stamps_left cursor.new.at < stamps_left cursor.old.at }
     ensures question { cursor.new.question ≡ cursor.old.question }
@@ -80,7 +80,7 @@ pub fn events<P: Pages, O: OnceDisk + Drop>(
 ) -> Result<EventsAnswer, NodeError>
     requires all { keys_at root.now ≡ all_keys }
     requires level { 1 ≤ root.now.level }
-    ensures answer { (all : List Version) (ps : List (Placed Admitted)) → ReadsTree P.Pages pages.old O.OnceDisk reader.old seen.old root.now burnt all → TellsEvents all ps question → IfOk result (λ answer. IsEventsAnswer ps question answer.events.items answer.more) }
+    ensures answer { (all : List Version) (ps : List (Placed Admitted)) → ReadsTree P.Pages pages.old O.OnceDisk reader.old seen.old root.now burnt all → ReportsEvents all ps question → IfOk result (λ answer. IsEventsAnswer ps question answer.events.items answer.more) }
     ensures stays { (all : List Version) → ReadsTree P.Pages pages.old O.OnceDisk reader.old seen.old root.now burnt all → ReadsTree P.Pages pages.new O.OnceDisk reader.new seen.new root.now burnt all }
     ensures blames { (all : List Version) → ReadsTree P.Pages pages.old O.OnceDisk reader.old seen.old root.now burnt all → IfErr result BlamesNone }
     ensures refused { IfErr result (VersionsRefusal (P.down pages.old)) }

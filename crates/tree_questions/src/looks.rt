@@ -8,7 +8,7 @@ ghost use Rattle.version_model.specs.Pages.{all_keys};
 ghost use Rattle.version_model.specs.Versions.{Version};
 ghost use Rattle.tsb_walk.specs.AllVersions.{VersionsRefusal};
 ghost use Rattle.tsb_walk.specs.Answers.{reached_as};
-ghost use Rattle.tsb_walk.specs.Looked.{GoesOnFrom, TellsFrom};
+ghost use Rattle.tsb_walk.specs.Looked.{GoesOnFrom, ReportsFrom};
 ghost use Rattle.tsb_walk.specs.Refusals.{OnlyReads};
 ghost use Rattle.tsb_walk.specs.Shown.{keys_at};
 ghost use Rattle.route_history.specs.Blame.{BlamesNone};
@@ -75,10 +75,10 @@ pub(crate) fn part_from<P: Pages, O: OnceDisk + Drop>(
 ) -> Result<KeyVersions, NodeError>
     requires all { keys_at root.now ≡ all_keys }
     requires level { 1 ≤ root.now.level }
-    ensures part { (all : List Version) → ReadsTree P.Pages pages.old O.OnceDisk reader.old seen.old root.now burnt all → IfOk result (λ part. IsPart all key from (versions_of part.entries.items) part.told) }
+    ensures part { (all : List Version) → ReadsTree P.Pages pages.old O.OnceDisk reader.old seen.old root.now burnt all → IfOk result (λ part. IsPart all key from (versions_of part.entries.items) part.reported) }
     ensures stays { (all : List Version) → ReadsTree P.Pages pages.old O.OnceDisk reader.old seen.old root.now burnt all → ReadsTree P.Pages pages.new O.OnceDisk reader.new seen.new root.now burnt all }
     ensures blames { (all : List Version) → ReadsTree P.Pages pages.old O.OnceDisk reader.old seen.old root.now burnt all → IfErr result BlamesNone }
-    ensures onward { IfOk result (TellsFrom from) }
+    ensures onward { IfOk result (ReportsFrom from) }
     ensures refused { IfErr result (VersionsRefusal (P.down pages.old)) }
     ensures same { OnlyReads P.Pages pages.old pages.new (result ≡ Err NodeError.Fault) }
     ensures known { O.honest_seen (reader_disk reader.old) seen.old → O.known seen.new ≡ O.known seen.old }

@@ -4,7 +4,7 @@ ghost use Rattle.std.specs.Prelude.{◌≡◌, ◌<◌, ◌≤◌, ℕ, List, If
 ghost use Rattle.page_tx.specs.Start.{Start};
 ghost use Rattle.version_model.specs.Pages.{Store};
 ghost use Rattle.version_model.specs.Versions.{Version, IsRising};
-ghost use Rattle.tsb_walk.specs.Looked.{IsLooked, IsParted, LooksAt, LooksBelow, LooksOn, PartsAt, PartsBelow, TellsAll};
+ghost use Rattle.tsb_walk.specs.Looked.{IsLooked, IsParted, LooksAt, LooksBelow, LooksOn, PartsAt, PartsBelow, ReportsAll};
 ghost use Rattle.tsb_walk.specs.Refusals.{LookRefusal, OnlyReads};
 ghost use Rattle.tsb_walk.specs.Shown.{HasKey, StandsShown};
 
@@ -78,7 +78,7 @@ pub(crate) fn part_named<P: Pages>(
     ensures named { IfOk result (PartsBelow burnt) }
     ensures blames { (start : Start) (shown : List (List ℕ)) → P.shows pages.old start shown → (s : Store) (all : List Version) → StandsShown shown s all root.now → s.next ≤ burnt → (page : ℕ) → result ≡ Err (NodeError.BadNode page) → ⊥ }
     ensures point { IfOk result (PartsAt key from) }
-    ensures told { IfOk result TellsAll }
+    ensures reported { IfOk result ReportsAll }
     ensures refused { IfErr result (LookRefusal (P.down pages.old)) }
     ensures same { OnlyReads P.Pages pages.old pages.new (result ≡ Err NodeError.Fault) }
 {

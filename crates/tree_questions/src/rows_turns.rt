@@ -9,9 +9,9 @@ ghost use Rattle.version_model.specs.Versions.{Version};
 ghost use Rattle.tsb_walk.specs.Refusals.{LookRefusal, OnlyReads};
 ghost use Rattle.tsb_walk.specs.Shown.{keys_at};
 ghost use Rattle.route_history.specs.Blame.{BlamesNone};
-ghost use Rattle.route_history.specs.Walks.{Tells, Gathered};
+ghost use Rattle.route_history.specs.Walks.{Reports, Gathered};
 ghost use Rattle.tree_questions.specs.Turning.{ShowsTree, TurnsRows, GoesOnRows, RowsBelow};
-ghost use Rattle.tree_questions.specs.inner.Telling.{KeepsRows, ToldRows};
+ghost use Rattle.tree_questions.specs.inner.Reporting.{KeepsRows, ReportedRows};
 
 use crate::naming::next_named;
 use crate::runs::run_from;
@@ -35,8 +35,8 @@ fn take_answer(alloc: Global, cursor: &mut RowsCursor) -> RowsAnswer
 }
 
 // The answer if the walk is over; or that it goes on.
-fn tell(alloc: Global, cursor: &mut RowsCursor) -> RowsTurn
-    ensures told { (all : List Version) (ps : List (Placed Admitted)) → Gathered all ps cursor.old → ToldRows ps cursor.old cursor.new result }
+fn report(alloc: Global, cursor: &mut RowsCursor) -> RowsTurn
+    ensures reported { (all : List Version) (ps : List (Placed Admitted)) → Gathered all ps cursor.old → ReportedRows ps cursor.old cursor.new result }
     ensures goes_on { KeepsRows cursor.old cursor.new result }
     ensures gathered { (all : List Version) (ps : List (Placed Admitted)) → Gathered all ps cursor.old → Gathered all ps cursor.new }
     ensures question { cursor.new.question ≡ cursor.old.question }
@@ -64,10 +64,10 @@ pub fn rows_turn<P: Pages>(
 ) -> Result<RowsTurn, NodeError>
     requires all { keys_at root.now ≡ all_keys }
     requires level { 1 ≤ root.now.level }
-    ensures turn { (store : Store) (all : List Version) (ps : List (Placed Admitted)) → ShowsTree P.Pages pages.old root.now burnt store all → Tells all ps cursor.old.question.moment → Gathered all ps cursor.old → IfOk result (TurnsRows store.blocks all ps cursor.old cursor.new) }
+    ensures turn { (store : Store) (all : List Version) (ps : List (Placed Admitted)) → ShowsTree P.Pages pages.old root.now burnt store all → Reports all ps cursor.old.question.moment → Gathered all ps cursor.old → IfOk result (TurnsRows store.blocks all ps cursor.old cursor.new) }
     ensures goes_on { IfOk result (GoesOnRows cursor.old cursor.new) }
     ensures burnt { IfOk result (RowsBelow burnt) }
-    ensures gathered { (store : Store) (all : List Version) (ps : List (Placed Admitted)) → ShowsTree P.Pages pages.old root.now burnt store all → Tells all ps cursor.old.question.moment → Gathered all ps cursor.old → Gathered all ps cursor.new }
+    ensures gathered { (store : Store) (all : List Version) (ps : List (Placed Admitted)) → ShowsTree P.Pages pages.old root.now burnt store all → Reports all ps cursor.old.question.moment → Gathered all ps cursor.old → Gathered all ps cursor.new }
     ensures question { cursor.new.question ≡ cursor.old.question }
     ensures blames { (store : Store) (all : List Version) → ShowsTree P.Pages pages.old root.now burnt store all → IfErr result BlamesNone }
     ensures refused { IfErr result (LookRefusal (P.down pages.old)) }
@@ -84,7 +84,7 @@ pub fn rows_turn<P: Pages>(
         Looked::Here(reached) => {
             let run = run_from(pages, alloc, root, cursor, from, stamp)?;
             take_rows(alloc, cursor, reached, run)?;
-            Ok(tell(alloc, cursor))
+            Ok(report(alloc, cursor))
         }
         Looked::InBlock(place) => Ok(RowsTurn::Historical(RowsErrand { from, place })),
     }

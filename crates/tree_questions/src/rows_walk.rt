@@ -12,7 +12,7 @@ ghost use Rattle.tsb_walk.specs.Refusals.{OnlyReads};
 ghost use Rattle.tsb_walk.specs.Shown.{keys_at};
 ghost use Rattle.route_history.specs.Blame.{BlamesNone};
 ghost use Rattle.route_history.specs.Fronts.{front_number};
-ghost use Rattle.route_history.specs.Walks.{Tells, Gathered, left_of};
+ghost use Rattle.route_history.specs.Walks.{Reports, Gathered, left_of};
 ghost use Rattle.tree_questions.specs.Reading.{ReadsTree};
 
 use crate::looks::next_key;
@@ -39,7 +39,7 @@ fn take_look<P: Pages, O: OnceDisk + Drop>(
 ) -> Result<bool, NodeError>
     requires all { keys_at root.now ≡ all_keys }
     requires level { 1 ≤ root.now.level }
-    ensures gathered { (all : List Version) (ps : List (Placed Admitted)) → ReadsTree P.Pages pages.old O.OnceDisk reader.old seen.old root.now burnt all → Tells all ps cursor.old.question.moment → Gathered all ps cursor.old → OnOk result (Gathered all ps cursor.new) }
+    ensures gathered { (all : List Version) (ps : List (Placed Admitted)) → ReadsTree P.Pages pages.old O.OnceDisk reader.old seen.old root.now burnt all → Reports all ps cursor.old.question.moment → Gathered all ps cursor.old → OnOk result (Gathered all ps cursor.new) }
     ensures over { result ≡ Ok false → cursor.new.front ≡ None }
     ensures onward { result ≡ Ok true → left_of (front_number cursor.new.front) < left_of (front_number cursor.old.front) }
     ensures question { cursor.new.question ≡ cursor.old.question }
@@ -83,7 +83,7 @@ pub fn rows<P: Pages, O: OnceDisk + Drop>(
 ) -> Result<RowsAnswer, NodeError>
     requires all { keys_at root.now ≡ all_keys }
     requires level { 1 ≤ root.now.level }
-    ensures answer { (all : List Version) (ps : List (Placed Admitted)) → ReadsTree P.Pages pages.old O.OnceDisk reader.old seen.old root.now burnt all → Tells all ps question.moment → IfOk result (λ answer. IsAnswer ps question answer.rows.items answer.more) }
+    ensures answer { (all : List Version) (ps : List (Placed Admitted)) → ReadsTree P.Pages pages.old O.OnceDisk reader.old seen.old root.now burnt all → Reports all ps question.moment → IfOk result (λ answer. IsAnswer ps question answer.rows.items answer.more) }
     ensures stays { (all : List Version) → ReadsTree P.Pages pages.old O.OnceDisk reader.old seen.old root.now burnt all → ReadsTree P.Pages pages.new O.OnceDisk reader.new seen.new root.now burnt all }
     ensures blames { (all : List Version) → ReadsTree P.Pages pages.old O.OnceDisk reader.old seen.old root.now burnt all → IfErr result BlamesNone }
     ensures refused { IfErr result (VersionsRefusal (P.down pages.old)) }

@@ -11,7 +11,7 @@ ghost use Rattle.tsb_walk.specs.Looked.{GoesOnFrom};
 ghost use Rattle.tsb_runs.specs.Runs.{IsRun};
 ghost use Rattle.route_history.specs.Fronts.{front_number};
 ghost use Rattle.route_history.specs.Stamps.{last_stamp};
-ghost use Rattle.route_history.specs.Walks.{Tells, Gathered, IsSame, Rose};
+ghost use Rattle.route_history.specs.Walks.{Reports, Gathered, IsSame, Rose};
 ghost use Rattle.tree_questions.specs.inner.Taking.{IsOnward, IsFrom};
 
 use route_history::RowsCursor;
@@ -56,7 +56,7 @@ fn past_from(key: Key, high: &Option<Key>) -> Option<Reached>
 
 // Takes in a key of a run, unless the walk is past it. Returns whether the run goes on.
 fn take_row(alloc: Global, cursor: &mut RowsCursor, last: &Option<Key>, row: LiveKey) -> bool
-    ensures taken { (from : ℕ) (all : List Version) (ps : List (Placed Admitted)) → IsFrom from last.now (front_number cursor.old.front) → Tells all ps cursor.old.question.moment → Gathered all ps cursor.old
+    ensures taken { (from : ℕ) (all : List Version) (ps : List (Placed Admitted)) → IsFrom from last.now (front_number cursor.old.front) → Reports all ps cursor.old.question.moment → Gathered all ps cursor.old
         → IsReached all (last_stamp cursor.old.question.moment) from (ReachAt row.key (found_at row.found.stamp row.found.value.items)) → Gathered all ps cursor.new }
     ensures onward { IsOnward (front_number cursor.old.front) (front_number cursor.new.front) }
     ensures question { cursor.new.question ≡ cursor.old.question }
@@ -77,7 +77,7 @@ fn take_row(alloc: Global, cursor: &mut RowsCursor, last: &Option<Key>, row: Liv
 
 // Takes in that a run has no more keys up to its end.
 fn take_end(alloc: Global, cursor: &mut RowsCursor, last: &Option<Key>, high: &Option<Key>)
-    ensures taken { (from : ℕ) (all : List Version) (ps : List (Placed Admitted)) → IsFrom from last.now (front_number cursor.old.front) → Tells all ps cursor.old.question.moment → Gathered all ps cursor.old
+    ensures taken { (from : ℕ) (all : List Version) (ps : List (Placed Admitted)) → IsFrom from last.now (front_number cursor.old.front) → Reports all ps cursor.old.question.moment → Gathered all ps cursor.old
         → NoneWithin all (last_stamp cursor.old.question.moment) from (high_or high.now) → Gathered all ps cursor.new }
     ensures onward { IsOnward (front_number cursor.old.front) (front_number cursor.new.front) }
     ensures question { cursor.new.question ≡ cursor.old.question }
@@ -96,7 +96,7 @@ fn take_end(alloc: Global, cursor: &mut RowsCursor, last: &Option<Key>, high: &O
 // Takes in the keys of a run that begins where the walk stands, or before. Keys that the question doesn't ask for are passed over. If
 // memory is refused it stops, and the next look goes on from there.
 fn take_run(alloc: Global, cursor: &mut RowsCursor, run: Run)
-    ensures taken { (from : ℕ) (all : List Version) (ps : List (Placed Admitted)) → IsOnward (Some from) (front_number cursor.old.front) → Tells all ps cursor.old.question.moment → Gathered all ps cursor.old
+    ensures taken { (from : ℕ) (all : List Version) (ps : List (Placed Admitted)) → IsOnward (Some from) (front_number cursor.old.front) → Reports all ps cursor.old.question.moment → Gathered all ps cursor.old
         → IsRun all (last_stamp cursor.old.question.moment) from run → Gathered all ps cursor.new }
     ensures onward { IsOnward (front_number cursor.old.front) (front_number cursor.new.front) }
     ensures question { cursor.new.question ≡ cursor.old.question }
@@ -121,7 +121,7 @@ pub(crate) fn take_rows(
     reached: Reached,
     run: Run,
 ) -> Result<(), AllocError>
-    ensures taken { (from : ℕ) (all : List Version) (ps : List (Placed Admitted)) → front_number cursor.old.front ≡ Some from → Tells all ps cursor.old.question.moment → Gathered all ps cursor.old
+    ensures taken { (from : ℕ) (all : List Version) (ps : List (Placed Admitted)) → front_number cursor.old.front ≡ Some from → Reports all ps cursor.old.question.moment → Gathered all ps cursor.old
         → IsReached all (last_stamp cursor.old.question.moment) from (reached_as reached) → IsRun all (last_stamp cursor.old.question.moment) from run → OnOk result (Gathered all ps cursor.new) }
     ensures rose { (from : ℕ) → front_number cursor.old.front ≡ Some from → GoesOnFrom from reached → OnOk result (Rose (Some from) (front_number cursor.new.front)) }
     ensures question { cursor.new.question ≡ cursor.old.question }

@@ -2,5 +2,5 @@
 
 mod answers;
 mod damaged;
-mod spelling;
+mod encoding;
 mod tree;

@@ -92,7 +92,7 @@ pub(crate) fn key_of(last: u8) -> Key {
 }
 
 /// Whether a key and a stamp lie between bounds that both have an end.
-pub(crate) fn lies_in(bounds: &Bounds, key: Key, stamp: Stamp) -> bool
+pub(crate) fn located_in(bounds: &Bounds, key: Key, stamp: Stamp) -> bool
     ensures { IsTrue result → IsPoint (range_of bounds.now) key stamp }
 {
     let Some(high) = bounds.high else {

@@ -1,6 +1,6 @@
 //! Looks from places in the past, through blocks built by hand: at each border, and where a block isn't what its place asks.
 
-use crate::memory::{key_of, lies_in, shelf_of};
+use crate::memory::{key_of, located_in, shelf_of};
 use crate::{be, be_at};
 use disk_memory::{MemOnce, MemSeen};
 use disk_models::Block;
@@ -180,7 +180,7 @@ fn found(
 ) -> Option<Result<Option<Found>, BlockError>> {
     let key = key_of(key);
     let stamp = Stamp::new(time, 0);
-    if !lies_in(&place.bounds, key, stamp) {
+    if !located_in(&place.bounds, key, stamp) {
         return None;
     }
     Some(hist_find(
@@ -202,7 +202,7 @@ fn reached(
 ) -> Option<Result<Reached, BlockError>> {
     let from = key_of(from);
     let stamp = Stamp::new(time, 0);
-    if !lies_in(&place.bounds, from, stamp) {
+    if !located_in(&place.bounds, from, stamp) {
         return None;
     }
     Some(hist_next(
@@ -224,7 +224,7 @@ fn part_of(
 ) -> Option<Result<KeyVersions, BlockError>> {
     let key = key_of(key);
     let stamp = Stamp::new(from, 0);
-    if !lies_in(&place.bounds, key, stamp) {
+    if !located_in(&place.bounds, key, stamp) {
         return None;
     }
     Some(hist_part(
@@ -238,12 +238,12 @@ fn part_of(
 }
 
 /// Whether a key has a value that begins with an octet, since a time; or none.
-fn has(past: &mut Past, place: &Place, key: u8, time: u64, wanted: Option<(u64, u8)>) -> bool {
+fn has(past: &mut Past, place: &Place, key: u8, time: u64, expected: Option<(u64, u8)>) -> bool {
     match found(past, place, key, time) {
         Some(Ok(Some(it))) => {
-            Some((it.stamp.time(), it.value.first().copied().unwrap_or(0))) == wanted
+            Some((it.stamp.time(), it.value.first().copied().unwrap_or(0))) == expected
         }
-        Some(Ok(None)) => wanted == None,
+        Some(Ok(None)) => expected == None,
         _ => false,
     }
 }
@@ -280,22 +280,29 @@ type Versions = &'static [(u64, Option<u8>)];
 /// Whether these are the versions of a key.
 fn are(part: &KeyVersions, key: Key, versions: Versions) -> bool {
     part.entries.len() == versions.len()
-        && part.entries.iter().zip(versions.iter()).all(|(entry, wanted)| {
+        && part.entries.iter().zip(versions.iter()).all(|(entry, expected)| {
             entry.key == key
-                && entry.stamp.time() == wanted.0
+                && entry.stamp.time() == expected.0
                 && entry
                     .value
                     .as_ref()
                     .and_then(|value| value.first().copied())
-                    == wanted.1
+                    == expected.1
         })
 }
 
 /// Whether exactly these versions are returned, and up to this time.
-fn tells(past: &mut Past, place: &Place, key: u8, from: u64, versions: Versions, end: u64) -> bool {
+fn reports(
+    past: &mut Past,
+    place: &Place,
+    key: u8,
+    from: u64,
+    versions: Versions,
+    end: u64,
+) -> bool {
     match part_of(past, place, key, from) {
         Some(Ok(part)) => {
-            part.told.map(|end| end.time()) == Some(end) && are(&part, key_of(key), versions)
+            part.reported.map(|end| end.time()) == Some(end) && are(&part, key_of(key), versions)
         }
         _ => false,
     }
@@ -352,7 +359,7 @@ fn the_next_key_is_found_in_the_past(rt: HostRuntime) {
 }
 
 /// A key and a time; the versions that are returned, and up to when. The copy of key 5 is none.
-const TOLD: [(u8, u64, Versions, u64); 9] = [
+const REPORTED: [(u8, u64, Versions, u64); 9] = [
     (3, 0, &[(2, Some(187)), (200, None)], 258),
     (3, 2, &[(2, Some(187)), (200, None)], 258),
     (3, 3, &[(200, None)], 258),
@@ -365,17 +372,17 @@ const TOLD: [(u8, u64, Versions, u64); 9] = [
 ];
 
 #[test]
-fn the_versions_of_a_key_are_told_of_the_past(rt: HostRuntime) {
+fn the_versions_of_a_key_are_reported_of_the_past(rt: HostRuntime) {
     let mut past = past_of(rt.alloc()).expect(&rt, "blocks");
     let place = place_of(PartKind::ColumnBlock, 4, 9);
-    for (key, from, versions, end) in &TOLD {
-        let tells = tells(&mut past, &place, *key, *from, *versions, *end);
-        be_at(&rt, tells, "versions", *from);
+    for (key, from, versions, end) in &REPORTED {
+        let reports = reports(&mut past, &place, *key, *from, *versions, *end);
+        be_at(&rt, reports, "versions", *from);
     }
 }
 
 #[test]
-fn a_version_from_behind_the_end_of_its_block_counts_for_nothing(rt: HostRuntime) {
+fn a_version_from_after_the_end_of_its_block_counts_for_nothing(rt: HostRuntime) {
     let mut past = past_of(rt.alloc()).expect(&rt, "blocks");
     let place = place_until(258, PartKind::LeafBlock, 9, 9);
     be(
@@ -395,10 +402,14 @@ fn a_version_from_behind_the_end_of_its_block_counts_for_nothing(rt: HostRuntime
     );
     be(
         &rt,
-        tells(&mut past, &place, 7, 0, &[(7, Some(170))], 258),
+        reports(&mut past, &place, 7, 0, &[(7, Some(170))], 258),
         "the versions",
     );
-    be(&rt, tells(&mut past, &place, 7, 8, &[], 258), "none later");
+    be(
+        &rt,
+        reports(&mut past, &place, 7, 8, &[], 258),
+        "none later",
+    );
 }
 
 /// A kind, a block and a high key that a place asks for, and the block that is reported as damaged.
@@ -420,11 +431,11 @@ const DAMAGED: [(PartKind, u64, u8, u64); 9] = [
 
 /// Whether each lookup from a place reports a block as damaged.
 fn is_damaged(past: &mut Past, place: &Place, block: u64) -> Option<bool> {
-    let wanted = Some(BlockError::Damaged(block));
+    let expected = Some(BlockError::Damaged(block));
     Some(
-        found(past, place, 3, 2)?.err() == wanted
-            && reached(past, place, 3, 2)?.err() == wanted
-            && part_of(past, place, 3, 2)?.err() == wanted,
+        found(past, place, 3, 2)?.err() == expected
+            && reached(past, place, 3, 2)?.err() == expected
+            && part_of(past, place, 3, 2)?.err() == expected,
     )
 }
 

@@ -6,9 +6,9 @@ use Rattle.tsb_walk.specs.declared.error.NodeError.{NodeError}
 use Rattle.tsb_walk.specs.declared.page_place.PagePlace.{PagePlace}
 use Rattle.tsb_walk.specs.Knowing.{AreKnown}
 use Rattle.tsb_walk.specs.Shown.{AreShown, keys_at}
-use Rattle.tsb_check.specs.Counted.{told}
-use Rattle.tsb_check.specs.Pages.{TellsTree, IsUnknownUnder}
-use Rattle.tsb_check.proofs.Standing.{tree_told, none_unknown_under}
+use Rattle.tsb_check.specs.Counted.{reported}
+use Rattle.tsb_check.specs.Pages.{ReportsTree, IsUnknownUnder}
+use Rattle.tsb_check.proofs.Standing.{tree_reported, none_unknown_under}
 
 if_ok : (r : Result ℕ NodeError) (P Q : ℕ → Type 0) → ((n : ℕ) → P n → Q n) → IfOk r P → IfOk r Q
 if_ok (Ok n) P Q to is = to n is
@@ -18,9 +18,9 @@ module _ (shown : List (List ℕ)) (s : Store) (all : List Version) (are_shown :
   pub root_stands : keys_at root ≡ all_keys → TreeStands s all root.page root.level → StandsIn s all root.level (keys_at root) root.page
   root_stands keys tree = subst (λ (k : Keys). StandsIn s all root.level k root.page) (sym keys) tree.stands
 
-  total_is : keys_at root ≡ all_keys → TreeStands s all root.page root.level → (n : ℕ) → TellsTree shown known count (root ∷ []) n ⊎ IsUnknownUnder shown known count (root ∷ []) → n ≡ told (length all)
-  total_is keys tree n (inl tells) = tells.is ∙ ap told (tree_told shown s all are_shown known count are root tells.total keys tree tells.counted)
+  total_is : keys_at root ≡ all_keys → TreeStands s all root.page root.level → (n : ℕ) → ReportsTree shown known count (root ∷ []) n ⊎ IsUnknownUnder shown known count (root ∷ []) → n ≡ reported (length all)
+  total_is keys tree n (inl reports) = reports.is ∙ ap reported (tree_reported shown s all are_shown known count are root reports.total keys tree reports.counted)
   total_is keys tree n (inr lost) = absurd (none_unknown_under shown s all are_shown known count are (root ∷ []) lost (root_stands keys tree, tt))
 
-  pub all_counted : keys_at root ≡ all_keys → TreeStands s all root.page root.level → (r : Result ℕ NodeError) → IfOk r (λ n. TellsTree shown known count (root ∷ []) n ⊎ IsUnknownUnder shown known count (root ∷ [])) → IfOk r (λ n. n ≡ told (length all))
-  all_counted keys tree r is = if_ok r (λ n. TellsTree shown known count (root ∷ []) n ⊎ IsUnknownUnder shown known count (root ∷ [])) (λ n. n ≡ told (length all)) (total_is keys tree) is
+  pub all_counted : keys_at root ≡ all_keys → TreeStands s all root.page root.level → (r : Result ℕ NodeError) → IfOk r (λ n. ReportsTree shown known count (root ∷ []) n ⊎ IsUnknownUnder shown known count (root ∷ [])) → IfOk r (λ n. n ≡ reported (length all))
+  all_counted keys tree r is = if_ok r (λ n. ReportsTree shown known count (root ∷ []) n ⊎ IsUnknownUnder shown known count (root ∷ [])) (λ n. n ≡ reported (length all)) (total_is keys tree) is

@@ -3,10 +3,10 @@ use Rattle.std.proofs.Common.{◌≡◌, ℕ, ◌+◌, ◌⊎◌, inl, inr, List
 use Rattle.tsb_node.specs.declared.column_said.ColumnSaid.{ColumnSaid}
 use Rattle.version_model.specs.declared.part.Place.{Place}
 use Rattle.tsb_walk.specs.declared.page_place.PagePlace.{PagePlace}
-use Rattle.tsb_check.specs.Counted.{TellsPast, MeetUnknown, MeetDamage}
+use Rattle.tsb_check.specs.Counted.{ReportsPast, MeetUnknown, MeetDamage}
 use Rattle.tsb_check.specs.Pages.{past_of}
-use Rattle.tsb_check.specs.inner.Columns.{HasCurrent, IsColumnAt, TellsColumn, IsUnknownIn, IsDamagedIn}
-use Rattle.tsb_check.proofs.Going.{told_more}
+use Rattle.tsb_check.specs.inner.Columns.{HasCurrent, IsColumnAt, ReportsColumn, IsUnknownIn, IsDamagedIn}
+use Rattle.tsb_check.proofs.Going.{reported_more}
 
 module _ (shown : List (List ℕ)) (known : ℕ → Option (List ℕ)) (count : ℕ) (place : PagePlace) (said : ColumnSaid) (current : ℕ) where
   abbrev past : List Place
@@ -18,18 +18,18 @@ module _ (shown : List (List ℕ)) (known : ℕ → Option (List ℕ)) (count : 
   lost_by : HasCurrent shown place said current → MeetUnknown known count past → IsUnknownIn shown known count place
   lost_by has never = record { column = column_of has; unknown = never }
 
-  pub tells_column : (before n : ℕ) → HasCurrent shown place said current → n ≡ min (before + current) 18446744073709551615 → TellsPast known count past before ⊎ MeetUnknown known count past
-      → TellsColumn shown known count place n ⊎ IsUnknownIn shown known count place
-  tells_column before n has sum (inl tells) =
+  pub reports_column : (before n : ℕ) → HasCurrent shown place said current → n ≡ min (before + current) 18446744073709551615 → ReportsPast known count past before ⊎ MeetUnknown known count past
+      → ReportsColumn shown known count place n ⊎ IsUnknownIn shown known count place
+  reports_column before n has sum (inl reports) =
       inl (record {
         column = column_of has;
         versions = has.versions;
         leaf = has.leaf;
-        past = tells.total;
-        counted = tells.counted;
-        is = sum ∙ ap (λ (x : ℕ). min (before + x) 18446744073709551615) has.is ∙ told_more tells.total _ before tells.is;
+        past = reports.total;
+        counted = reports.counted;
+        is = sum ∙ ap (λ (x : ℕ). min (before + x) 18446744073709551615) has.is ∙ reported_more reports.total _ before reports.is;
       })
-  tells_column before n has sum (inr never) = inr (lost_by has never)
+  reports_column before n has sum (inr never) = inr (lost_by has never)
 
   pub damaged_in : (block : ℕ) → HasCurrent shown place said current → MeetDamage known count past block ⊎ MeetUnknown known count past → IsDamagedIn shown known count place block ⊎ IsUnknownIn shown known count place
   damaged_in block has (inl damage) = inl (record { column = column_of has; damage = damage })

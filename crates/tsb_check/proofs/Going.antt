@@ -9,12 +9,12 @@ use Rattle.version_model.specs.Ranges.{range_of}
 use Rattle.version_model.specs.Counts.{count_in}
 use Rattle.tsb_walk.specs.Knowing.{IsKnown}
 use Rattle.tsb_walk.specs.Ways.{IsLeafFor, IsColumnFor}
-use Rattle.tsb_check.specs.Counted.{AreCounted, none_counted, leaf_counted, column_counted, IsReached, at_first, in_column, AreLower, places_of, told, TellsPast}
+use Rattle.tsb_check.specs.Counted.{AreCounted, none_counted, leaf_counted, column_counted, IsReached, at_first, in_column, AreLower, places_of, reported, ReportsPast}
 use Rattle.tsb_check.specs.inner.Going.{CountsOn, GoesOn}
 use Rattle.tsb_check.proofs.Stacks.{all_front, all_back, all_both, all_from, counted_both, counted_apart}
 
-pub told_more : (t c n : ℕ) → n ≡ told t → min (n + c) 18446744073709551615 ≡ told (t + c)
-told_more t c n is = grind (arith, is)
+pub reported_more : (t c n : ℕ) → n ≡ reported t → min (n + c) 18446744073709551615 ≡ reported (t + c)
+reported_more t c n is = grind (arith, is)
 
 module _ (known : ℕ → Option (List ℕ)) (count : ℕ) (places : List Place) where
   pub goes_first : (left : List Place) → left ≡ places → GoesOn known count places left 0
@@ -37,7 +37,7 @@ module _ (known : ℕ → Option (List ℕ)) (count : ℕ) (places : List Place)
           reached = all_front (IsReached known count places) rest (place ∷ []) both;
           counts = record {
             total = goes.counts.total + c;
-            is = sum ∙ told_more goes.counts.total c n goes.counts.is;
+            is = sum ∙ reported_more goes.counts.total c n goes.counts.is;
             on = λ m rests.
                 let e : goes.counts.total + (m + (c + 0)) ≡ goes.counts.total + c + m = omega arith in
                 subst (AreCounted known count places) e (on_as m (c + 0) rests (leaf_counted place [] octets versions 0 is leaf none_counted));
@@ -64,7 +64,7 @@ module _ (known : ℕ → Option (List ℕ)) (count : ℕ) (places : List Place)
   pub reached_last : (left rest : List Place) (place : Place) (n : ℕ) → left ≡ rest ++ place ∷ [] → GoesOn known count places left n → IsReached known count places place
   reached_last left rest place n apart goes = (all_back (IsReached known count places) rest (place ∷ []) (subst (AllByRecursion (IsReached known count places)) apart goes.reached)).0
 
-  pub goes_last : (left : List Place) (n : ℕ) → left ≡ [] → GoesOn known count places left n → TellsPast known count places n
+  pub goes_last : (left : List Place) (n : ℕ) → left ≡ [] → GoesOn known count places left n → ReportsPast known count places n
   goes_last left n empty goes =
       let e : goes.counts.total + 0 ≡ goes.counts.total = omega arith in
       record { total = goes.counts.total; counted = subst (AreCounted known count places) e (goes.counts.on 0 (subst (λ ps. AreCounted known count ps 0) (sym empty) none_counted)); is = goes.counts.is }

@@ -10,20 +10,20 @@ use Rattle.version_model.specs.Pages.{KeyNode, current_range}
 use Rattle.tsb_walk.specs.declared.page_place.PagePlace.{PagePlace}
 use Rattle.tsb_walk.specs.Shown.{Says, keys_at}
 use Rattle.tsb_walk.specs.Knowing.{ReadsWell}
-use Rattle.tsb_check.specs.Counted.{told}
-use Rattle.tsb_check.specs.Pages.{AreCountedUnder, none_under, column_under, children_under, IsUnder, at_top, as_child, IsColumnUnder, IsBadUnder, no_key_node, no_column, no_leaf, IsUnknownUnder, IsDamagedUnder, TellsTree, places_under}
+use Rattle.tsb_check.specs.Counted.{reported}
+use Rattle.tsb_check.specs.Pages.{AreCountedUnder, none_under, column_under, children_under, IsUnder, at_top, as_child, IsColumnUnder, IsBadUnder, no_key_node, no_column, no_leaf, IsUnknownUnder, IsDamagedUnder, ReportsTree, places_under}
 use Rattle.tsb_check.specs.inner.GoingUnder.{CountsOnUnder, AreLeftBy, IsPlaceTaken, IsPlaceBad, IsPlaceDamaged, IsPlaceUnknown}
-use Rattle.tsb_check.specs.inner.Columns.{IsColumnAt, TellsColumn, IsBadColumn, bad_column, bad_leaf, IsUnknownIn, IsDamagedIn}
+use Rattle.tsb_check.specs.inner.Columns.{IsColumnAt, ReportsColumn, IsBadColumn, bad_column, bad_leaf, IsUnknownIn, IsDamagedIn}
 use Rattle.tsb_check.proofs.Stacks.{all_front, all_back, all_both, all_from}
 use Rattle.tsb_check.proofs.Under.{under_both, under_apart}
 
 -- numbers as a count returns them, added
-pub told_both : (t c n m : ℕ) → n ≡ told t → m ≡ told c → min (n + m) 18446744073709551615 ≡ told (t + c)
-told_both t c n m is other = grind (arith, is, other)
+pub reported_both : (t c n m : ℕ) → n ≡ reported t → m ≡ reported c → min (n + m) 18446744073709551615 ≡ reported (t + c)
+reported_both t c n m is other = grind (arith, is, other)
 
 -- a number as a count returns it stays so when nothing is added
-as_told : (t n : ℕ) → n ≡ told t → min (n + 0) 18446744073709551615 ≡ n
-as_told t n is = grind (arith, is)
+as_reported : (t n : ℕ) → n ≡ reported t → min (n + 0) 18446744073709551615 ≡ n
+as_reported t n is = grind (arith, is)
 
 -- ---- which places are left
 
@@ -71,16 +71,16 @@ module _ (shown : List (List ℕ)) (known : ℕ → Option (List ℕ)) (count : 
     on_as : (m k : ℕ) → AreCountedUnder shown known count rest m → AreCountedUnder shown known count (place ∷ []) k → AreCountedUnder shown known count places (counts.total + (m + k))
     on_as m k rests here = counts.on (m + k) (subst (λ ps. AreCountedUnder shown known count ps (m + k)) (sym apart) (under_both shown known count rest (place ∷ []) m k rests here))
 
-    pub counts_column : (more n' : ℕ) → place.level ≡ 1 → TellsColumn shown known count place more → n' ≡ min (n + more) 18446744073709551615 → CountsOnUnder shown known count places rest n'
-    counts_column more n' level tells sum =
-        let c = tells.past + count_in tells.versions (current_range (keys_at place) tells.column.start) in
+    pub counts_column : (more n' : ℕ) → place.level ≡ 1 → ReportsColumn shown known count place more → n' ≡ min (n + more) 18446744073709551615 → CountsOnUnder shown known count places rest n'
+    counts_column more n' level reports sum =
+        let c = reports.past + count_in reports.versions (current_range (keys_at place) reports.column.start) in
         record {
           total = counts.total + c;
-          is = sum ∙ told_both counts.total c n more counts.is tells.is;
+          is = sum ∙ reported_both counts.total c n more counts.is reports.is;
           on = λ m rests.
               let e : counts.total + (m + (c + 0)) ≡ counts.total + c + m = omega arith in
               subst (AreCountedUnder shown known count places) e
-              (on_as m (c + 0) rests (column_under place [] tells.column.parts tells.column.start tells.column.current tells.versions tells.past 0 level tells.column.says tells.leaf tells.counted none_under));
+              (on_as m (c + 0) rests (column_under place [] reports.column.parts reports.column.start reports.column.current reports.versions reports.past 0 level reports.column.says reports.leaf reports.counted none_under));
         }
 
     pub counts_children : (children : List Child) (left' : List PagePlace) → Says shown place.page (KeyNode place.level (keys_at place) children) → left' ≡ rest ++ places_under place children → CountsOnUnder shown known count places left' n
@@ -93,7 +93,7 @@ module _ (shown : List (List ℕ)) (known : ℕ → Option (List ℕ)) (count : 
           subst (AreCountedUnder shown known count places) e (on_as two.front (two.back + 0) two.counts_front (children_under place [] children two.back 0 says two.counts_back none_under));
     }
 
-  pub counts_last : (left : List PagePlace) (n : ℕ) → left ≡ [] → CountsOnUnder shown known count places left n → TellsTree shown known count places n
+  pub counts_last : (left : List PagePlace) (n : ℕ) → left ≡ [] → CountsOnUnder shown known count places left n → ReportsTree shown known count places n
   counts_last left n empty counts =
       let e : counts.total + 0 ≡ counts.total = omega arith in
       record { total = counts.total; counted = subst (AreCountedUnder shown known count places) e (counts.on 0 (subst (λ ps. AreCountedUnder shown known count ps 0) (sym empty) none_under)); is = counts.is }
@@ -123,7 +123,7 @@ module _ {O Pen Seen : Type 0} (device : Ghosts O Pen Seen) (shown : List (List 
     counts_by left' more n' (inl column) sum counts =
         subst (λ (ps : List PagePlace). CountsOnUnder shown K N places ps n') (sym column.2) (counts_column shown K N places left rest place n apart counts more n' column.0 column.1 sum)
     counts_by left' more n' (inr children) sum counts =
-        let e : n' ≡ n = sum ∙ ap (λ (x : ℕ). min (n + x) 18446744073709551615) children.3 ∙ as_told counts.total n counts.is in
+        let e : n' ≡ n = sum ∙ ap (λ (x : ℕ). min (n + x) 18446744073709551615) children.3 ∙ as_reported counts.total n counts.is in
         subst (CountsOnUnder shown K N places left') (sym e) (counts_children shown K N places left rest place n apart counts children.0 left' children.1 children.2)
 
     pub went_under : (reader' : ShelfReader O Pen Seen device) (seen' : Seen) (left' : List PagePlace) (more n' : ℕ)

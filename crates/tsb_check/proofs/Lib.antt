@@ -4,7 +4,7 @@ pub mod Stacks
 pub mod Weights
 pub mod Going
 pub mod Loops
-pub mod Telling
+pub mod Reporting
 pub mod Placed
 pub mod Counts
 pub mod Standing

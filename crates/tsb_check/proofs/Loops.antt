@@ -6,11 +6,11 @@ use Rattle.once_store.specs.declared.reader.ShelfReader.{ShelfReader}
 use Rattle.once_store.specs.Readers.{reader_disk}
 use Rattle.version_model.specs.declared.part.Place.{Place}
 use Rattle.tsb_walk.specs.Knowing.{ReadsWell, IsKnown}
-use Rattle.tsb_check.specs.declared.block.Told.{Told}
-use Rattle.tsb_check.specs.declared.block.Told.TheVariants.{Versions, Parts}
+use Rattle.tsb_check.specs.declared.block.Reported.{Reported}
+use Rattle.tsb_check.specs.declared.block.Reported.TheVariants.{Versions, Parts}
 use Rattle.tsb_check.specs.Counted.{IsReached, IsSoundFor, MeetUnknown, MeetDamage}
 use Rattle.tsb_check.specs.inner.Going.{GoesOn}
-use Rattle.tsb_check.specs.inner.Told.{IsToldOf, GoesLower, IsTaken, weight}
+use Rattle.tsb_check.specs.inner.Reported.{IsReportedOf, GoesLower, IsTaken, weight}
 use Rattle.tsb_check.proofs.Going.{goes_leaf, goes_column, reached_last}
 use Rattle.tsb_check.proofs.Weights.{falls, ends}
 
@@ -26,14 +26,14 @@ known_or known count n = elim (cases_lt n count) [
     by_octets (Some octets) lt e = inl (octets, record { inside = lt; at = e })
 
 pub goes_by : (known : ℕ → Option (List ℕ)) (count : ℕ) (places left rest left' : List Place) (place : Place) (n n' : ℕ) → left ≡ rest ++ place ∷ [] → GoesOn known count places left n
-    → (octets : List ℕ) → IsKnown known count place.part.block octets → (told : Told) → IsToldOf place octets told → IsTaken place told rest left' n n' → GoesOn known count places left' n'
-goes_by known count places left rest left' place n n' apart goes octets is (Versions more) told taken =
-    let sum : n' ≡ min (n + _) 18446744073709551615 = taken.1 ∙ ap (λ (x : ℕ). min (n + x) 18446744073709551615) told.2 in
-    subst (λ (ps : List Place). GoesOn known count places ps n') (sym taken.0) (goes_leaf known count places left rest place n apart goes octets is told.0 n' told.1 sum)
-goes_by known count places left rest left' place n n' apart goes octets is (Parts parts) told taken =
-    subst (GoesOn known count places left') (sym taken.1) (goes_column known count places left rest place n apart goes octets is parts.items left' told.0 told.1 taken.0)
+    → (octets : List ℕ) → IsKnown known count place.part.block octets → (reported : Reported) → IsReportedOf place octets reported → IsTaken place reported rest left' n n' → GoesOn known count places left' n'
+goes_by known count places left rest left' place n n' apart goes octets is (Versions more) reported taken =
+    let sum : n' ≡ min (n + _) 18446744073709551615 = taken.1 ∙ ap (λ (x : ℕ). min (n + x) 18446744073709551615) reported.2 in
+    subst (λ (ps : List Place). GoesOn known count places ps n') (sym taken.0) (goes_leaf known count places left rest place n apart goes octets is reported.0 n' reported.1 sum)
+goes_by known count places left rest left' place n n' apart goes octets is (Parts parts) reported taken =
+    subst (GoesOn known count places left') (sym taken.1) (goes_column known count places left rest place n apart goes octets is parts.items left' reported.0 reported.1 taken.0)
 
-pub falls_by : (place : Place) (told : Told) (left left' : List Place) (n n' : ℕ) → GoesLower place told → IsTaken place told left left' n n' → weight left' < weight (left ++ place ∷ [])
+pub falls_by : (place : Place) (reported : Reported) (left left' : List Place) (n n' : ℕ) → GoesLower place reported → IsTaken place reported left left' n n' → weight left' < weight (left ++ place ∷ [])
 falls_by place (Versions more) left left' n n' lower taken = subst (λ (ps : List Place). weight ps < weight (left ++ place ∷ [])) (sym taken.0) (ends place left)
 falls_by place (Parts parts) left left' n n' lower taken = subst (λ (ps : List Place). weight ps < weight (left ++ place ∷ [])) (sym taken.0) (falls place left place.bounds parts.items lower.0 lower.1)
 
@@ -53,14 +53,14 @@ module _ {O Pen Seen : Type 0} (device : Ghosts O Pen Seen) (places : List Place
     reached : GoesOn (device.known seen₀) (device.block_count (reader_disk reader₀)) places left n → IsReached (device.known seen₀) (device.block_count (reader_disk reader₀)) places place
     reached goes = reached_last (device.known seen₀) (device.block_count (reader_disk reader₀)) places left rest place n apart goes
 
-    pub went_on : (reader' : ShelfReader O Pen Seen device) (seen' : Seen) (left' : List Place) (n' : ℕ) (told : Told)
-        → (ReadsWell device reader seen → (octets : List ℕ) → IsKnown (device.known seen) (device.block_count (reader_disk reader)) place.part.block octets → IsToldOf place octets told)
-        → Reads reader' seen' → IsTaken place told rest left' n n' → Went reader' seen' left' n'
-    went_on reader' seen' left' n' told tells reads taken = λ well. elim (went well) [
+    pub went_on : (reader' : ShelfReader O Pen Seen device) (seen' : Seen) (left' : List Place) (n' : ℕ) (reported : Reported)
+        → (ReadsWell device reader seen → (octets : List ℕ) → IsKnown (device.known seen) (device.block_count (reader_disk reader)) place.part.block octets → IsReportedOf place octets reported)
+        → Reads reader' seen' → IsTaken place reported rest left' n n' → Went reader' seen' left' n'
+    went_on reader' seen' left' n' reported reports reads taken = λ well. elim (went well) [
       | inl there ↦ elim (known_or (device.known seen₀) (device.block_count (reader_disk reader₀)) place.part.block) [
         | inl k ↦ inl (
           reads there.0 k.0 (along well k.0 k.1),
-          goes_by (device.known seen₀) (device.block_count (reader_disk reader₀)) places left rest left' place n n' apart there.1 k.0 k.1 told (tells there.0 k.0 (along well k.0 k.1)) taken,
+          goes_by (device.known seen₀) (device.block_count (reader_disk reader₀)) places left rest left' place n n' apart there.1 k.0 k.1 reported (reports there.0 k.0 (along well k.0 k.1)) taken,
         )
         | inr never ↦ inr (record { place = place; reached = reached there.1; unknown = never })
       ]

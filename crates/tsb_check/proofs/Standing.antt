@@ -243,8 +243,8 @@ module _ (shown : List (List ℕ)) (s : Store) (all : List Version) (are_shown :
         one_more place rest n m (children_counts_in place children n says stand.0 (nodes_counted (places_under place children) n inner (children_stand place children says stand.0))) (nodes_counted rest m rests stand.1)
 
     -- what is counted under the root of a tree is how many versions it stands for
-    pub tree_told : (root : PagePlace) (n : ℕ) → keys_at root ≡ all_keys → TreeStands s all root.page root.level → AreCountedUnder shown known count (root ∷ []) n → n ≡ length all
-    tree_told root n keys tree counted =
+    pub tree_reported : (root : PagePlace) (n : ℕ) → keys_at root ≡ all_keys → TreeStands s all root.page root.level → AreCountedUnder shown known count (root ∷ []) n → n ≡ length all
+    tree_reported root n keys tree counted =
         let stands : PlaceIn root = subst (λ (k : Keys). StandsIn s all root.level k root.page) (sym keys) tree.stands in
         let counts = nodes_counted (root ∷ []) n counted (stands, tt) in
         one_node root n keys tree counts.ns counts.same counts.sum counts.each

@@ -137,7 +137,7 @@ parts_lower r parts start next block (inl none) most = subst (AreLower block) (s
 parts_lower r parts start next block (inr are) most = all_lower block parts (λ i part at. (let lower = are.lower i part at in omega (arith, lower, most)))
 
 module _ (shown : List (List ℕ)) (s : Store) (all : List Version) (are_shown : AreShown shown s.nodes) (in_use : InUse) (within : IsWithin s in_use) where
-  column_within : (page current next : ℕ) (parts : List Part) (told : ℕ) → page < s.limit → current < s.limit → AreLower in_use.blocks parts → AreLower in_use.burnt parts → IsColumnUnused in_use page parts current told → ⊥
+  column_within : (page current next : ℕ) (parts : List Part) (reported : ℕ) → page < s.limit → current < s.limit → AreLower in_use.blocks parts → AreLower in_use.burnt parts → IsColumnUnused in_use page parts current reported → ⊥
   column_within page current next parts _ in_page in_current tried burnt (never_burnt not) = not burnt
   column_within page current next parts _ in_page in_current tried burnt (never_tried not) = not tried
   column_within page current next parts _ in_page in_current tried burnt (page_unused above) = omega (arith, above, in_page, within.pages)

@@ -5,7 +5,7 @@ use Rattle.version_model.specs.declared.bounds.Bounds.{Bounds}
 use Rattle.version_model.specs.declared.part.Part.{Part}
 use Rattle.version_model.specs.declared.part.Place.{Place}
 use Rattle.tsb_check.specs.Counted.{AreLower, places_of}
-use Rattle.tsb_check.specs.inner.Told.{weight}
+use Rattle.tsb_check.specs.inner.Reported.{weight}
 
 pub weight_both : (xs ys : List Place) → weight (xs ++ ys) ≡ weight xs + weight ys
 weight_both [] ys = omega arith

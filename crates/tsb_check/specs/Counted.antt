@@ -62,11 +62,11 @@ pub record MeetDamage (known : ℕ → Option (List ℕ)) (count : ℕ) (places 
   pub unsound : (octets : List ℕ) → IsKnown known count place.part.block octets → IsSoundFor place octets → ⊥
 
 -- a number as a count returns it: the greatest count where it is greater
-abbrev pub told : ℕ → ℕ
-told n = min n 18446744073709551615
+abbrev pub reported : ℕ → ℕ
+reported n = min n 18446744073709551615
 
 -- a count of the versions of some places returns n
-pub record TellsPast (known : ℕ → Option (List ℕ)) (count : ℕ) (places : List Place) (n : ℕ) : Type 0 where
+pub record ReportsPast (known : ℕ → Option (List ℕ)) (count : ℕ) (places : List Place) (n : ℕ) : Type 0 where
   pub total : ℕ
   pub counted : AreCounted known count places total
-  pub is : n ≡ told total
+  pub is : n ≡ reported total

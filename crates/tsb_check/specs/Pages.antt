@@ -9,7 +9,7 @@ use Rattle.version_model.specs.declared.child.Child.{Child}
 use Rattle.version_model.specs.Versions.{Version}
 use Rattle.version_model.specs.Counts.{count_in}
 use Rattle.version_model.specs.Pages.{CurrentLeaf, ColumnNode, KeyNode, current_range}
-use Rattle.tsb_check.specs.Counted.{AreCounted, MeetUnknown, MeetDamage, IsOneOf, places_of, told}
+use Rattle.tsb_check.specs.Counted.{AreCounted, MeetUnknown, MeetDamage, IsOneOf, places_of, reported}
 
 -- the lowest key of the first of some children; without one, the high key
 abbrev pub high_at : Option ℕ → List Child → Option ℕ
@@ -59,10 +59,10 @@ pub data IsBadUnder (shown : List (List ℕ)) (places : List PagePlace) : ℕ �
   no_leaf : (column : PagePlace) (parts : List Part) (start current : ℕ) → IsColumnUnder shown places column parts start current → IsNoLeaf shown column start current → IsBadUnder shown places current
 
 -- a count of the versions of the tree at some places returns n
-pub record TellsTree (shown : List (List ℕ)) (known : ℕ → Option (List ℕ)) (count : ℕ) (places : List PagePlace) (n : ℕ) : Type 0 where
+pub record ReportsTree (shown : List (List ℕ)) (known : ℕ → Option (List ℕ)) (count : ℕ) (places : List PagePlace) (n : ℕ) : Type 0 where
   pub total : ℕ
   pub counted : AreCountedUnder shown known count places total
-  pub is : n ≡ told total
+  pub is : n ≡ reported total
 
 -- the past of a column to which some places lead leads to a block that isn't known
 pub record IsUnknownUnder (shown : List (List ℕ)) (known : ℕ → Option (List ℕ)) (count : ℕ) (places : List PagePlace) : Type 0 where

@@ -1,4 +1,4 @@
-pub mod Told
+pub mod Reported
 pub mod Going
 pub mod Columns
 pub mod GoingUnder

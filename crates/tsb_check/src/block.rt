@@ -5,7 +5,7 @@ ghost use Rattle.version_model.specs.declared.part.PartKind.TheVariants.{LeafBlo
 ghost use Rattle.version_model.specs.Blocks.{IsWider};
 ghost use Rattle.version_model.specs.Ranges.{range_of, high_or, end_or};
 ghost use Rattle.tsb_check.specs.Counted.{IsSoundFor};
-ghost use Rattle.tsb_check.specs.inner.Told.{IsToldOf, GoesLower};
+ghost use Rattle.tsb_check.specs.inner.Reported.{IsReportedOf, GoesLower};
 
 use crate::counting::count_inside;
 use disk_models::Block;
@@ -16,7 +16,7 @@ use version_model::{Bounds, Part, PartKind, Place, Stamp};
 
 /// What a block holds for its place: how many versions it has of the place's keys and stamps, or the parts where they are.
 #[derive(Debug, Drop)]
-pub enum Told {
+pub enum Reported {
     Versions(u64),
     Parts(Vec<Part>),
 }
@@ -82,9 +82,9 @@ pub fn are_lower(parts: &[Part], block: u64) -> bool
 }
 
 // How many versions the leaf in a block has.
-fn versions_told(alloc: Global, block: &Block, place: &Place) -> Result<Told, ReadFault>
+fn versions_reported(alloc: Global, block: &Block, place: &Place) -> Result<Reported, ReadFault>
     requires kind { place.now.part.kind ≡ LeafBlock }
-    ensures told { IfOk result (IsToldOf place.now block.now) }
+    ensures reported { IfOk result (IsReportedOf place.now block.now) }
     ensures sound { IsSoundFor place.now block.now → result ≡ Err ReadFault.NotANode → ⊥ }
     ensures lower { IfOk result (GoesLower place.now) }
 {
@@ -95,13 +95,13 @@ fn versions_told(alloc: Global, block: &Block, place: &Place) -> Result<Told, Re
     if !is_wider(&said.bounds, &place.bounds) {
         return Err(ReadFault::NotANode);
     }
-    Ok(Told::Versions(count_inside(&place.bounds, &said.entries)))
+    Ok(Reported::Versions(count_inside(&place.bounds, &said.entries)))
 }
 
 // The parts of the column in a block.
-fn parts_told(alloc: Global, block: &Block, place: &Place) -> Result<Told, ReadFault>
+fn parts_reported(alloc: Global, block: &Block, place: &Place) -> Result<Reported, ReadFault>
     requires kind { place.now.part.kind ≡ ColumnBlock }
-    ensures told { IfOk result (IsToldOf place.now block.now) }
+    ensures reported { IfOk result (IsReportedOf place.now block.now) }
     ensures sound { IsSoundFor place.now block.now → result ≡ Err ReadFault.NotANode → ⊥ }
     ensures lower { IfOk result (GoesLower place.now) }
 {
@@ -115,18 +115,18 @@ fn parts_told(alloc: Global, block: &Block, place: &Place) -> Result<Told, ReadF
     if !are_lower(&said.parts, place.part.block) {
         return Err(ReadFault::NotANode);
     }
-    Ok(Told::Parts(said.parts))
+    Ok(Reported::Parts(said.parts))
 }
 
 /// What a block holds for a place. Fails with NotANode exactly where it isn't what the place asks for: a leaf or a column, by the place's
 /// kind, of exactly its stamps and of its keys at least; and the parts of a column are in blocks of lower numbers.
-pub fn told_by(alloc: Global, block: &Block, place: &Place) -> Result<Told, ReadFault>
-    ensures told { IfOk result (IsToldOf place.now block.now) }
+pub fn reported_by(alloc: Global, block: &Block, place: &Place) -> Result<Reported, ReadFault>
+    ensures reported { IfOk result (IsReportedOf place.now block.now) }
     ensures sound { IsSoundFor place.now block.now → result ≡ Err ReadFault.NotANode → ⊥ }
     ensures lower { IfOk result (GoesLower place.now) }
 {
     match place.part.kind {
-        PartKind::LeafBlock => versions_told(alloc, block, place),
-        PartKind::ColumnBlock => parts_told(alloc, block, place),
+        PartKind::LeafBlock => versions_reported(alloc, block, place),
+        PartKind::ColumnBlock => parts_reported(alloc, block, place),
     }
 }

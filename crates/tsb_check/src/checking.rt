@@ -9,10 +9,10 @@ ghost use Rattle.tsb_walk.specs.AllVersions.{VersionsRefusal};
 ghost use Rattle.tsb_walk.specs.Knowing.{ReadsWell, AreKnown};
 ghost use Rattle.tsb_walk.specs.Refusals.{OnlyReads};
 ghost use Rattle.tsb_walk.specs.Shown.{AreShown, StandsShown, keys_at};
-ghost use Rattle.tsb_check.specs.Counted.{told};
+ghost use Rattle.tsb_check.specs.Counted.{reported};
 ghost use Rattle.tsb_check.specs.inner.GoingUnder.{IsPlaceTaken, AreLeftBy, IsPlaceBad, IsTakenUsed, IsTakenUnused, IsPlaceDamaged, IsPlaceUnknown, page_weight};
 ghost use Rattle.tsb_check.specs.InUse.{AreInUse, IsUnusedUnder, IsWithin};
-ghost use Rattle.tsb_check.specs.Pages.{TellsTree, IsBadUnder, IsUnknownUnder, IsDamagedUnder};
+ghost use Rattle.tsb_check.specs.Pages.{ReportsTree, IsBadUnder, IsUnknownUnder, IsDamagedUnder};
 
 use crate::children::list_children;
 use crate::column::count_column;
@@ -78,7 +78,7 @@ pub fn count_under<P: Pages, O: OnceDisk + Drop>(
     places: Vec<PagePlace>,
 ) -> Result<u64, NodeError>
     ensures checked { (start : Start) (shown : List (List ℕ)) → P.shows pages.old start shown → ReadsWell O.OnceDisk reader.old seen.old
-        → IfOk result (λ n. TellsTree shown (O.known seen.old) (O.block_count (reader_disk reader.old)) places.items n ⊎ IsUnknownUnder shown (O.known seen.old) (O.block_count (reader_disk reader.old)) places.items) }
+        → IfOk result (λ n. ReportsTree shown (O.known seen.old) (O.block_count (reader_disk reader.old)) places.items n ⊎ IsUnknownUnder shown (O.known seen.old) (O.block_count (reader_disk reader.old)) places.items) }
     ensures bad { (start : Start) (shown : List (List ℕ)) → P.shows pages.old start shown → (page : ℕ) → result ≡ Err (NodeError.BadNode page) → IsBadUnder shown places.items page ⊎ IsUnusedUnder shown in_use.now places.items page }
     ensures used { (start : Start) (shown : List (List ℕ)) → P.shows pages.old start shown → OnOk result (AreInUse shown in_use.now places.items) }
     ensures damaged { (start : Start) (shown : List (List ℕ)) → P.shows pages.old start shown → ReadsWell O.OnceDisk reader.old seen.old → (block : ℕ) → result ≡ Err (NodeError.Damaged block)
@@ -116,12 +116,12 @@ pub fn check<P: Pages, O: OnceDisk + Drop>(
     root: &PagePlace,
 ) -> Result<u64, NodeError>
     ensures counted { (start : Start) (shown : List (List ℕ)) → P.shows pages.old start shown → (s : Store) (all : List Version) → AreShown shown s.nodes → keys_at root.now ≡ all_keys → TreeStands s all root.now.page root.now.level
-        → ReadsWell O.OnceDisk reader.old seen.old → AreKnown (O.known seen.old) (O.block_count (reader_disk reader.old)) s.blocks → IfOk result (λ n. n ≡ told (length all)) }
+        → ReadsWell O.OnceDisk reader.old seen.old → AreKnown (O.known seen.old) (O.block_count (reader_disk reader.old)) s.blocks → IfOk result (λ n. n ≡ reported (length all)) }
     ensures blames { (start : Start) (shown : List (List ℕ)) → P.shows pages.old start shown → (s : Store) (all : List Version) → StandsShown shown s all root.now → IsWithin s in_use.now → (page : ℕ) → result ≡ Err (NodeError.BadNode page) → ⊥ }
     ensures never { (start : Start) (shown : List (List ℕ)) → P.shows pages.old start shown → (s : Store) (all : List Version) → StandsShown shown s all root.now
         → ReadsWell O.OnceDisk reader.old seen.old → AreKnown (O.known seen.old) (O.block_count (reader_disk reader.old)) s.blocks → (block : ℕ) → result ≡ Err (NodeError.Damaged block) → ⊥ }
     ensures checked { (start : Start) (shown : List (List ℕ)) → P.shows pages.old start shown → ReadsWell O.OnceDisk reader.old seen.old
-        → IfOk result (λ n. TellsTree shown (O.known seen.old) (O.block_count (reader_disk reader.old)) (root.now ∷ []) n ⊎ IsUnknownUnder shown (O.known seen.old) (O.block_count (reader_disk reader.old)) (root.now ∷ [])) }
+        → IfOk result (λ n. ReportsTree shown (O.known seen.old) (O.block_count (reader_disk reader.old)) (root.now ∷ []) n ⊎ IsUnknownUnder shown (O.known seen.old) (O.block_count (reader_disk reader.old)) (root.now ∷ [])) }
     ensures bad { (start : Start) (shown : List (List ℕ)) → P.shows pages.old start shown → (page : ℕ) → result ≡ Err (NodeError.BadNode page) → IsBadUnder shown (root.now ∷ []) page ⊎ IsUnusedUnder shown in_use.now (root.now ∷ []) page }
     ensures used { (start : Start) (shown : List (List ℕ)) → P.shows pages.old start shown → OnOk result (AreInUse shown in_use.now (root.now ∷ [])) }
     ensures damaged { (start : Start) (shown : List (List ℕ)) → P.shows pages.old start shown → ReadsWell O.OnceDisk reader.old seen.old → (block : ℕ) → result ≡ Err (NodeError.Damaged block)

@@ -10,7 +10,7 @@ use tsb_walk::PagePlace;
 use version_model::Child;
 
 // The lowest key of the child after child `i`; without one, the high key.
-fn high_behind(high: &Option<Key>, children: &[Child], i: usize) -> Option<Key>
+fn high_after(high: &Option<Key>, children: &[Child], i: usize) -> Option<Key>
     requires within { i < length children.now }
     ensures { result ≡ high_at high.now (drop (i + 1) children.now) }
 {
@@ -32,7 +32,7 @@ fn child_at(level: u8, high: &Option<Key>, children: &[Child], i: usize) -> Page
         page: child.page,
         level,
         low: child.low,
-        high: high_behind(high, children, i),
+        high: high_after(high, children, i),
     }
 }
 

@@ -6,9 +6,9 @@ ghost use Rattle.page_tx.specs.Start.{Start};
 ghost use Rattle.tsb_walk.specs.AllVersions.{VersionsRefusal};
 ghost use Rattle.tsb_walk.specs.Knowing.{ReadsWell};
 ghost use Rattle.tsb_walk.specs.Refusals.{OnlyReads, LookRefusal};
-ghost use Rattle.tsb_check.specs.Counted.{TellsPast, MeetUnknown, MeetDamage};
+ghost use Rattle.tsb_check.specs.Counted.{ReportsPast, MeetUnknown, MeetDamage};
 ghost use Rattle.tsb_check.specs.Pages.{past_of};
-ghost use Rattle.tsb_check.specs.inner.Columns.{HasCurrent, TellsColumn, IsBadColumn, IsUnusedColumn, IsUsedColumn, IsUnknownIn, IsDamagedIn};
+ghost use Rattle.tsb_check.specs.inner.Columns.{HasCurrent, ReportsColumn, IsBadColumn, IsUnusedColumn, IsUsedColumn, IsUnknownIn, IsDamagedIn};
 
 use crate::in_use::{InUse, check_column};
 use crate::past::count_past;
@@ -61,7 +61,7 @@ fn count_before<O: OnceDisk + Drop>(
     said: &ColumnSaid,
 ) -> Result<u64, BlockError>
     ensures checked { ReadsWell O.OnceDisk reader.old seen.old
-        → IfOk result (λ n. TellsPast (O.known seen.old) (O.block_count (reader_disk reader.old)) (past_of place.now said.now.parts.items said.now.current.start) n ⊎ MeetUnknown (O.known seen.old) (O.block_count (reader_disk reader.old)) (past_of place.now said.now.parts.items said.now.current.start)) }
+        → IfOk result (λ n. ReportsPast (O.known seen.old) (O.block_count (reader_disk reader.old)) (past_of place.now said.now.parts.items said.now.current.start) n ⊎ MeetUnknown (O.known seen.old) (O.block_count (reader_disk reader.old)) (past_of place.now said.now.parts.items said.now.current.start)) }
     ensures damaged { ReadsWell O.OnceDisk reader.old seen.old → (block : ℕ) → result ≡ Err (BlockError.Damaged block)
         → MeetDamage (O.known seen.old) (O.block_count (reader_disk reader.old)) (past_of place.now said.now.parts.items said.now.current.start) block ⊎ MeetUnknown (O.known seen.old) (O.block_count (reader_disk reader.old)) (past_of place.now said.now.parts.items said.now.current.start) }
     ensures reads { ReadsWell O.OnceDisk reader.old seen.old → ReadsWell O.OnceDisk reader.new seen.new ⊎ MeetUnknown (O.known seen.old) (O.block_count (reader_disk reader.old)) (past_of place.now said.now.parts.items said.now.current.start) }
@@ -86,7 +86,7 @@ pub fn count_column<P: Pages, O: OnceDisk + Drop>(
     place: &PagePlace,
 ) -> Result<u64, NodeError>
     ensures checked { (start : Start) (shown : List (List ℕ)) → P.shows pages.old start shown → ReadsWell O.OnceDisk reader.old seen.old
-        → IfOk result (λ n. TellsColumn shown (O.known seen.old) (O.block_count (reader_disk reader.old)) place.now n ⊎ IsUnknownIn shown (O.known seen.old) (O.block_count (reader_disk reader.old)) place.now) }
+        → IfOk result (λ n. ReportsColumn shown (O.known seen.old) (O.block_count (reader_disk reader.old)) place.now n ⊎ IsUnknownIn shown (O.known seen.old) (O.block_count (reader_disk reader.old)) place.now) }
     ensures bad { (start : Start) (shown : List (List ℕ)) → P.shows pages.old start shown → (page : ℕ) → result ≡ Err (NodeError.BadNode page) → IsBadColumn shown place.now page ⊎ IsUnusedColumn shown in_use.now place.now page }
     ensures used { (start : Start) (shown : List (List ℕ)) → P.shows pages.old start shown → OnOk result (IsUsedColumn shown in_use.now place.now) }
     ensures damaged { (start : Start) (shown : List (List ℕ)) → P.shows pages.old start shown → ReadsWell O.OnceDisk reader.old seen.old → (block : ℕ) → result ≡ Err (NodeError.Damaged block)

@@ -3,10 +3,10 @@
 ghost use Rattle.std.specs.Prelude.{◌≡◌, ◌↔◌, ◌⊎◌, ◌<◌, ◌+◌, ◌++◌, ◌∷◌, [], ℕ, List, IfOk, OnOk, Err, IsErrOf, min};
 ghost use Rattle.once_store.specs.Readers.{capacity_of, reader_disk};
 ghost use Rattle.tsb_walk.specs.Knowing.{ReadsWell, IsKnown};
-ghost use Rattle.tsb_check.specs.Counted.{IsSoundFor, MeetUnknown, MeetDamage, TellsPast};
-ghost use Rattle.tsb_check.specs.inner.Told.{IsToldOf, GoesLower, IsTaken, weight};
+ghost use Rattle.tsb_check.specs.Counted.{IsSoundFor, MeetUnknown, MeetDamage, ReportsPast};
+ghost use Rattle.tsb_check.specs.inner.Reported.{IsReportedOf, GoesLower, IsTaken, weight};
 
-use crate::block::{Told, told_by};
+use crate::block::{Reported, reported_by};
 use crate::places::list_places;
 use disk_models::OnceDisk;
 use once_store::{BlockError, ShelfReader};
@@ -15,13 +15,13 @@ use tsb_node::ReadFault;
 use version_model::Place;
 
 // What the block of a place holds for it.
-fn told_at<O: OnceDisk + Drop>(
+fn reported_at<O: OnceDisk + Drop>(
     reader: &mut ShelfReader<O>,
     seen: &mut O::Seen,
     alloc: Global,
     place: &Place,
-) -> Result<Told, BlockError>
-    ensures told { ReadsWell O.OnceDisk reader.old seen.old → (octets : List ℕ) → IsKnown (O.known seen.old) (O.block_count (reader_disk reader.old)) place.now.part.block octets → IfOk result (IsToldOf place.now octets) }
+) -> Result<Reported, BlockError>
+    ensures reported { ReadsWell O.OnceDisk reader.old seen.old → (octets : List ℕ) → IsKnown (O.known seen.old) (O.block_count (reader_disk reader.old)) place.now.part.block octets → IfOk result (IsReportedOf place.now octets) }
     ensures reads { ReadsWell O.OnceDisk reader.old seen.old → (octets : List ℕ) → IsKnown (O.known seen.old) (O.block_count (reader_disk reader.old)) place.now.part.block octets → ReadsWell O.OnceDisk reader.new seen.new }
     ensures unsound { ReadsWell O.OnceDisk reader.old seen.old → (octets : List ℕ) → IsKnown (O.known seen.old) (O.block_count (reader_disk reader.old)) place.now.part.block octets → (m : ℕ) → result ≡ Err (BlockError.Damaged m) → IsSoundFor place.now octets → ⊥ }
     ensures number { (m : ℕ) → result ≡ Err (BlockError.Damaged m) → m ≡ place.now.part.block }
@@ -38,8 +38,8 @@ fn told_at<O: OnceDisk + Drop>(
     let Some(block) = reader.block(number) else {
         return Err(BlockError::Damaged(number));
     };
-    match told_by(alloc, block, place) {
-        Ok(told) => Ok(told),
+    match reported_by(alloc, block, place) {
+        Ok(reported) => Ok(reported),
         Err(ReadFault::NotANode) => Err(BlockError::Damaged(number)),
         Err(ReadFault::Memory) => Err(BlockError::OutOfMemory),
     }
@@ -51,15 +51,15 @@ fn take(
     left: &mut Vec<Place>,
     count: u64,
     place: &Place,
-    told: Told,
+    reported: Reported,
 ) -> Result<u64, AllocError>
-    requires lower { GoesLower place.now told }
-    ensures taken { IfOk result (IsTaken place.now told left.old.items left.new.items count) }
+    requires lower { GoesLower place.now reported }
+    ensures taken { IfOk result (IsTaken place.now reported left.old.items left.new.items count) }
     ensures falls { OnOk result (weight left.new.items < weight (left.old.items ++ place.now ∷ [])) }
 {
-    match told {
-        Told::Versions(more) => Ok(count.saturating_add(more)),
-        Told::Parts(parts) => {
+    match reported {
+        Reported::Versions(more) => Ok(count.saturating_add(more)),
+        Reported::Parts(parts) => {
             let mut more = list_places(alloc, &place.bounds, &parts)?;
             left.append(&mut more)?;
             Ok(count)
@@ -77,7 +77,7 @@ pub fn count_past<O: OnceDisk + Drop>(
     alloc: Global,
     places: Vec<Place>,
 ) -> Result<u64, BlockError>
-    ensures checked { ReadsWell O.OnceDisk reader.old seen.old → IfOk result (λ n. TellsPast (O.known seen.old) (O.block_count (reader_disk reader.old)) places.items n ⊎ MeetUnknown (O.known seen.old) (O.block_count (reader_disk reader.old)) places.items) }
+    ensures checked { ReadsWell O.OnceDisk reader.old seen.old → IfOk result (λ n. ReportsPast (O.known seen.old) (O.block_count (reader_disk reader.old)) places.items n ⊎ MeetUnknown (O.known seen.old) (O.block_count (reader_disk reader.old)) places.items) }
     ensures damaged { ReadsWell O.OnceDisk reader.old seen.old → (block : ℕ) → result ≡ Err (BlockError.Damaged block) → MeetDamage (O.known seen.old) (O.block_count (reader_disk reader.old)) places.items block ⊎ MeetUnknown (O.known seen.old) (O.block_count (reader_disk reader.old)) places.items }
     ensures reads { ReadsWell O.OnceDisk reader.old seen.old → ReadsWell O.OnceDisk reader.new seen.new ⊎ MeetUnknown (O.known seen.old) (O.block_count (reader_disk reader.old)) places.items }
     ensures same { O.honest_seen (reader_disk reader.old) seen.old → O.known seen.new ≡ O.known seen.old }
@@ -90,8 +90,8 @@ pub fn count_past<O: OnceDisk + Drop>(
     let mut left = places;
     let mut count = 0u64;
     while let Some(place) = left.pop() {
-        let told = told_at(reader, seen, alloc, &place)?;
-        count = take(alloc, &mut left, count, &place, told)?;
+        let reported = reported_at(reader, seen, alloc, &place)?;
+        count = take(alloc, &mut left, count, &place, reported)?;
     }
     Ok(count)
 }

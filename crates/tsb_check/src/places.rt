@@ -9,7 +9,7 @@ use std::alloc::{AllocError, Global};
 use version_model::{Bounds, Part, Place, Stamp};
 
 // Where the part after part `i` starts; without one, the end.
-fn end_behind(end: &Option<Stamp>, parts: &[Part], i: usize) -> Option<Stamp>
+fn end_after(end: &Option<Stamp>, parts: &[Part], i: usize) -> Option<Stamp>
     requires within { i < length parts.now }
     ensures { result ≡ end_at end.now (drop (i + 1) parts.now) }
 {
@@ -31,7 +31,7 @@ fn place_at(low: &Key, high: &Option<Key>, end: &Option<Stamp>, parts: &[Part], 
             low: *low,
             high: *high,
             start: part.start,
-            end: end_behind(end, parts, i),
+            end: end_after(end, parts, i),
         },
         part: *part,
     }

@@ -10,11 +10,11 @@ use Rattle.tsb_node.specs.Numbers.{octets_of}
 use Rattle.tsb_node.specs.inner.Fields.{number_in}
 use Rattle.version_model.specs.declared.bounds.Bounds.{Bounds}
 use Rattle.version_model.specs.Versions.{Version, Has, IsRising, IsAbove}
-use Rattle.tsb_node.specs.Leaves.{tag, value_spelled, entry, entries, IsVersionOf}
-use Rattle.tsb_node.specs.inner.Reading.{value_size, value_in, version_in, versions_in, behind_version, after}
+use Rattle.tsb_node.specs.Leaves.{tag, value_encoded, entry, entries, IsVersionOf}
+use Rattle.tsb_node.specs.inner.Reading.{value_size, value_in, version_in, versions_in, after_version, after}
 use Rattle.tsb_node.specs.inner.Scanning.{IsWholeVersion}
-use Rattle.tsb_node.specs.inner.Checking.{IsSpelled, AreEntries, IsAfter}
-use Rattle.tsb_node.proofs.Entries.{entry_read, entry-size, entries_read, after-next, after_spelled, version_at, versions_in-size}
+use Rattle.tsb_node.specs.inner.Checking.{IsEncoded, AreEntries, IsAfter}
+use Rattle.tsb_node.proofs.Entries.{entry_read, entry-size, entries_read, after-next, after_encoded, version_at, versions_in-size}
 use Rattle.tsb_node.proofs.HeaderLaws.{are-drop, are-take, again_in, number_in-lt, take_on}
 use Rattle.version_model.proofs.api.Pushed.{IsRising-push}
 use Rattle.tsb_node.proofs.Laying.{entries-push, all_push}
@@ -28,7 +28,7 @@ tag-le (Some v) = omega arith
 
 -- what the value at the front is, by its tag
 pub record ValueIs (bytes : List ℕ) : Type 0 where
-  pub octets : value_spelled (value_in bytes) ≡ take (value_size bytes) (drop 59 bytes)
+  pub octets : value_encoded (value_in bytes) ≡ take (value_size bytes) (drop 59 bytes)
   pub tagged : tag (value_in bytes) ≡ slice_index bytes 56
 
 take_none : (n : ℕ) (xs : List ℕ) → n ≡ 0 → take n xs ≡ []
@@ -37,10 +37,10 @@ take_none n xs e = ap (λ (m : ℕ). take m xs) e
 pub value_is : (bytes : List ℕ) → slice_index bytes 56 ≤ 1 → (slice_index bytes 56 ≡ 0 → value_size bytes ≡ 0) → ValueIs bytes
 value_is bytes le end = elim (cases_order (slice_index bytes 56) 0) [
   | inl zero_tag ↦ record {
-    octets = ap value_spelled (value_none bytes zero_tag) ∙ sym (take_none (value_size bytes) (drop 59 bytes) (end zero_tag));
+    octets = ap value_encoded (value_none bytes zero_tag) ∙ sym (take_none (value_size bytes) (drop 59 bytes) (end zero_tag));
     tagged = ap tag (value_none bytes zero_tag) ∙ sym zero_tag;
   }
-  | inr other ↦ (let some = value_some bytes (λ e. omega (arith, e, other)) in record { octets = ap value_spelled some; tagged = ap tag some ∙ (let e : 1 ≡ slice_index bytes 56 = omega (arith, other) in e) })
+  | inr other ↦ (let some = value_some bytes (λ e. omega (arith, e, other)) in record { octets = ap value_encoded some; tagged = ap tag some ∙ (let e : 1 ≡ slice_index bytes 56 = omega (arith, other) in e) })
 ]
 
 pub one_octet : (xs : List ℕ) (n : ℕ) → n < length xs → take 1 (drop n xs) ≡ slice_index xs n ∷ []
@@ -48,18 +48,18 @@ one_octet [] n lt = absurd (omega arith)
 one_octet (x ∷ xs) zero lt = refl
 one_octet (x ∷ xs) (suc n) lt = one_octet xs n (omega arith)
 
-pub spelled_here : (b : Bounds) (bytes : List ℕ) → AreOctets bytes → IsWholeVersion bytes → value_size bytes ≤ 3072 → slice_index bytes 56 ≤ 1 → (slice_index bytes 56 ≡ 0 → value_size bytes ≡ 0)
-    → b.low ≤ number_in 40 0 bytes → IfSome b.high (λ n. number_in 40 0 bytes < n) → IsSpelled b bytes
+pub encoded_here : (b : Bounds) (bytes : List ℕ) → AreOctets bytes → IsWholeVersion bytes → value_size bytes ≤ 3072 → slice_index bytes 56 ≤ 1 → (slice_index bytes 56 ≡ 0 → value_size bytes ≡ 0)
+    → b.low ≤ number_in 40 0 bytes → IfSome b.high (λ n. number_in 40 0 bytes < n) → IsEncoded b bytes
 unfolding entry
-spelled_here b bytes are whole small le end low high =
+encoded_here b bytes are whole small le end low high =
     let v : ValueIs bytes = value_is bytes le end in
     let n : ℕ = value_size bytes in
     let len : length (take n (drop 59 bytes)) ≡ n = omega (arith, length-take n (drop 59 bytes), length-drop 59 bytes, whole) in
-    let size : length (value_spelled (value_in bytes)) ≡ n = ap length v.octets ∙ len in
+    let size : length (value_encoded (value_in bytes)) ≡ n = ap length v.octets ∙ len in
     let k = again_in 40 0 bytes are (omega (arith, whole)) in
     let s = again_in 16 40 bytes are (omega (arith, whole)) in
     let t : take 1 (drop 56 bytes) ≡ tag (value_in bytes) ∷ [] = one_octet bytes 56 (omega (arith, whole)) ∙ ap (λ (x : ℕ). x ∷ []) (sym v.tagged) in
-    let l : octets_of 2 (length (value_spelled (value_in bytes))) ≡ take 2 (drop 57 bytes) = ap (octets_of 2) size ∙ again_in 2 57 bytes are (omega (arith, whole)) in
+    let l : octets_of 2 (length (value_encoded (value_in bytes))) ≡ take 2 (drop 57 bytes) = ap (octets_of 2) size ∙ again_in 2 57 bytes are (omega (arith, whole)) in
     record {
       whole = whole;
       valid = record {
@@ -68,33 +68,33 @@ spelled_here b bytes are whole small le end low high =
         stamp = rw (stamp_said bytes) (number_in-lt 16 40 bytes are (omega (arith, whole)));
         octets = rw (value_said bytes, v.octets) (are-take n (drop 59 bytes) (are-drop 59 bytes are));
       };
-      spelled = rw (key_said bytes, stamp_said bytes, value_said bytes)
+      encoded = rw (key_said bytes, stamp_said bytes, value_said bytes)
           (rw (take_on 59 n bytes, take_on 57 2 bytes, take_on 56 1 bytes, take_on 40 16 bytes, k, s, t, l, v.octets) refl);
     }
 
 -- the octets are the entry and what follows it
-pub is_front : (b : Bounds) (bytes : List ℕ) → IsSpelled b bytes → bytes ≡ entry (version_in bytes) ++ behind_version bytes
-is_front b bytes sp = sym (take-append-drop (59 + value_size bytes) bytes) ∙ ap (λ (t : List ℕ). t ++ behind_version bytes) sp.spelled
+pub is_front : (b : Bounds) (bytes : List ℕ) → IsEncoded b bytes → bytes ≡ entry (version_in bytes) ++ after_version bytes
+is_front b bytes sp = sym (take-append-drop (59 + value_size bytes) bytes) ∙ ap (λ (t : List ℕ). t ++ after_version bytes) sp.encoded
 
-pub spelled_reads : (b : Bounds) (bytes : List ℕ) → IsSpelled b bytes → (slice_index bytes 56 ≡ tag (version_in bytes).value) × (value_size bytes ≡ length (value_spelled (version_in bytes).value))
-spelled_reads b bytes sp =
-    let r = entry_read b (version_in bytes) (behind_version bytes) sp.valid in
+pub encoded_reads : (b : Bounds) (bytes : List ℕ) → IsEncoded b bytes → (slice_index bytes 56 ≡ tag (version_in bytes).value) × (value_size bytes ≡ length (value_encoded (version_in bytes).value))
+encoded_reads b bytes sp =
+    let r = entry_read b (version_in bytes) (after_version bytes) sp.valid in
     let e = is_front b bytes sp in
     (ap (λ (t : List ℕ). slice_index t 56) e ∙ r.tagged, ap value_size e ∙ r.size)
 
-pub end_is_empty : (o : Option (List ℕ)) → tag o ≡ 0 → length (value_spelled o) ≡ 0
+pub end_is_empty : (o : Option (List ℕ)) → tag o ≡ 0 → length (value_encoded o) ≡ 0
 end_is_empty None e = refl
 end_is_empty (Some v) e = absurd (omega (arith, e))
 
 -- an encoded version is an entry
-pub is_spelled : (b : Bounds) (v : Version) (rest : List ℕ) → IsVersionOf b v → IsSpelled b (entry v ++ rest)
-is_spelled b v rest is =
+pub is_encoded : (b : Bounds) (v : Version) (rest : List ℕ) → IsVersionOf b v → IsEncoded b (entry v ++ rest)
+is_encoded b v rest is =
     let r = entry_read b v rest is in
     let size : 59 + value_size (entry v ++ rest) ≡ length (entry v) = omega (arith, r.size, entry-size v) in
     record {
       whole = omega (arith, size, length-append (entry v) rest);
       valid = subst (IsVersionOf b) (sym r.is) is;
-      spelled = take_at (entry v) rest (59 + value_size (entry v ++ rest)) (sym size) ∙ ap entry (sym r.is);
+      encoded = take_at (entry v) rest (59 + value_size (entry v ++ rest)) (sym size) ∙ ap entry (sym r.is);
     }
 
 -- ---- many
@@ -102,7 +102,7 @@ is_spelled b v rest is =
 pub versions_more : (n : ℕ) (bytes : List ℕ) → versions_in (suc n) bytes ≡ versions_in n bytes ++ version_in (after n bytes) ∷ []
 unfolding versions_in after
 versions_more zero bytes = refl
-versions_more (suc n) bytes = ap (λ (t : List Version). version_in bytes ∷ t) (versions_more n (behind_version bytes))
+versions_more (suc n) bytes = ap (λ (t : List Version). version_in bytes ∷ t) (versions_more n (after_version bytes))
 
 -- the last stamp of those that were read
 abbrev pub LastIs : List Version → Option ℕ → Type 0
@@ -134,8 +134,8 @@ get_cases [] v w (suc k) e = absurd (none-some w e)
 get_cases (x ∷ vs) v w zero e = inl e
 get_cases (x ∷ vs) v w (suc k) e = get_cases vs v w k e
 
-pub check_on : (b : Bounds) (bytes rest : List ℕ) (n : ℕ) (last : Option ℕ) → Checked b bytes rest n last → IsSpelled b rest → IsAfter (number_in 16 40 rest) last
-    → Checked b bytes (behind_version rest) (n + 1) (Some (number_in 16 40 rest))
+pub check_on : (b : Bounds) (bytes rest : List ℕ) (n : ℕ) (last : Option ℕ) → Checked b bytes rest n last → IsEncoded b rest → IsAfter (number_in 16 40 rest) last
+    → Checked b bytes (after_version rest) (n + 1) (Some (number_in 16 40 rest))
 check_on b bytes rest n last c sp is =
     let vs : List Version = versions_in n bytes in
     let v : Version = version_in rest in
@@ -145,9 +145,9 @@ check_on b bytes rest n last c sp is =
     ap (λ (m : ℕ). versions_in m bytes) (sym next) ∙ versions_more n bytes ∙ ap (λ (t : List ℕ). vs ++ version_in t ∷ []) (sym c.at) in
     let above : IsAbove vs v.stamp = rw (stamp_said rest) (above_last vs last s c.newest is) in
     record {
-      at = ap behind_version c.at ∙ sym (after-next n bytes) ∙ ap (λ (m : ℕ). after m bytes) next;
-      whole = c.whole ∙ ap (λ (t : List ℕ). entries vs ++ t) (is_front b rest sp) ∙ sym (append_assoc (entries vs) (entry v) (behind_version rest))
-          ∙ ap (λ (t : List ℕ). t ++ behind_version rest) (sym (entries-push vs v) ∙ ap entries (sym more));
+      at = ap after_version c.at ∙ sym (after-next n bytes) ∙ ap (λ (m : ℕ). after m bytes) next;
+      whole = c.whole ∙ ap (λ (t : List ℕ). entries vs ++ t) (is_front b rest sp) ∙ sym (append_assoc (entries vs) (entry v) (after_version rest))
+          ∙ ap (λ (t : List ℕ). t ++ after_version rest) (sym (entries-push vs v) ∙ ap entries (sym more));
       each = subst (AllByRecursion (IsVersionOf b)) (sym more) (all_push (IsVersionOf b) vs v c.each sp.valid);
       rising = subst IsRising (sym more) (IsRising-push vs v c.rising above);
       newest = subst (λ (t : List Version). LastIs t (Some s)) (sym more) (
@@ -165,7 +165,7 @@ check_end b bytes rest count last c none = record {
   each = c.each;
   rising = c.rising;
   counted = versions_in-size count bytes;
-  spelled = c.whole ∙ ap (λ (t : List ℕ). entries (versions_in count bytes) ++ t) (empty rest none) ∙ append-nil (entries (versions_in count bytes));
+  encoded = c.whole ∙ ap (λ (t : List ℕ). entries (versions_in count bytes) ++ t) (empty rest none) ∙ append-nil (entries (versions_in count bytes));
 }
   where
     empty : (xs : List ℕ) → length xs ≡ 0 → xs ≡ []
@@ -175,7 +175,7 @@ check_end b bytes rest count last c none = record {
 -- what follows the first n entries
 stands_at : (b : Bounds) (count n : ℕ) (bytes : List ℕ) (are : AreEntries b count bytes) → n ≤ count → after n bytes ≡ entries (drop n are.versions)
 stands_at b count n bytes are le =
-    ap (after n) (are.spelled ∙ sym (append-nil (entries are.versions))) ∙ after_spelled b n are.versions [] are.each (omega (arith, are.counted)) ∙ append-nil (entries (drop n are.versions))
+    ap (after n) (are.encoded ∙ sym (append-nil (entries are.versions))) ∙ after_encoded b n are.versions [] are.each (omega (arith, are.counted)) ∙ append-nil (entries (drop n are.versions))
 
 drop_cons : (n : ℕ) (vs : List Version) → n < length vs → (v : Version) × (more : List Version) × (drop n vs ≡ v ∷ more)
 drop_cons n [] lt = absurd (omega arith)
@@ -191,18 +191,18 @@ entries-cons : (v : Version) (vs : List Version) → entries (v ∷ vs) ≡ entr
 unfolding entries
 entries-cons v vs = refl
 
-pub entry_stands : (b : Bounds) (count n : ℕ) (bytes rest : List ℕ) → AreEntries b count bytes → n < count → rest ≡ after n bytes → IsSpelled b rest
+pub entry_stands : (b : Bounds) (count n : ℕ) (bytes rest : List ℕ) → AreEntries b count bytes → n < count → rest ≡ after n bytes → IsEncoded b rest
 entry_stands b count n bytes rest are lt at =
     let d = drop_cons n are.versions (omega (arith, are.counted)) in
     let here : rest ≡ entry d.0 ++ entries d.1 = at ∙ stands_at b count n bytes are (omega arith) ∙ ap entries d.2 ∙ entries-cons d.0 d.1 in
     let all = subst (AllByRecursion (IsVersionOf b)) d.2 (all_drop (IsVersionOf b) n are.versions are.each) in
-    subst (IsSpelled b) (sym here) (is_spelled b d.0 (entries d.1) all.0)
+    subst (IsEncoded b) (sym here) (is_encoded b d.0 (entries d.1) all.0)
 
 pub stamp_stands : (b : Bounds) (count n : ℕ) (bytes rest : List ℕ) (last : Option ℕ) → AreEntries b count bytes → n < count → Checked b bytes rest n last → IsAfter (number_in 16 40 rest) last
 stamp_stands b count n bytes rest None are lt c = tt
 stamp_stands b count n bytes rest (Some l) are lt c =
     let same : versions_in count bytes ≡ are.versions =
-    ap (versions_in count) (are.spelled ∙ sym (append-nil (entries are.versions))) ∙ ap (λ (m : ℕ). versions_in m (entries are.versions ++ [])) (sym are.counted) ∙ entries_read b are.versions [] are.each in
+    ap (versions_in count) (are.encoded ∙ sym (append-nil (entries are.versions))) ∙ ap (λ (m : ℕ). versions_in m (entries are.versions ++ [])) (sym are.counted) ∙ entries_read b are.versions [] are.each in
     let rising : IsRising (versions_in count bytes) = subst IsRising (sym same) are.rising in
     let w = c.newest.1.0 in
     let has : Has (versions_in n bytes) w = c.newest.1.1 in
@@ -213,9 +213,9 @@ stamp_stands b count n bytes rest (Some l) are lt c =
     let h : w.stamp < (version_in rest).stamp = rising.rises has.place n w (version_in rest) below first second in
     omega (arith, h, stamp_said rest, c.newest.1.2)
 
-pub nothing_behind : (b : Bounds) (count : ℕ) (bytes rest : List ℕ) → AreEntries b count bytes → rest ≡ after count bytes → length rest ≡ 0
+pub nothing_after : (b : Bounds) (count : ℕ) (bytes rest : List ℕ) → AreEntries b count bytes → rest ≡ after count bytes → length rest ≡ 0
 unfolding entries
-nothing_behind b count bytes rest are at =
+nothing_after b count bytes rest are at =
     ap length (at ∙ stands_at b count count bytes are (omega arith)) ∙ ap (λ (t : List Version). length (flat_map entry t)) (drop_all count are.versions are.counted)
   where
     drop_all : (n : ℕ) (vs : List Version) → length vs ≡ n → drop n vs ≡ []

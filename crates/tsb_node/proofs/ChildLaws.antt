@@ -11,7 +11,7 @@ use Rattle.tsb_node.specs.Nodes.{body}
 use Rattle.tsb_node.specs.Columns.{BeginsAt}
 use Rattle.tsb_node.specs.KeyNodes.{KeyNodeInPage, IsKeyNode, IsKeyNodePage, IsChildEntry, lows_of, child_octets}
 use Rattle.tsb_node.specs.inner.Fields.{number_in}
-use Rattle.tsb_node.specs.inner.Rows.{IsSpelling, IsFront, StartsAt}
+use Rattle.tsb_node.specs.inner.Rows.{IsEncoding, IsFront, StartsAt}
 use Rattle.tsb_node.specs.inner.ChildReading.{child_in, AreChildrenOf, IsKeyNodeOf}
 use Rattle.tsb_node.specs.inner.NodeReading.{IsNode, node_body, BeginsAsNode, IsNodePage}
 use Rattle.tsb_node.proofs.HeaderLaws.{again_in, number_in-lt, take_on}
@@ -21,11 +21,11 @@ use Rattle.tsb_node.proofs.NodeLaws.{nodes_same, entries_same, page_begins}
 child_apart : (b : Bounds) (c d : Child) (x y : List ℕ) → IsChildEntry b c → IsChildEntry b d → child_octets c ++ x ≡ child_octets d ++ y → c ≡ d
 child_apart b c d x y is_c is_d e = sym (child_read b c x is_c) ∙ ap child_in e ∙ child_read b d y is_d
 
-pub children_spelled : (b : Bounds) → IsSpelling child_octets (IsChildEntry b) 48
-children_spelled b = record { some = omega arith; size_is = child-size; apart = child_apart b }
+pub children_encoded : (b : Bounds) → IsEncoding child_octets (IsChildEntry b) 48
+children_encoded b = record { some = omega arith; size_is = child-size; apart = child_apart b }
 
 pub child_front-size : (b : Bounds) (bytes : List ℕ) (c : Child) → IsFront child_octets (IsChildEntry b) 48 bytes c → 48 ≤ length bytes
-child_front-size b bytes c front = omega (arith, ap length front.spelled, length-append (child_octets c) (drop 48 bytes), child-size c)
+child_front-size b bytes c front = omega (arith, ap length front.encoded, length-append (child_octets c) (drop 48 bytes), child-size c)
 
 -- the child that is read at the front
 pub child_is : (b : Bounds) (low page : ℕ) (bytes : List ℕ) → AreOctets bytes → 48 ≤ length bytes → low ≡ number_in 40 0 bytes → page ≡ number_in 8 40 bytes → IfSome b.high (λ n. low < n)
@@ -36,13 +36,13 @@ child_is b low page bytes are le l p high =
     let n = again_in 8 40 bytes are (omega (arith, le)) in
     record {
       valid_is = record { low = rw l (number_in-lt 40 0 bytes are (omega (arith, le))); high = high; page = rw p (number_in-lt 8 40 bytes are (omega (arith, le))) };
-      spelled = sym (take-append-drop 48 bytes) ∙ ap (λ (t : List ℕ). t ++ drop 48 bytes) (take_on 40 8 bytes ∙ rw (l, p, k, n) refl);
+      encoded = sym (take-append-drop 48 bytes) ∙ ap (λ (t : List ℕ). t ++ drop 48 bytes) (take_on 40 8 bytes ∙ rw (l, p, k, n) refl);
     }
 
 -- what is read at the front of a child
 pub child_there : (b : Bounds) (low : ℕ) (bytes : List ℕ) (c : Child) → IsFront child_octets (IsChildEntry b) 48 bytes c → low ≡ number_in 40 0 bytes → low ≡ c.low
 unfolding child_in
-child_there b low bytes c front l = l ∙ ap (number_in 40 0) front.spelled ∙ ap (λ (x : Child). x.low) (child_read b c (drop 48 bytes) front.valid_is)
+child_there b low bytes c front l = l ∙ ap (number_in 40 0) front.encoded ∙ ap (λ (x : Child). x.low) (child_read b c (drop 48 bytes) front.valid_is)
 
 -- ---- in a page
 
@@ -69,9 +69,9 @@ key_node_from h es cs node kind lowest highest from_first some are = record {
     each = are.each;
     first = begins h.bounds.low h.count cs are.from_first are.counted some;
     rising = are.rising;
-    fits = omega (arith, node.fits, ap length are.spelled, children-count cs);
+    fits = omega (arith, node.fits, ap length are.encoded, children-count cs);
   };
-  spelled = are.spelled;
+  encoded = are.encoded;
 }
 
 pub key_node_children : (h : Header) (es : List ℕ) (k : KeyNodeInPage) → IsKeyNodeOf h es k → AreChildrenOf h.bounds h.count es k.children
@@ -81,7 +81,7 @@ key_node_children h es k of =
       from_first = starts k.bounds.low k.children of.valid.first;
       rising = of.valid.rising;
       counted = sym of.count;
-      spelled = of.spelled;
+      encoded = of.encoded;
     } in
     subst (λ (b : Bounds). AreChildrenOf b h.count es k.children) of.bounds along
 
@@ -107,21 +107,21 @@ key_node_node k valid = record { bounds = valid.bounds; count = omega (arith, va
 body_of : (h : Header) (es : List ℕ) (k : KeyNodeInPage) → IsKeyNodeOf h es k → node_body h es ≡ node_body (key_node_header k) (flat_map child_octets k.children)
 body_of h es k of =
     ap (λ (n : ℕ). body n h.level h.count h.bounds es) of.kind ∙ ap (λ (l : ℕ). body 3 l h.count h.bounds es) of.level ∙ ap (λ (n : ℕ). body 3 k.level n h.bounds es) of.count
-    ∙ ap (λ (b : Bounds). body 3 k.level (length k.children) b es) (sym of.bounds) ∙ ap (body 3 k.level (length k.children) k.bounds) of.spelled
+    ∙ ap (λ (b : Bounds). body 3 k.level (length k.children) b es) (sym of.bounds) ∙ ap (body 3 k.level (length k.children) k.bounds) of.encoded
 
 pub key_node_of_begun : (h : Header) (es octets : List ℕ) (k : KeyNodeInPage) → BeginsAsNode h es octets → IsKeyNode k → BeginsAsNode (key_node_header k) (flat_map child_octets k.children) octets → IsKeyNodeOf h es k
 key_node_of_begun h es octets k begun valid other =
     let same = nodes_same h (key_node_header k) es (flat_map child_octets k.children) octets begun other in
-    record { kind = same.kind; level = same.level; bounds = sym same.bounds; count = same.count; valid = valid; spelled = entries_same h (key_node_header k) es (flat_map child_octets k.children) octets begun other }
+    record { kind = same.kind; level = same.level; bounds = sym same.bounds; count = same.count; valid = valid; encoded = entries_same h (key_node_header k) es (flat_map child_octets k.children) octets begun other }
 
 pub key_node_made : (h : Header) (es page : List ℕ) (k : KeyNodeInPage) → IsNodePage h es page → IsKeyNodeOf h es k → IsKeyNodePage k page
 key_node_made h es page k is of = record {
   valid = of.valid;
-  page = record { current = ap (λ (b : Bounds). b.end) of.bounds ∙ is.page.current; spelled = is.page.spelled ∙ ap (λ (t : List ℕ). t ++ replicate 32 0) (body_of h es k of) };
+  page = record { current = ap (λ (b : Bounds). b.end) of.bounds ∙ is.page.current; encoded = is.page.encoded ∙ ap (λ (t : List ℕ). t ++ replicate 32 0) (body_of h es k of) };
 }
 
 pub key_node_page : (k : KeyNodeInPage) (page : List ℕ) → IsKeyNodePage k page → IsNodePage (key_node_header k) (flat_map child_octets k.children) page
-key_node_page k page is = record { valid = key_node_node k is.valid; page = record { current = is.page.current; spelled = is.page.spelled } }
+key_node_page k page is = record { valid = key_node_node k is.valid; page = record { current = is.page.current; encoded = is.page.encoded } }
 
 pub key_node_back : (h : Header) (es page : List ℕ) (k : KeyNodeInPage) → IsNodePage h es page → IsKeyNodePage k page → IsKeyNodeOf h es k
 key_node_back h es page k is node =

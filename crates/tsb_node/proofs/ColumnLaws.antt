@@ -22,7 +22,7 @@ use Rattle.tsb_node.proofs.Leaves.{body_says, body_area}
 
 -- ---- the search
 
--- a search among entries by halves: what is before `first` is passed, what is from `end` on starts after the stamp
+-- a search among entries by binary search: what is before `first` is passed, what is from `end` on starts after the stamp
 pub record IsBetween (count : ℕ) (bytes : List ℕ) (stamp first end : ℕ) : Type 0 where
   pub some : first < end
   pub within : end ≤ count
@@ -128,16 +128,16 @@ column_says c octets is =
     let es : List ℕ = flat_map part_octets c.parts ++ current_octets c.current in
     let fits : length es ≤ 16232 = omega (arith, column-size c, is.valid.follow.fits) in
     let says = body_says 2 1 (length c.parts + 1) c.bounds es is.last (omega (arith, is.valid.follow.fits)) fits is.valid.bounds.low is.valid.bounds.start in
-    ap (number_in 2 4) is.spelled ∙ says.count_is
+    ap (number_in 2 4) is.encoded ∙ says.count_is
 
 -- what follows the parts
-behind_parts : (c : ColumnInPage) (octets : List ℕ) → BeginsAsColumn c octets → (more : List ℕ) × (area octets ≡ flat_map part_octets c.parts ++ (current_octets c.current ++ more))
-behind_parts c octets is =
+after_parts : (c : ColumnInPage) (octets : List ℕ) → BeginsAsColumn c octets → (more : List ℕ) × (area octets ≡ flat_map part_octets c.parts ++ (current_octets c.current ++ more))
+after_parts c octets is =
     let ps : List ℕ = flat_map part_octets c.parts in
     let es : List ℕ = ps ++ current_octets c.current in
     let fits : length es ≤ 16232 = omega (arith, column-size c, is.valid.follow.fits) in
     let pad : List ℕ = replicate (16232 - length es) 0 in
-    (pad, ap area is.spelled ∙ body_area 2 1 (length c.parts + 1) c.bounds es is.last fits ∙ append_assoc ps (current_octets c.current) pad)
+    (pad, ap area is.encoded ∙ body_area 2 1 (length c.parts + 1) c.bounds es is.last fits ∙ append_assoc ps (current_octets c.current) pad)
 
 start_of_part : (ps : List Part) (i : ℕ) (p : Part) (bytes rest : List ℕ) → AllByRecursion IsPartEntry ps → slice_get ps i ≡ Some p → bytes ≡ flat_map part_octets ps ++ rest → start_at i bytes ≡ p.start
 start_of_part ps i p bytes rest all at e =
@@ -146,7 +146,7 @@ start_of_part ps i p bytes rest all at e =
 
 current_here : (c : ColumnInPage) (octets : List ℕ) → BeginsAsColumn c octets → PlaceReads c.current.start 0 c.current.page (drop (25 * length c.parts) (area octets))
 current_here c octets is =
-    let b = behind_parts c octets is in
+    let b = after_parts c octets is in
     let here : drop (25 * length c.parts) (area octets) ≡ current_octets c.current ++ b.0 = ap (drop (25 * length c.parts)) b.1 ∙ drop_at (flat_map part_octets c.parts) (current_octets c.current ++ b.0) (25 * length c.parts) (parts-size c.parts) in
     subst (PlaceReads c.current.start 0 c.current.page) (sym here) (current_read c.current b.0 is.valid.current_start is.valid.current_page)
 
@@ -181,7 +181,7 @@ end_is_next : (c : ColumnInPage) (octets : List ℕ) (i : ℕ) → BeginsAsColum
 end_is_next c octets i is le = elim (cases_order i (length c.parts)) [
   | inl same ↦ (ap (λ (k : ℕ). start_at k (area octets)) same ∙ (current_here c octets is).start_is ∙ sym (ap (start_or c.current.start) (get_past c.parts i (omega (arith, same)))))
   | inr other ↦ (let g = get_within c.parts i (omega (arith, other)) in
-      let b = behind_parts c octets is in
+      let b = after_parts c octets is in
       start_of_part c.parts i g.0 (area octets) (current_octets c.current ++ b.0) is.valid.each g.1 b.1 ∙ sym (ap (start_or c.current.start) g.1))
 ]
 
@@ -194,7 +194,7 @@ part_there c octets count stamp at is counted before never =
       | inr other ↦ omega (arith, other, before.below, counted, column_says c octets is)
     ] in
     let g = get_within c.parts before.place lt in
-    let b = behind_parts c octets is in
+    let b = after_parts c octets is in
     let t = part_stands c.parts before.place g.0 (current_octets c.current ++ b.0) g.1 in
     (g.0, t.0, all_at c.parts before.place g.0 is.valid.each g.1, g.1, ap (λ (k : ℕ). drop k (area octets)) before.at_place ∙ ap (drop (25 * before.place)) b.1 ∙ t.1)
 
@@ -202,7 +202,7 @@ pub spot_block : (c : ColumnInPage) (octets : List ℕ) (count stamp at end : �
     → slice_get c.parts before.place ≡ Some p → end ≡ number_in 16 (at + 25) (area octets) → IsPartAt c.parts c.current.start stamp (record { part = p; end = end })
 spot_block c octets count stamp at end p is counted before here e =
     let lt : before.place < length c.parts = slice_get_within c.parts before.place p here in
-    let b = behind_parts c octets is in
+    let b = after_parts c octets is in
     let there : at + 25 ≡ 25 * suc before.place = omega (arith, before.at_place) in
     let next : end ≡ start_at (suc before.place) (area octets) = e ∙ ap (λ (k : ℕ). number_in 16 k (area octets)) there in
     let start : start_at before.place (area octets) ≡ p.start = start_of_part c.parts before.place p (area octets) (current_octets c.current ++ b.0) is.valid.each here b.1 in
@@ -243,13 +243,13 @@ old_column_says c octets is =
     let es : List ℕ = flat_map part_octets c.parts in
     let fits : length es ≤ 16232 = omega (arith, parts-size c.parts, is.valid.follow.fits) in
     let says = body_says 2 1 (length c.parts) c.bounds es is.last (omega (arith, is.valid.follow.fits)) fits is.valid.bounds.low is.valid.bounds.start in
-    ap (number_in 2 4) is.spelled ∙ says.count_is
+    ap (number_in 2 4) is.encoded ∙ says.count_is
 
 old_area : (c : ColumnInBlock) (octets : List ℕ) → BeginsAsOldColumn c octets → (more : List ℕ) × (area octets ≡ flat_map part_octets c.parts ++ more)
 old_area c octets is =
     let es : List ℕ = flat_map part_octets c.parts in
     let fits : length es ≤ 16232 = omega (arith, parts-size c.parts, is.valid.follow.fits) in
-    (replicate (16232 - length es) 0, ap area is.spelled ∙ body_area 2 1 (length c.parts) c.bounds es is.last fits)
+    (replicate (16232 - length es) 0, ap area is.encoded ∙ body_area 2 1 (length c.parts) c.bounds es is.last fits)
 
 some_part : (ps : List Part) (start : ℕ) → BeginsAt start (starts_of ps) → 0 < length ps
 some_part [] start b = absurd b

@@ -46,7 +46,7 @@ starts_or start at (p ∷ ps) first = first
 pub column_from : (h : Header) (es front : List ℕ) (current : Current) (ps : List Part) → IsNode h es → IsCurrentOf h es current front → AreParts h.bounds.start (Some current.start) (h.count - 1) front ps
     → IsColumnOf h es (record { bounds = h.bounds; parts = ps; current = current })
 column_from h es front current ps node is are =
-    let size : length front ≡ 25 * length ps = ap length are.spelled ∙ parts-size ps in
+    let size : length front ≡ 25 * length ps = ap length are.encoded ∙ parts-size ps in
     let more : h.count ≡ length ps + 1 = omega (arith, are.counted, is.some) in
     record {
       kind = is.kind;
@@ -62,10 +62,10 @@ column_from h es front current ps node is are =
           from_first = is.from_first;
           first = begins_or h.bounds.start current.start ps are.from_first (λ none. is.alone (omega (arith, size, none)));
           rising = ascending_push (starts_of ps) current.start are.rising (starts_before current.start ps are.each);
-          fits = omega (arith, node.fits, ap length is.spelled, length-append front (current_octets current), current-size current, size);
+          fits = omega (arith, node.fits, ap length is.encoded, length-append front (current_octets current), current-size current, size);
         };
       };
-      spelled = is.spelled ∙ ap (λ (t : List ℕ). t ++ current_octets current) are.spelled;
+      encoded = is.encoded ∙ ap (λ (t : List ℕ). t ++ current_octets current) are.encoded;
     }
 
 pub column_current : (h : Header) (es : List ℕ) (c : ColumnInPage) → IsColumnOf h es c → IsCurrentOf h es c.current (flat_map part_octets c.parts)
@@ -77,7 +77,7 @@ column_current h es c of =
       from_first = sym start ∙ of.valid.follow.from_first;
       some = omega (arith, of.count);
       entry = record { start = of.valid.current_start; page = of.valid.current_page };
-      spelled = of.spelled;
+      encoded = of.encoded;
       alone = λ none. no_parts c.parts c.bounds.start c.current.start of.valid.follow.first (omega (arith, none, parts-size c.parts)) ∙ start;
     }
 
@@ -90,13 +90,13 @@ column_parts h es c of =
       from_first = subst (λ (n : ℕ). StartsAt n (starts_of c.parts)) start (starts_or c.bounds.start c.current.start c.parts of.valid.follow.first);
       rising = up.0;
       counted = omega (arith, of.count);
-      spelled = refl;
+      encoded = refl;
     }
 
 pub current_same : (h : Header) (es front other : List ℕ) (c d : Current) → IsCurrentOf h es c front → IsCurrentOf h es d other → (other ≡ front) × (d ≡ c)
 current_same h es front other c d a b =
-    let p = current_back es c front a.spelled in
-    let q = current_back es d other b.spelled in
+    let p = current_back es c front a.encoded in
+    let q = current_back es d other b.encoded in
     (sym q.0 ∙ p.0, current_one d c b.entry a.entry (sym q.1 ∙ p.1))
 
 -- the parts that are read before a current leaf are those of each column
@@ -121,21 +121,21 @@ column_node c valid = record { bounds = valid.bounds; count = omega (arith, vali
 body_of : (h : Header) (es : List ℕ) (c : ColumnInPage) → IsColumnOf h es c → node_body h es ≡ node_body (column_header c) (column_entries c)
 body_of h es c of =
     ap (λ (k : ℕ). body k h.level h.count h.bounds es) of.kind ∙ ap (λ (l : ℕ). body 2 l h.count h.bounds es) of.level ∙ ap (λ (n : ℕ). body 2 1 n h.bounds es) of.count
-    ∙ ap (λ (b : Bounds). body 2 1 (length c.parts + 1) b es) (sym of.bounds) ∙ ap (body 2 1 (length c.parts + 1) c.bounds) of.spelled
+    ∙ ap (λ (b : Bounds). body 2 1 (length c.parts + 1) b es) (sym of.bounds) ∙ ap (body 2 1 (length c.parts + 1) c.bounds) of.encoded
 
 pub column_of_begun : (h : Header) (es octets : List ℕ) (c : ColumnInPage) → BeginsAsNode h es octets → IsColumn c → BeginsAsNode (column_header c) (column_entries c) octets → IsColumnOf h es c
 column_of_begun h es octets c begun valid other =
     let same = nodes_same h (column_header c) es (column_entries c) octets begun other in
-    record { kind = same.kind; level = same.level; bounds = sym same.bounds; count = same.count; valid = valid; spelled = entries_same h (column_header c) es (column_entries c) octets begun other }
+    record { kind = same.kind; level = same.level; bounds = sym same.bounds; count = same.count; valid = valid; encoded = entries_same h (column_header c) es (column_entries c) octets begun other }
 
 pub column_made : (h : Header) (es page : List ℕ) (c : ColumnInPage) → IsNodePage h es page → IsColumnOf h es c → IsColumnPage c page
 column_made h es page c is of = record {
   valid = of.valid;
-  page = record { current = ap (λ (b : Bounds). b.end) of.bounds ∙ is.page.current; spelled = is.page.spelled ∙ ap (λ (t : List ℕ). t ++ replicate 32 0) (body_of h es c of) };
+  page = record { current = ap (λ (b : Bounds). b.end) of.bounds ∙ is.page.current; encoded = is.page.encoded ∙ ap (λ (t : List ℕ). t ++ replicate 32 0) (body_of h es c of) };
 }
 
 pub column_page_node : (c : ColumnInPage) (page : List ℕ) → IsColumnPage c page → IsNodePage (column_header c) (column_entries c) page
-column_page_node c page is = record { valid = column_node c is.valid; page = record { current = is.page.current; spelled = is.page.spelled } }
+column_page_node c page is = record { valid = column_node c is.valid; page = record { current = is.page.current; encoded = is.page.encoded } }
 
 pub column_back : (h : Header) (es page : List ℕ) (c : ColumnInPage) → IsNodePage h es page → IsColumnPage c page → IsColumnOf h es c
 column_back h es page c is column =
@@ -157,10 +157,10 @@ old_column_from h es ps node kind level some are = record {
       first = begun ps are.from_first are.counted;
       rising = are.rising;
       before_end = ends h.bounds.end ps are.each;
-      fits = omega (arith, node.fits, ap length are.spelled, parts-size ps);
+      fits = omega (arith, node.fits, ap length are.encoded, parts-size ps);
     };
   };
-  spelled = are.spelled;
+  encoded = are.encoded;
 }
   where
     begun : (qs : List Part) → StartsAt h.bounds.start (starts_of qs) → length qs ≡ h.count → BeginsAt h.bounds.start (starts_of qs)
@@ -182,7 +182,7 @@ old_column_parts h es c of =
       from_first = begun c.parts of.valid.follow.first;
       rising = of.valid.follow.rising;
       counted = sym of.count;
-      spelled = of.spelled;
+      encoded = of.encoded;
     } in
     subst (λ (b : Bounds). AreParts b.start b.end h.count es c.parts) of.bounds along
   where
@@ -211,18 +211,18 @@ old_node c valid = record { bounds = valid.bounds; count = omega (arith, valid.f
 old_body_of : (h : Header) (es : List ℕ) (c : ColumnInBlock) → IsOldColumnOf h es c → node_body h es ≡ node_body (old_header c) (flat_map part_octets c.parts)
 old_body_of h es c of =
     ap (λ (k : ℕ). body k h.level h.count h.bounds es) of.kind ∙ ap (λ (l : ℕ). body 2 l h.count h.bounds es) of.level ∙ ap (λ (n : ℕ). body 2 1 n h.bounds es) of.count
-    ∙ ap (λ (b : Bounds). body 2 1 (length c.parts) b es) (sym of.bounds) ∙ ap (body 2 1 (length c.parts) c.bounds) of.spelled
+    ∙ ap (λ (b : Bounds). body 2 1 (length c.parts) b es) (sym of.bounds) ∙ ap (body 2 1 (length c.parts) c.bounds) of.encoded
 
 pub old_of_begun : (h : Header) (es octets : List ℕ) (c : ColumnInBlock) → BeginsAsNode h es octets → IsOldColumn c → BeginsAsNode (old_header c) (flat_map part_octets c.parts) octets → IsOldColumnOf h es c
 old_of_begun h es octets c begun valid other =
     let same = nodes_same h (old_header c) es (flat_map part_octets c.parts) octets begun other in
-    record { kind = same.kind; level = same.level; bounds = sym same.bounds; count = same.count; valid = valid; spelled = entries_same h (old_header c) es (flat_map part_octets c.parts) octets begun other }
+    record { kind = same.kind; level = same.level; bounds = sym same.bounds; count = same.count; valid = valid; encoded = entries_same h (old_header c) es (flat_map part_octets c.parts) octets begun other }
 
 pub old_begins_of : (h : Header) (es octets : List ℕ) (c : ColumnInBlock) → BeginsAsNode h es octets → IsOldColumnOf h es c → BeginsAsOldColumn c octets
-old_begins_of h es octets c is of = record { valid = of.valid; last = is.last; spelled = is.spelled ∙ ap (λ (t : List ℕ). t ++ is.last) (old_body_of h es c of) }
+old_begins_of h es octets c is of = record { valid = of.valid; last = is.last; encoded = is.encoded ∙ ap (λ (t : List ℕ). t ++ is.last) (old_body_of h es c of) }
 
 pub of_old_begins : (h : Header) (es octets : List ℕ) (c : ColumnInBlock) → BeginsAsNode h es octets → BeginsAsOldColumn c octets → IsOldColumnOf h es c
-of_old_begins h es octets c is column = old_of_begun h es octets c is column.valid (record { valid = old_node c column.valid; last = column.last; spelled = column.spelled })
+of_old_begins h es octets c is column = old_of_begun h es octets c is column.valid (record { valid = old_node c column.valid; last = column.last; encoded = column.encoded })
 
 -- another predicate for a column that is found, and for none
 pub some_column : (o : Option Bounds) (P Q : ColumnInBlock → Type 0) → ((c : ColumnInBlock) → P c → Q c) → IfSome o (λ b. (c : ColumnInBlock) × P c × (c.bounds ≡ b)) → IfSome o (λ b. (c : ColumnInBlock) × Q c × (c.bounds ≡ b))
@@ -240,12 +240,12 @@ old_made h es block c is of =
       valid = of.valid;
       block = record {
         ended = subst (λ (b : Bounds). IsSome b.end) (sym of.bounds) is.block.ended;
-        spelled = is.block.spelled ∙ ap (λ (t : List ℕ). t ++ sha256 t) same;
+        encoded = is.block.encoded ∙ ap (λ (t : List ℕ). t ++ sha256 t) same;
       };
     }
 
 pub old_block_node : (c : ColumnInBlock) (block : List ℕ) → IsColumnBlock c block → IsNodeBlock (old_header c) (flat_map part_octets c.parts) block
-old_block_node c block is = record { valid = old_node c is.valid; block = record { ended = is.block.ended; spelled = is.block.spelled } }
+old_block_node c block is = record { valid = old_node c is.valid; block = record { ended = is.block.ended; encoded = is.block.encoded } }
 
 pub old_back : (h : Header) (es block : List ℕ) (c : ColumnInBlock) → IsNodeBlock h es block → IsColumnBlock c block → IsOldColumnOf h es c
 old_back h es block c is column =

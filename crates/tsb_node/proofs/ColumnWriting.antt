@@ -76,7 +76,7 @@ column_written c count used sheet valid current counted sized f =
     let h : header 2 seconds 1 count used c.bounds ≡ header 2 seconds 1 (length c.parts + 1) (length es) c.bounds =
     ap (λ (n : ℕ). header 2 seconds 1 n used c.bounds) counted ∙ ap (λ (n : ℕ). header 2 seconds 1 (length c.parts + 1) n c.bounds) (sized ∙ sym size) in
     let whole = subst (λ (t : List ℕ). IsFilling t es (laid (120 + 25 * length c.parts) (current_octets c.current) sheet)) h g in
-    record { valid = valid; page = record { current = current; spelled = filled 2 1 (length c.parts + 1) c.bounds es _ whole (omega (arith, size, valid.follow.fits)) } }
+    record { valid = valid; page = record { current = current; encoded = filled 2 1 (length c.parts + 1) c.bounds es _ whole (omega (arith, size, valid.follow.fits)) } }
 
 -- the column of a block
 pub old_column_written : (c : ColumnInBlock) (count used : ℕ) (sheet : List ℕ) → IsOldColumn c → IsSome c.bounds.end → count ≡ length c.parts → used ≡ 25 * length c.parts
@@ -90,4 +90,4 @@ old_column_written c count used sheet valid ended counted sized f =
     let whole : sheet ≡ body 2 1 (length c.parts) c.bounds es ++ replicate 32 0 = filled 2 1 (length c.parts) c.bounds es sheet (subst (λ (t : List ℕ). IsFilling t es sheet) h f) fits in
     let node : List ℕ = body 2 1 (length c.parts) c.bounds es in
     let long : length node ≡ 16352 = body-size 2 1 (length c.parts) c.bounds es fits in
-    record { valid = valid; block = record { ended = ended; spelled = sealed_is node sheet long whole } }
+    record { valid = valid; block = record { ended = ended; encoded = sealed_is node sheet long whole } }

@@ -7,17 +7,17 @@ use Rattle.tsb_node.specs.Numbers.{octets_of}
 use Rattle.tsb_node.specs.inner.Fields.{number_in}
 use Rattle.version_model.specs.Versions.{Version}
 use Rattle.version_model.specs.declared.bounds.Bounds.{Bounds}
-use Rattle.tsb_node.specs.Leaves.{tag, value_spelled, entry, entries, IsVersionOf}
-use Rattle.tsb_node.specs.inner.Reading.{value_size, value_in, version_in, behind_version, versions_in, after}
+use Rattle.tsb_node.specs.Leaves.{tag, value_encoded, entry, entries, IsVersionOf}
+use Rattle.tsb_node.specs.inner.Reading.{value_size, value_in, version_in, after_version, versions_in, after}
 use Rattle.tsb_node.proofs.NumberLaws.{octets_of-size, octets_of-number, field_in}
 
-pub entry-size : (v : Version) → length (entry v) ≡ 59 + length (value_spelled v.value)
+pub entry-size : (v : Version) → length (entry v) ≡ 59 + length (value_encoded v.value)
 unfolding entry
 entry-size v =
     let k = octets_of-size 40 v.key in
     let s = octets_of-size 16 v.stamp in
-    let n = octets_of-size 2 (length (value_spelled v.value)) in
-    let o : List ℕ = value_spelled v.value in
+    let n = octets_of-size 2 (length (value_encoded v.value)) in
+    let o : List ℕ = value_encoded v.value in
     let p1 : List ℕ = octets_of 40 v.key ++ octets_of 16 v.stamp in
     let p2 : List ℕ = p1 ++ (tag v.value ∷ []) in
     let p3 : List ℕ = p2 ++ octets_of 2 (length o) in
@@ -26,21 +26,21 @@ entry-size v =
     let e3 : length p3 ≡ 59 = omega (arith, e2, n, length-append p2 (octets_of 2 (length o))) in
     omega (arith, e3, length-append p3 o)
 
-tagged_value : (o : Option (List ℕ)) (n : ℕ) (bytes : List ℕ) → slice_index bytes 56 ≡ tag o → take (value_size bytes) (drop 59 bytes) ≡ value_spelled o → value_in bytes ≡ o
+tagged_value : (o : Option (List ℕ)) (n : ℕ) (bytes : List ℕ) → slice_index bytes 56 ≡ tag o → take (value_size bytes) (drop 59 bytes) ≡ value_encoded o → value_in bytes ≡ o
 tagged_value None n bytes t e = rw t refl
 tagged_value (Some value) n bytes t e = rw (t, e) refl
 
 -- the version at the front is read
 pub record Reads (v : Version) (rest bytes : List ℕ) : Type 0 where
   pub is : version_in bytes ≡ v
-  pub size : value_size bytes ≡ length (value_spelled v.value)
-  pub behind : behind_version bytes ≡ rest
+  pub size : value_size bytes ≡ length (value_encoded v.value)
+  pub beyond : after_version bytes ≡ rest
   pub tagged : slice_index bytes 56 ≡ tag v.value
 
 pub entry_read : (b : Bounds) (v : Version) (rest : List ℕ) → IsVersionOf b v → Reads v rest (entry v ++ rest)
 unfolding entry version_in
 entry_read b v rest is =
-    let o : List ℕ = value_spelled v.value in
+    let o : List ℕ = value_encoded v.value in
     let k : List ℕ = octets_of 40 v.key in
     let s : List ℕ = octets_of 16 v.stamp in
     let t : List ℕ = tag v.value ∷ [] in
@@ -67,7 +67,7 @@ entry_read b v rest is =
     record {
       is = λ i. record { key = key i; stamp = stamp i; value = is_value i };
       size = len;
-      behind = drop_at ((((k ++ s) ++ t) ++ n) ++ o) rest (59 + value_size bytes) size5;
+      beyond = drop_at ((((k ++ s) ++ t) ++ n) ++ o) rest (59 + value_size bytes) size5;
       tagged = tags;
     }
 
@@ -79,30 +79,30 @@ entries_read b (v ∷ vs) rest all =
     let e : entries (v ∷ vs) ++ rest ≡ entry v ++ (entries vs ++ rest) = append_assoc (entry v) (entries vs) rest in
     let r = entry_read b v (entries vs ++ rest) all.0 in
     let tail = entries_read b vs rest all.1 in
-    rw (e, r.is, r.behind, tail) refl
+    rw (e, r.is, r.beyond, tail) refl
 
-pub after-next : (n : ℕ) (bytes : List ℕ) → after (suc n) bytes ≡ behind_version (after n bytes)
+pub after-next : (n : ℕ) (bytes : List ℕ) → after (suc n) bytes ≡ after_version (after n bytes)
 unfolding after
 after-next zero bytes = refl
-after-next (suc n) bytes = after-next n (behind_version bytes)
+after-next (suc n) bytes = after-next n (after_version bytes)
 
 pub version_at : (count i : ℕ) (bytes : List ℕ) → i < count → slice_get (versions_in count bytes) i ≡ Some (version_in (after i bytes))
 unfolding after versions_in
 version_at zero i bytes lt = absurd (omega arith)
 version_at (suc n) zero bytes lt = refl
-version_at (suc n) (suc i) bytes lt = version_at n i (behind_version bytes) (omega arith)
+version_at (suc n) (suc i) bytes lt = version_at n i (after_version bytes) (omega arith)
 
 pub versions_in-size : (count : ℕ) (bytes : List ℕ) → length (versions_in count bytes) ≡ count
 unfolding versions_in
 versions_in-size zero bytes = refl
-versions_in-size (suc n) bytes = ap suc (versions_in-size n (behind_version bytes))
+versions_in-size (suc n) bytes = ap suc (versions_in-size n (after_version bytes))
 
 -- after the first n encoded versions the others follow
-pub after_spelled : (b : Bounds) (n : ℕ) (vs : List Version) (rest : List ℕ) → AllByRecursion (IsVersionOf b) vs → n ≤ length vs → after n (entries vs ++ rest) ≡ entries (drop n vs) ++ rest
+pub after_encoded : (b : Bounds) (n : ℕ) (vs : List Version) (rest : List ℕ) → AllByRecursion (IsVersionOf b) vs → n ≤ length vs → after n (entries vs ++ rest) ≡ entries (drop n vs) ++ rest
 unfolding after entries
-after_spelled b zero vs rest all le = refl
-after_spelled b (suc n) [] rest all le = absurd (omega arith)
-after_spelled b (suc n) (v ∷ vs) rest all le =
+after_encoded b zero vs rest all le = refl
+after_encoded b (suc n) [] rest all le = absurd (omega arith)
+after_encoded b (suc n) (v ∷ vs) rest all le =
     let e : entries (v ∷ vs) ++ rest ≡ entry v ++ (entries vs ++ rest) = append_assoc (entry v) (entries vs) rest in
     let r = entry_read b v (entries vs ++ rest) all.0 in
-    ap (after (suc n)) e ∙ ap (after n) r.behind ∙ after_spelled b n vs rest all.1 (omega arith)
+    ap (after (suc n)) e ∙ ap (after n) r.beyond ∙ after_encoded b n vs rest all.1 (omega arith)

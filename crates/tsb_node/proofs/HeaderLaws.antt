@@ -99,11 +99,11 @@ four (a ∷ b ∷ c ∷ d ∷ xs) le = refl
 abbrev pub bounds_in : List ℕ → Option ℕ → Option ℕ → Bounds
 bounds_in octets high end = record { low = number_in 40 8 octets; high = high; start = number_in 16 88 octets; end = end }
 
-pub header_spelled : (octets : List ℕ) (high end : Option ℕ) → AreOctets octets → 120 ≤ length octets → slice_index octets 1 ≡ 0 → slice_index octets 3 ≡ 0
+pub header_encoded : (octets : List ℕ) (high end : Option ℕ) → AreOctets octets → 120 ≤ length octets → slice_index octets 1 ≡ 0 → slice_index octets 3 ≡ 0
     → bound_octets 40 high ≡ take 40 (drop 48 octets) → bound_octets 16 end ≡ take 16 (drop 104 octets)
     → take 120 octets ≡ header (slice_index octets 0) seconds (slice_index octets 2) (number_in 2 4 octets) (number_in 2 6 octets) (bounds_in octets high end)
 unfolding header
-header_spelled octets high end are le unit_zero zero_zero high_is end_is =
+header_encoded octets high end are le unit_zero zero_zero high_is end_is =
     let e0 : take 4 octets ≡ slice_index octets 0 ∷ 0 ∷ slice_index octets 2 ∷ 0 ∷ [] =
     four octets (omega arith) ∙ ap (λ (n : ℕ). slice_index octets 0 ∷ n ∷ slice_index octets 2 ∷ slice_index octets 3 ∷ []) unit_zero
     ∙ ap (λ (n : ℕ). slice_index octets 0 ∷ 0 ∷ slice_index octets 2 ∷ n ∷ []) zero_zero in
@@ -116,7 +116,7 @@ header_spelled octets high end are le unit_zero zero_zero high_is end_is =
 -- an encoded header reads as its fields
 pub has_says : (h : Header) (octets : List ℕ) → HasHeader h octets → HeaderSays h.kind 0 h.level h.count h.used h.bounds octets
 has_says h octets has =
-    subst (HeaderSays h.kind 0 h.level h.count h.used h.bounds) (ap (λ (t : List ℕ). t ++ drop 120 octets) (sym has.spelled) ∙ take-append-drop 120 octets)
+    subst (HeaderSays h.kind 0 h.level h.count h.used h.bounds) (ap (λ (t : List ℕ). t ++ drop 120 octets) (sym has.encoded) ∙ take-append-drop 120 octets)
     (header_says h.kind 0 h.level h.count h.used h.bounds (drop 120 octets) has.count has.used has.bounds.low has.bounds.start)
 
 pub both_some : (P Q : ℕ → Type 0) (o : Option ℕ) → IfSome o P → IfSome o Q → IfSome o (λ n. P n × Q n)
@@ -144,7 +144,7 @@ has_header octets kind level count used low start high end are le u z k l c s lo
   };
   count = rw c (number_in-lt 2 4 octets are (omega arith));
   used = rw s (number_in-lt 2 6 octets are (omega arith));
-  spelled = rw (k, l, c, s, lo, st) (header_spelled octets high end are le u z hi en);
+  encoded = rw (k, l, c, s, lo, st) (header_encoded octets high end are le u z hi en);
 }
 
 -- the bounds that are read are those of the header

@@ -8,7 +8,7 @@ use Rattle.route_model.specs.Keys.{number_of}
 use Rattle.tsb_node.specs.Leaves.{LeafNode, BeginsAsLeaf}
 use Rattle.tsb_node.specs.Holding.{IsSomeEntry, BeginsWithEntries, HoldsItsEntries}
 use Rattle.tsb_node.specs.inner.Fields.{number_in}
-use Rattle.tsb_node.specs.inner.Reading.{value_size, after, area, behind_version}
+use Rattle.tsb_node.specs.inner.Reading.{value_size, after, area, after_version}
 use Rattle.tsb_node.specs.inner.Scanning.{IsWholeVersion}
 use Rattle.tsb_node.proofs.Scanning.{leaf_whole}
 
@@ -37,31 +37,31 @@ whole_pieces (one ∷ more) rest zero all lt =
 whole_pieces (one ∷ more) rest (suc k) all lt =
     let e : joined (one ∷ more) ++ rest ≡ one ++ (joined more ++ rest) = append_assoc one (joined more) rest in
     let size = size_in_front one (joined more ++ rest) (omega (arith, all.0)) in
-    let behind : behind_version (one ++ (joined more ++ rest)) ≡ joined more ++ rest = drop_at one (joined more ++ rest) (59 + value_size (one ++ (joined more ++ rest))) (omega (arith, size, all.0)) in
-    let same : after (suc k) (joined (one ∷ more) ++ rest) ≡ after k (joined more ++ rest) = ap (after (suc k)) e ∙ ap (after k) behind in
+    let beyond : after_version (one ++ (joined more ++ rest)) ≡ joined more ++ rest = drop_at one (joined more ++ rest) (59 + value_size (one ++ (joined more ++ rest))) (omega (arith, size, all.0)) in
+    let same : after (suc k) (joined (one ∷ more) ++ rest) ≡ after k (joined more ++ rest) = ap (after (suc k)) e ∙ ap (after k) beyond in
     subst IsWholeVersion (sym same) (whole_pieces more rest k all.1 (omega arith))
 
 pub whole_of : (n : ℕ) (bytes : List ℕ) → BeginsWithEntries n bytes → AreWhole n bytes
 whole_of n bytes is = record {
-  whole = λ k lt. subst (λ (t : List ℕ). IsWholeVersion (after k t)) (sym is.spelled) (whole_pieces is.some is.rest k is.each (omega (arith, is.counted)));
+  whole = λ k lt. subst (λ (t : List ℕ). IsWholeVersion (after k t)) (sym is.encoded) (whole_pieces is.some is.rest k is.each (omega (arith, is.counted)));
 }
 
 pub begins_of : (n : ℕ) (bytes : List ℕ) → AreWhole n bytes → BeginsWithEntries n bytes
 unfolding after
-begins_of zero bytes are = record { some = []; counted = refl; each = tt; rest = bytes; spelled = refl }
+begins_of zero bytes are = record { some = []; counted = refl; each = tt; rest = bytes; encoded = refl }
 begins_of (suc n) bytes are =
     let here : IsWholeVersion bytes = are.whole 0 (omega arith) in
-    let tail = begins_of n (behind_version bytes) (record { whole = λ k lt. are.whole (suc k) (omega arith) }) in
+    let tail = begins_of n (after_version bytes) (record { whole = λ k lt. are.whole (suc k) (omega arith) }) in
     let one : List ℕ = take (59 + value_size bytes) bytes in
     let long : length one ≡ 59 + value_size bytes = omega (arith, length-take (59 + value_size bytes) bytes, here) in
-    let cut : one ++ behind_version bytes ≡ bytes = take-append-drop (59 + value_size bytes) bytes in
-    let size : value_size bytes ≡ value_size one = ap value_size (sym cut) ∙ size_in_front one (behind_version bytes) (omega (arith, long)) in
+    let cut : one ++ after_version bytes ≡ bytes = take-append-drop (59 + value_size bytes) bytes in
+    let size : value_size bytes ≡ value_size one = ap value_size (sym cut) ∙ size_in_front one (after_version bytes) (omega (arith, long)) in
     record {
       some = one ∷ tail.some;
       counted = ap suc tail.counted;
       each = (long ∙ ap (λ (k : ℕ). 59 + k) size, tail.each);
       rest = tail.rest;
-      spelled = sym cut ∙ ap (λ (t : List ℕ). one ++ t) tail.spelled ∙ sym (append_assoc one (joined tail.some) tail.rest);
+      encoded = sym cut ∙ ap (λ (t : List ℕ). one ++ t) tail.encoded ∙ sym (append_assoc one (joined tail.some) tail.rest);
     }
 
 pub whole_more : (n : ℕ) (rest bytes : List ℕ) → rest ≡ after n bytes → IsWholeVersion rest → AreWhole n bytes → AreWhole (n + 1) bytes

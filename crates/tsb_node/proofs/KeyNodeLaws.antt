@@ -38,10 +38,10 @@ unfolding children_in
 children_read b [] rest all = refl
 children_read b (c ∷ cs) rest all =
     let e : flat_map child_octets (c ∷ cs) ++ rest ≡ child_octets c ++ (flat_map child_octets cs ++ rest) = append_assoc (child_octets c) (flat_map child_octets cs) rest in
-    let behind : drop 48 (child_octets c ++ (flat_map child_octets cs ++ rest)) ≡ flat_map child_octets cs ++ rest = drop_at (child_octets c) (flat_map child_octets cs ++ rest) 48 (child-size c) in
+    let beyond : drop 48 (child_octets c ++ (flat_map child_octets cs ++ rest)) ≡ flat_map child_octets cs ++ rest = drop_at (child_octets c) (flat_map child_octets cs ++ rest) 48 (child-size c) in
     let head = child_read b c (flat_map child_octets cs ++ rest) all.0 in
     let tail = children_read b cs rest all.1 in
-    rw (e, head, behind, tail) refl
+    rw (e, head, beyond, tail) refl
 
 pub child_at : (count i : ℕ) (bytes : List ℕ) → i < count → slice_get (children_in count bytes) i ≡ Some (child_in (drop (48 * i) bytes))
 unfolding children_in
@@ -67,13 +67,13 @@ few node valid = omega (arith, children-count node.children, valid.fits)
 
 pub key_node_says : (node : KeyNodeInPage) (octets : List ℕ) → BeginsAsKeyNode node octets → HeaderSays 3 0 node.level (length node.children) (length (flat_map child_octets node.children)) node.bounds octets
 key_node_says node octets is =
-    subst (HeaderSays 3 0 node.level (length node.children) (length (flat_map child_octets node.children)) node.bounds) (sym is.spelled)
+    subst (HeaderSays 3 0 node.level (length node.children) (length (flat_map child_octets node.children)) node.bounds) (sym is.encoded)
     (body_says 3 node.level (length node.children) node.bounds (flat_map child_octets node.children) is.last (omega (arith, is.valid.fits)) (few node is.valid) is.valid.bounds.low is.valid.bounds.start)
 
 pub children_are : (node : KeyNodeInPage) (octets : List ℕ) (count : ℕ) → BeginsAsKeyNode node octets → count ≡ number_in 2 4 octets → children_in count (area octets) ≡ node.children
 children_are node octets count is e =
     let says = key_node_says node octets is in
-    let here = ap area is.spelled ∙ body_area 3 node.level (length node.children) node.bounds (flat_map child_octets node.children) is.last (few node is.valid) in
+    let here = ap area is.encoded ∙ body_area 3 node.level (length node.children) node.bounds (flat_map child_octets node.children) is.last (few node is.valid) in
     ap (λ (n : ℕ). children_in n (area octets)) (e ∙ says.count_is) ∙ ap (children_in (length node.children)) here ∙ children_read node.bounds node.children (replicate (16232 - length (flat_map child_octets node.children)) 0) is.valid.each
 
 -- a key node has a child, and at most 338
@@ -86,7 +86,7 @@ some_child node octets count is e =
     first [] low b = absurd b
     first (c ∷ cs) low b = omega arith
 
--- a search among children by halves: what is before `first` is passed, what is from `end` on lies above the key
+-- a search among children by binary search: what is before `first` is passed, what is from `end` on lies above the key
 pub record IsBetween (count key : ℕ) (bytes : List ℕ) (first end : ℕ) : Type 0 where
   pub some : first < end
   pub within : end ≤ count
@@ -126,15 +126,15 @@ module _ (node : KeyNodeInPage) (octets : List ℕ) (count key place low page : 
       ] in
       let to : 48 * place + 48 ≡ 48 * suc place = omega arith in
       let n' : next ≡ number_in 40 (48 * suc place) (area octets) = n ∙ ap (λ (k : ℕ). number_in 40 k (area octets)) to in
-      let behind : slice_get node.children (suc place) ≡ Some (child_in (drop (48 * suc place) (area octets))) = ap (λ (t : List Child). slice_get t (suc place)) (sym same) ∙ child_at count (suc place) (area octets) lt in
-      record { place = place; at = here; to_high = ap Some n' ∙ sym (ap (high_of node.bounds.high) behind); low = low_le; high = omega (arith, n', before.next lt) }
+      let beyond : slice_get node.children (suc place) ≡ Some (child_in (drop (48 * suc place) (area octets))) = ap (λ (t : List Child). slice_get t (suc place)) (sym same) ∙ child_at count (suc place) (area octets) lt in
+      record { place = place; at = here; to_high = ap Some n' ∙ sym (ap (high_of node.bounds.high) beyond); low = low_le; high = omega (arith, n', before.next lt) }
 
   pub under_last : (high : Option ℕ) → place + 1 ≡ count → bound_octets 40 high ≡ take 40 (drop 48 octets) → IfSome high (λ n. n + 1 < 256 ^ 40) → IsUnder node key (record { low = low; high = high; page = page })
-  under_last high done spelled apart =
+  under_last high done encoded apart =
       let to : suc place ≡ count = omega (arith, done) in
       let past : slice_get node.children (suc place) ≡ None = ap (slice_get node.children) to ∙ ap (λ (t : List Child). slice_get t count) (sym same) ∙ child_past count (area octets) in
       let top : high ≡ node.bounds.high =
-      bound_one 40 high node.bounds.high apart (first_some (λ n. n + 1 < 256 ^ 40) (λ n. node.bounds.low < n) node.bounds.high is.valid.bounds.order.high) (spelled ∙ (key_node_says node octets is).high_is) in
+      bound_one 40 high node.bounds.high apart (first_some (λ n. n + 1 < 256 ^ 40) (λ n. node.bounds.low < n) node.bounds.high is.valid.bounds.order.high) (encoded ∙ (key_node_says node octets is).high_is) in
       record {
         place = place;
         at = here;

@@ -7,7 +7,7 @@ use Rattle.tsb_node.specs.Numbers.{octets_of, bound_octets}
 use Rattle.version_model.specs.Versions.{Version, IsAbove}
 use Rattle.tsb_node.specs.Nodes.{header, body, seconds, IsBounds}
 use Rattle.version_model.specs.declared.bounds.Bounds.{Bounds}
-use Rattle.tsb_node.specs.Leaves.{LeafNode, IsLeaf, IsLeafPage, entry, entries, tag, value_spelled, IsVersionOf}
+use Rattle.tsb_node.specs.Leaves.{LeafNode, IsLeaf, IsLeafPage, entry, entries, tag, value_encoded, IsVersionOf}
 use Rattle.tsb_node.specs.inner.Laying.{laid}
 use Rattle.tsb_node.specs.Pushing.{with_version, version}
 use Rattle.tsb_node.specs.Children.{IsKeyWithin}
@@ -27,8 +27,8 @@ unfolding laid
 put_field at front field rest new here len =
     let all : List ℕ = front ++ (field ++ rest) in
     let before : take at all ≡ front = take_at front (field ++ rest) at here in
-    let behind : drop (at + length new) all ≡ rest = sym (drop_twice at (length new) all) ∙ ap (drop (length new)) (drop_at front (field ++ rest) at here) ∙ drop_at field rest (length new) len in
-    rw (before, behind) (append_assoc front new rest)
+    let beyond : drop (at + length new) all ≡ rest = sym (drop_twice at (length new) all) ∙ ap (drop (length new)) (drop_at front (field ++ rest) at here) ∙ drop_at field rest (length new) len in
+    rw (before, beyond) (append_assoc front new rest)
 
 -- two fields that are laid one after the other are one
 pub put_two : (at : ℕ) (a b old : List ℕ) → at + length a ≤ length old → laid (at + length a) b (laid at a old) ≡ laid at (a ++ b) old
@@ -39,10 +39,10 @@ put_two at a b old le =
     let size : length front ≡ at + length a = omega (arith, length-append (take at old) a, length-take at old) in
     let before : take (at + length a) (front ++ rest) ≡ front = take_at front rest (at + length a) size in
     let sum : at + length a + length b ≡ at + length (a ++ b) = omega (arith, length-append a b) in
-    let behind : drop (at + length a + length b) (front ++ rest) ≡ drop (at + length (a ++ b)) old =
+    let beyond : drop (at + length a + length b) (front ++ rest) ≡ drop (at + length (a ++ b)) old =
     sym (drop_twice (at + length a) (length b) (front ++ rest)) ∙ ap (drop (length b)) (drop_at front rest (at + length a) size) ∙ drop_twice (at + length a) (length b) old
     ∙ ap (λ (n : ℕ). drop n old) sum in
-    rw (before, behind) (ap (λ (t : List ℕ). t ++ drop (at + length (a ++ b)) old) (append_assoc (take at old) a b))
+    rw (before, beyond) (ap (λ (t : List ℕ). t ++ drop (at + length (a ++ b)) old) (append_assoc (take at old) a b))
 
 pub laid-size : (at : ℕ) (a old : List ℕ) → at + length a ≤ length old → length (laid at a old) ≡ length old
 unfolding laid
@@ -145,12 +145,12 @@ pub page_pushed : (leaf : LeafNode) (v : Version) (octets : List ℕ) (count use
 page_pushed leaf v octets count used page is above counted sized fits =
     let es : List ℕ = entries leaf.versions in
     let more : count + 1 ≡ length (leaf.versions ++ v ∷ []) = omega (arith, counted, length-push leaf.versions v) in
-    let whole : octets ≡ body 1 0 count leaf.bounds es ++ replicate 32 0 = page.page.spelled ∙ ap (λ (n : ℕ). body 1 0 n leaf.bounds es ++ replicate 32 0) (sym counted) in
+    let whole : octets ≡ body 1 0 count leaf.bounds es ++ replicate 32 0 = page.page.encoded ∙ ap (λ (n : ℕ). body 1 0 n leaf.bounds es ++ replicate 32 0) (sym counted) in
     record {
       valid = leaf_pushed leaf v page.valid is above (omega arith);
       page = record {
         current = page.page.current;
-        spelled = ap (λ (t : List ℕ). laid 6 (octets_of 2 (used + length (entry v))) (laid 4 (octets_of 2 (count + 1)) (laid (120 + used) (entry v) t))) whole
+        encoded = ap (λ (t : List ℕ). laid 6 (octets_of 2 (used + length (entry v))) (laid 4 (octets_of 2 (count + 1)) (laid (120 + used) (entry v) t))) whole
             ∙ body_pushed 1 0 count used leaf.bounds es (entry v) (replicate 32 0) sized (omega arith)
             ∙ ap (λ (n : ℕ). body 1 0 n leaf.bounds (es ++ entry v) ++ replicate 32 0) more
             ∙ ap (λ (t : List ℕ). body 1 0 (length (leaf.versions ++ v ∷ [])) leaf.bounds t ++ replicate 32 0) (sym (entries-push leaf.versions v));
@@ -162,15 +162,15 @@ put_next at place a b old e le = ap (λ (n : ℕ). laid n b (laid at a old)) e �
 
 -- an entry that is laid field by field
 pub entry_laid : (at : ℕ) (v : Version) (old : List ℕ) → at + 59 ≤ length old
-    → laid (at + 59) (value_spelled v.value) (laid (at + 57) (octets_of 2 (length (value_spelled v.value))) (laid (at + 56) (tag v.value ∷ []) (laid (at + 40) (octets_of 16 v.stamp) (laid at (octets_of 40 v.key) old))))
+    → laid (at + 59) (value_encoded v.value) (laid (at + 57) (octets_of 2 (length (value_encoded v.value))) (laid (at + 56) (tag v.value ∷ []) (laid (at + 40) (octets_of 16 v.stamp) (laid at (octets_of 40 v.key) old))))
     ≡ laid at (entry v) old
 unfolding entry
 entry_laid at v old le =
     let k : List ℕ = octets_of 40 v.key in
     let s : List ℕ = octets_of 16 v.stamp in
     let t : List ℕ = tag v.value ∷ [] in
-    let n : List ℕ = octets_of 2 (length (value_spelled v.value)) in
-    let o : List ℕ = value_spelled v.value in
+    let n : List ℕ = octets_of 2 (length (value_encoded v.value)) in
+    let o : List ℕ = value_encoded v.value in
     let ksize : length k ≡ 40 = octets_of-size 40 v.key in
     let size2 : length (k ++ s) ≡ 56 = omega (arith, ksize, octets_of-size 16 v.stamp, length-append k s) in
     let size3 : length ((k ++ s) ++ t) ≡ 57 = omega (arith, size2, length-append (k ++ s) t) in
@@ -227,7 +227,7 @@ leaf_started b octets valid current is = record {
     rising = record { rises = λ i j v w lt at_i at_j. absurd (none-some v at_i) };
     fits = omega arith;
   };
-  page = record { current = current; spelled = is ∙ laid_on_zeros 1 0 b };
+  page = record { current = current; encoded = is ∙ laid_on_zeros 1 0 b };
 }
 
 -- all octets are replaced
@@ -242,5 +242,5 @@ laid_all o old same = ap (λ (t : List ℕ). o ++ t) (drop_over (0 + length o) o
     drop_over (suc n) (x ∷ xs) le = drop_over n xs (omega (arith, le))
 
 -- a version of a key within the bounds, of what the types say of its parts
-pub version_valid : (b : Bounds) (key stamp : ℕ) (value : Option (List ℕ)) → IsKeyWithin b key → key < 256 ^ 40 → stamp < 256 ^ 16 → length (value_spelled value) ≤ 3072 → AreOctets (value_spelled value) → IsVersionOf b (version key stamp value)
+pub version_valid : (b : Bounds) (key stamp : ℕ) (value : Option (List ℕ)) → IsKeyWithin b key → key < 256 ^ 40 → stamp < 256 ^ 16 → length (value_encoded value) ≤ 3072 → AreOctets (value_encoded value) → IsVersionOf b (version key stamp value)
 version_valid b key stamp value within fits in_time short each = record { short = record { low = within.low; high = within.high; size = short }; key = fits; stamp = in_time; octets = each }

@@ -19,15 +19,15 @@ leaf_from h es node kind level are = (
     level = level;
     bounds = refl;
     count = sym are.counted;
-    valid = record { bounds = node.bounds; each = are.each; rising = are.rising; fits = omega (arith, node.fits, ap length are.spelled) };
-    spelled = are.spelled;
+    valid = record { bounds = node.bounds; each = are.each; rising = are.rising; fits = omega (arith, node.fits, ap length are.encoded) };
+    encoded = are.encoded;
   },
   refl,
 )
 
 pub leaf_entries : (h : Header) (es : List ℕ) (leaf : LeafNode) → IsLeafOf h es leaf → AreEntries h.bounds h.count es
 leaf_entries h es leaf of =
-    subst (λ (b : Bounds). AreEntries b h.count es) of.bounds (record { versions = leaf.versions; each = of.valid.each; rising = of.valid.rising; counted = sym of.count; spelled = of.spelled })
+    subst (λ (b : Bounds). AreEntries b h.count es) of.bounds (record { versions = leaf.versions; each = of.valid.each; rising = of.valid.rising; counted = sym of.count; encoded = of.encoded })
 
 abbrev pub leaf_header : LeafNode → Header
 leaf_header leaf = record { kind = 1; level = 0; count = length leaf.versions; used = length (entries leaf.versions); bounds = leaf.bounds }
@@ -36,26 +36,26 @@ leaf_node : (leaf : LeafNode) → IsLeaf leaf → IsNode (leaf_header leaf) (ent
 leaf_node leaf valid = record { bounds = valid.bounds; count = few_versions leaf valid; used = refl; fits = valid.fits }
 
 pub leaf_begun : (leaf : LeafNode) (octets : List ℕ) → BeginsAsLeaf leaf octets → BeginsAsNode (leaf_header leaf) (entries leaf.versions) octets
-leaf_begun leaf octets is = record { valid = leaf_node leaf is.valid; last = is.last; spelled = is.spelled }
+leaf_begun leaf octets is = record { valid = leaf_node leaf is.valid; last = is.last; encoded = is.encoded }
 
 pub leaf_page : (leaf : LeafNode) (page : List ℕ) → IsLeafPage leaf page → IsNodePage (leaf_header leaf) (entries leaf.versions) page
-leaf_page leaf page is = record { valid = leaf_node leaf is.valid; page = record { current = is.page.current; spelled = is.page.spelled } }
+leaf_page leaf page is = record { valid = leaf_node leaf is.valid; page = record { current = is.page.current; encoded = is.page.encoded } }
 
 pub leaf_block : (leaf : LeafNode) (block : List ℕ) → IsLeafBlock leaf block → IsNodeBlock (leaf_header leaf) (entries leaf.versions) block
-leaf_block leaf block is = record { valid = leaf_node leaf is.valid; block = record { ended = is.block.ended; spelled = is.block.spelled } }
+leaf_block leaf block is = record { valid = leaf_node leaf is.valid; block = record { ended = is.block.ended; encoded = is.block.encoded } }
 
 body_of : (h : Header) (es : List ℕ) (leaf : LeafNode) → IsLeafOf h es leaf → node_body h es ≡ node_body (leaf_header leaf) (entries leaf.versions)
 body_of h es leaf of =
     ap (λ (k : ℕ). body k h.level h.count h.bounds es) of.kind ∙ ap (λ (l : ℕ). body 1 l h.count h.bounds es) of.level ∙ ap (λ (n : ℕ). body 1 0 n h.bounds es) of.count
-    ∙ ap (λ (b : Bounds). body 1 0 (length leaf.versions) b es) (sym of.bounds) ∙ ap (body 1 0 (length leaf.versions) leaf.bounds) of.spelled
+    ∙ ap (λ (b : Bounds). body 1 0 (length leaf.versions) b es) (sym of.bounds) ∙ ap (body 1 0 (length leaf.versions) leaf.bounds) of.encoded
 
 of_begun : (h : Header) (es octets : List ℕ) (leaf : LeafNode) → BeginsAsNode h es octets → IsLeaf leaf → BeginsAsNode (leaf_header leaf) (entries leaf.versions) octets → IsLeafOf h es leaf
 of_begun h es octets leaf begun valid other =
     let same = nodes_same h (leaf_header leaf) es (entries leaf.versions) octets begun other in
-    record { kind = same.kind; level = same.level; bounds = sym same.bounds; count = same.count; valid = valid; spelled = entries_same h (leaf_header leaf) es (entries leaf.versions) octets begun other }
+    record { kind = same.kind; level = same.level; bounds = sym same.bounds; count = same.count; valid = valid; encoded = entries_same h (leaf_header leaf) es (entries leaf.versions) octets begun other }
 
 pub begins_of : (h : Header) (es octets : List ℕ) (leaf : LeafNode) → BeginsAsNode h es octets → IsLeafOf h es leaf → BeginsAsLeaf leaf octets
-begins_of h es octets leaf is of = record { valid = of.valid; last = is.last; spelled = is.spelled ∙ ap (λ (t : List ℕ). t ++ is.last) (body_of h es leaf of) }
+begins_of h es octets leaf is of = record { valid = of.valid; last = is.last; encoded = is.encoded ∙ ap (λ (t : List ℕ). t ++ is.last) (body_of h es leaf of) }
 
 pub of_begins : (h : Header) (es octets : List ℕ) (leaf : LeafNode) → BeginsAsNode h es octets → BeginsAsLeaf leaf octets → IsLeafOf h es leaf
 of_begins h es octets leaf is leaf_is = of_begun h es octets leaf is leaf_is.valid (leaf_begun leaf octets leaf_is)
@@ -63,7 +63,7 @@ of_begins h es octets leaf is leaf_is = of_begun h es octets leaf is leaf_is.val
 pub page_of : (h : Header) (es page : List ℕ) (leaf : LeafNode) → IsNodePage h es page → IsLeafOf h es leaf → IsLeafPage leaf page
 page_of h es page leaf is of = record {
   valid = of.valid;
-  page = record { current = ap (λ (b : Bounds). b.end) of.bounds ∙ is.page.current; spelled = is.page.spelled ∙ ap (λ (t : List ℕ). t ++ replicate 32 0) (body_of h es leaf of) };
+  page = record { current = ap (λ (b : Bounds). b.end) of.bounds ∙ is.page.current; encoded = is.page.encoded ∙ ap (λ (t : List ℕ). t ++ replicate 32 0) (body_of h es leaf of) };
 }
 
 pub of_page : (h : Header) (es page : List ℕ) (leaf : LeafNode) → IsNodePage h es page → IsLeafPage leaf page → IsLeafOf h es leaf
@@ -72,7 +72,7 @@ of_page h es page leaf is leaf_is = of_begun h es page leaf (page_begins h es pa
 pub block_of : (h : Header) (es block : List ℕ) (leaf : LeafNode) → IsNodeBlock h es block → IsLeafOf h es leaf → IsLeafBlock leaf block
 block_of h es block leaf is of = record {
   valid = of.valid;
-  block = record { ended = subst (λ (b : Bounds). IsSome b.end) (sym of.bounds) is.block.ended; spelled = is.block.spelled ∙ ap (λ (t : List ℕ). t ++ sha256 t) (body_of h es leaf of) };
+  block = record { ended = subst (λ (b : Bounds). IsSome b.end) (sym of.bounds) is.block.ended; encoded = is.block.encoded ∙ ap (λ (t : List ℕ). t ++ sha256 t) (body_of h es leaf of) };
 }
 
 pub of_block : (h : Header) (es block : List ℕ) (leaf : LeafNode) → IsNodeBlock h es block → IsLeafBlock leaf block → IsLeafOf h es leaf

@@ -144,11 +144,11 @@ pad_of leaf = replicate (16232 - length (entries leaf.versions)) 0
 
 pub leaf_says : (leaf : LeafNode) (octets : List ℕ) → BeginsAsLeaf leaf octets → HeaderSays 1 0 0 (length leaf.versions) (length (entries leaf.versions)) leaf.bounds octets
 leaf_says leaf octets is =
-    subst (HeaderSays 1 0 0 (length leaf.versions) (length (entries leaf.versions)) leaf.bounds) (sym is.spelled)
+    subst (HeaderSays 1 0 0 (length leaf.versions) (length (entries leaf.versions)) leaf.bounds) (sym is.encoded)
     (body_says 1 0 (length leaf.versions) leaf.bounds (entries leaf.versions) is.last (few_versions leaf is.valid) is.valid.fits is.valid.bounds.low is.valid.bounds.start)
 
 pub leaf_area : (leaf : LeafNode) (octets : List ℕ) → BeginsAsLeaf leaf octets → area octets ≡ entries leaf.versions ++ pad_of leaf
-leaf_area leaf octets is = ap area is.spelled ∙ body_area 1 0 (length leaf.versions) leaf.bounds (entries leaf.versions) is.last is.valid.fits
+leaf_area leaf octets is = ap area is.encoded ∙ body_area 1 0 (length leaf.versions) leaf.bounds (entries leaf.versions) is.last is.valid.fits
 
 -- a leaf has the versions that its octets say
 pub leaf_versions : (leaf : LeafNode) (octets : List ℕ) → BeginsAsLeaf leaf octets → versions_in (number_in 2 4 octets) (area octets) ≡ leaf.versions
@@ -158,7 +158,7 @@ leaf_versions leaf octets is =
     ∙ entries_read leaf.bounds leaf.versions (pad_of leaf) is.valid.each
 
 pub begins_page : (leaf : LeafNode) (octets : List ℕ) → IsLeafPage leaf octets → BeginsAsLeaf leaf octets
-begins_page leaf octets page = record { valid = page.valid; last = replicate 32 0; spelled = page.page.spelled }
+begins_page leaf octets page = record { valid = page.valid; last = replicate 32 0; encoded = page.page.encoded }
 
 pub begins_block : (leaf : LeafNode) (octets : List ℕ) → IsLeafBlock leaf octets → BeginsAsLeaf leaf octets
-begins_block leaf octets block = record { valid = block.valid; last = sha256 (leaf_body leaf); spelled = block.block.spelled }
+begins_block leaf octets block = record { valid = block.valid; last = sha256 (leaf_body leaf); encoded = block.block.encoded }

@@ -10,14 +10,14 @@ use Rattle.version_model.proofs.api.AsOfs.{dead_of, live_of}
 use Rattle.tsb_node.specs.declared.leaf.FoundVersion.{FoundVersion}
 use Rattle.tsb_node.specs.Leaves.{LeafNode, BeginsAsLeaf, IsVersionOf, entry}
 use Rattle.tsb_node.specs.Finding.{version_found}
-use Rattle.tsb_node.specs.inner.Nexts.{IsLeastOf, TellsLive}
+use Rattle.tsb_node.specs.inner.Nexts.{IsLeastOf, ReportsLive}
 use Rattle.tsb_node.specs.inner.Fields.{number_in}
 use Rattle.tsb_node.proofs.SplittingLaws.{IsNext, all_at}
 use Rattle.tsb_node.proofs.Entries.{entry_read}
 use Rattle.tsb_node.proofs.Scanning.{key_said, stamp_said}
 
 -- what was found is a value, or an end
-pub live_found : (vs : List Version) (key s : ℕ) (found : FoundVersion) → IsRising vs → AsOf vs key s (version_found key found) → (b : Bool) → b ≡ is_some found.value → TellsLive vs key s b
+pub live_found : (vs : List Version) (key s : ℕ) (found : FoundVersion) → IsRising vs → AsOf vs key s (version_found key found) → (b : Bool) → b ≡ is_some found.value → ReportsLive vs key s b
 live_found vs key s found rising h true e = live_of vs key s (version_found key found) found.value refl h (sym e)
 live_found vs key s found rising h false e = dead_of vs key s (version_found key found) rising h (none_of found.value (sym e))
   where
@@ -29,13 +29,13 @@ live_found vs key s found rising h false e = dead_of vs key s (version_found key
 pub key_next : (leaf : LeafNode) (n : ℕ) (rest : List ℕ) → (next : IsNext leaf n rest) → number_in 40 0 rest ≡ next.v.key
 key_next leaf n rest next =
     let r = entry_read leaf.bounds next.v next.more next.valid in
-    ap (number_in 40 0) next.spelled ∙ sym (key_said (entry next.v ++ next.more)) ∙ ap (λ (w : Version). w.key) r.is
+    ap (number_in 40 0) next.encoded ∙ sym (key_said (entry next.v ++ next.more)) ∙ ap (λ (w : Version). w.key) r.is
 
 -- and its stamp
 pub stamp_next : (leaf : LeafNode) (n : ℕ) (rest : List ℕ) → (next : IsNext leaf n rest) → number_in 16 40 rest ≡ next.v.stamp
 stamp_next leaf n rest next =
     let r = entry_read leaf.bounds next.v next.more next.valid in
-    ap (number_in 16 40) next.spelled ∙ sym (stamp_said (entry next.v ++ next.more)) ∙ ap (λ (w : Version). w.stamp) r.is
+    ap (number_in 16 40) next.encoded ∙ sym (stamp_said (entry next.v ++ next.more)) ∙ ap (λ (w : Version). w.stamp) r.is
 
 -- ---- the least key of which there is a version
 
@@ -100,8 +100,8 @@ none_to vs s from first least dead is = λ key above below v holds. elim (cases_
   | inr on ↦ (let up = is.1 v holds.has (omega (arith, on, holds.of_key)) holds.not_after in absurd (omega (arith, up, below, holds.of_key)))
 ]
 
-pub none_behind : (vs : List Version) (s from first least : ℕ) → NoneWithin vs s first from → IsLeastOf vs s from (Some least) → Answers vs least s None → NoneWithin vs s first (suc least)
-none_behind vs s from first least dead is ended = λ key above below. elim (cases_lt key least) [
+pub none_after : (vs : List Version) (s from first least : ℕ) → NoneWithin vs s first from → IsLeastOf vs s from (Some least) → Answers vs least s None → NoneWithin vs s first (suc least)
+none_after vs s from first least dead is ended = λ key above below. elim (cases_lt key least) [
   | inl low ↦ none_to vs s from first least dead is key above low
   | inr on ↦ (let e : least ≡ key = omega (arith, below, on) in subst (λ (k : ℕ). Answers vs k s None) e ended)
 ]

@@ -12,14 +12,14 @@ use Rattle.tsb_node.specs.inner.NodeReading.{node_body, BeginsAsNode, IsNodePage
 use Rattle.tsb_node.proofs.ReadingLaws.{SameHeader, header_one, Parts, node_parts, parts_node, node_last, all_zeros}
 
 pub begun_parts : (h : Header) (es octets : List ℕ) → BeginsAsNode h es octets → Parts h.kind h.level h.count h.bounds es octets
-begun_parts h es octets is = node_parts h.kind h.level h.count h.bounds es is.last octets is.valid.fits is.spelled
+begun_parts h es octets is = node_parts h.kind h.level h.count h.bounds es is.last octets is.valid.fits is.encoded
 
 pub begun_header : (h : Header) (es octets : List ℕ) → BeginsAsNode h es octets → HasHeader h octets
 begun_header h es octets is = record {
   bounds = is.valid.bounds;
   count = is.valid.count;
   used = omega (arith, is.valid.used, is.valid.fits);
-  spelled = (begun_parts h es octets is).front ∙ ap (λ (n : ℕ). header h.kind seconds h.level h.count n h.bounds) (sym is.valid.used);
+  encoded = (begun_parts h es octets is).front ∙ ap (λ (n : ℕ). header h.kind seconds h.level h.count n h.bounds) (sym is.valid.used);
 }
 
 -- what a header that is read says of the node
@@ -45,7 +45,7 @@ begun_is h octets has size fits zeros_all =
     record {
       valid = record { bounds = has.bounds; count = has.count; used = used; fits = omega (arith, used) };
       last = drop 16352 octets;
-      spelled = parts_node h.kind h.level h.count h.used h.bounds es octets size used fits has.spelled refl zeros_all;
+      encoded = parts_node h.kind h.level h.count h.used h.bounds es octets size used fits has.encoded refl zeros_all;
     }
 
 -- nodes that begin the same octets are one
@@ -58,36 +58,36 @@ entries_same h g es fs octets a b = sym (begun_entries h h es octets a (begun_he
 -- ---- pages
 
 pub page_begins : (h : Header) (es octets : List ℕ) → IsNodePage h es octets → BeginsAsNode h es octets
-page_begins h es octets page = record { valid = page.valid; last = replicate 32 0; spelled = page.page.spelled }
+page_begins h es octets page = record { valid = page.valid; last = replicate 32 0; encoded = page.page.encoded }
 
 pub page_made : (h : Header) (es octets : List ℕ) → BeginsAsNode h es octets → length octets ≡ 16384 → h.bounds.end ≡ None → All (λ octet. octet ≡ 0) (drop 16352 octets) → IsNodePage h es octets
 page_made h es octets is size current zeros_all =
-    let n = node_last h.kind h.level h.count h.bounds es is.last octets is.valid.fits is.spelled in
+    let n = node_last h.kind h.level h.count h.bounds es is.last octets is.valid.fits is.encoded in
     let long : length (drop 16352 octets) ≡ 32 = omega (arith, length-drop 16352 octets) in
     record {
       valid = is.valid;
       page = record {
         current = current;
-        spelled = is.spelled ∙ ap (λ (t : List ℕ). node_body h es ++ t) (sym n.1 ∙ all_zeros (drop 16352 octets) zeros_all ∙ ap (λ (k : ℕ). replicate k 0) long);
+        encoded = is.encoded ∙ ap (λ (t : List ℕ). node_body h es ++ t) (sym n.1 ∙ all_zeros (drop 16352 octets) zeros_all ∙ ap (λ (k : ℕ). replicate k 0) long);
       };
     }
 
 pub page_zeros : (h : Header) (es octets : List ℕ) → IsNodePage h es octets → All (λ octet. octet ≡ 0) (drop 16352 octets)
 page_zeros h es octets page =
-    let n = node_last h.kind h.level h.count h.bounds es (replicate 32 0) octets page.valid.fits page.page.spelled in
+    let n = node_last h.kind h.level h.count h.bounds es (replicate 32 0) octets page.valid.fits page.page.encoded in
     subst (All (λ octet. octet ≡ 0)) (sym n.1) (All-replicate (λ (octet : ℕ). octet ≡ 0) 32 0 refl)
 
 -- ---- blocks
 
 pub block_begins : (h : Header) (es octets : List ℕ) → IsNodeBlock h es octets → BeginsAsNode h es octets
-block_begins h es octets block = record { valid = block.valid; last = sha256 (node_body h es); spelled = block.block.spelled }
+block_begins h es octets block = record { valid = block.valid; last = sha256 (node_body h es); encoded = block.block.encoded }
 
 pub block_made : (h : Header) (es octets : List ℕ) → BeginsAsNode h es octets → IsSome h.bounds.end → drop 16352 octets ≡ sha256 (take 16352 octets) → IsNodeBlock h es octets
 block_made h es octets is ended digest =
-    let n = node_last h.kind h.level h.count h.bounds es is.last octets is.valid.fits is.spelled in
-    record { valid = is.valid; block = record { ended = ended; spelled = is.spelled ∙ ap (λ (t : List ℕ). node_body h es ++ t) (sym n.1 ∙ digest ∙ ap sha256 n.0) } }
+    let n = node_last h.kind h.level h.count h.bounds es is.last octets is.valid.fits is.encoded in
+    record { valid = is.valid; block = record { ended = ended; encoded = is.encoded ∙ ap (λ (t : List ℕ). node_body h es ++ t) (sym n.1 ∙ digest ∙ ap sha256 n.0) } }
 
 pub block_digest : (h : Header) (es octets : List ℕ) → IsNodeBlock h es octets → drop 16352 octets ≡ sha256 (take 16352 octets)
 block_digest h es octets block =
-    let n = node_last h.kind h.level h.count h.bounds es (sha256 (node_body h es)) octets block.valid.fits block.block.spelled in
+    let n = node_last h.kind h.level h.count h.bounds es (sha256 (node_body h es)) octets block.valid.fits block.block.encoded in
     n.1 ∙ ap sha256 (sym n.0)

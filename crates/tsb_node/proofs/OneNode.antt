@@ -21,32 +21,32 @@ use Rattle.tsb_node.proofs.LeafReading.{begun_one, leaf_header, leaf_begun}
 use Rattle.tsb_node.specs.Headers.{HasHeader, IsHeaderOf}
 use Rattle.tsb_node.proofs.ReadingLaws.{SameHeader}
 use Rattle.tsb_node.proofs.RowLaws.{rows_one}
-use Rattle.tsb_node.proofs.PartLaws.{parts_spelled, current_back, current_one}
+use Rattle.tsb_node.proofs.PartLaws.{parts_encoded, current_back, current_one}
 use Rattle.tsb_node.proofs.ColumnReading.{column_header, column_entries, column_node, column_of_begun, old_header, old_node, old_of_begun}
-use Rattle.tsb_node.proofs.ChildLaws.{children_spelled, key_node_header, key_node_node, key_node_of_begun}
+use Rattle.tsb_node.proofs.ChildLaws.{children_encoded, key_node_header, key_node_node, key_node_of_begun}
 use Rattle.tsb_node.proofs.NodeLaws.{nodes_same, begun_same}
 
 pub column_begun : (c : ColumnInPage) (octets : List ℕ) → BeginsAsColumn c octets → BeginsAsNode (column_header c) (column_entries c) octets
-column_begun c octets is = record { valid = column_node c is.valid; last = is.last; spelled = is.spelled }
+column_begun c octets is = record { valid = column_node c is.valid; last = is.last; encoded = is.encoded }
 
 pub old_begun : (c : ColumnInBlock) (octets : List ℕ) → BeginsAsOldColumn c octets → BeginsAsNode (old_header c) (flat_map part_octets c.parts) octets
-old_begun c octets is = record { valid = old_node c is.valid; last = is.last; spelled = is.spelled }
+old_begun c octets is = record { valid = old_node c is.valid; last = is.last; encoded = is.encoded }
 
 pub key_node_begun : (k : KeyNodeInPage) (octets : List ℕ) → BeginsAsKeyNode k octets → BeginsAsNode (key_node_header k) (flat_map child_octets k.children) octets
-key_node_begun k octets is = record { valid = key_node_node k is.valid; last = is.last; spelled = is.spelled }
+key_node_begun k octets is = record { valid = key_node_node k is.valid; last = is.last; encoded = is.encoded }
 
 open_all : (ps : List Part) → AllByRecursion IsPartEntry ps → AllByRecursion (IsPartBefore None) ps
 open_all [] all = tt
 open_all (p ∷ ps) all = (record { entry = all.0; before = tt }, open_all ps all.1)
 
 parts_one : (ps qs : List Part) → AllByRecursion IsPartEntry ps → AllByRecursion IsPartEntry qs → flat_map part_octets ps ≡ flat_map part_octets qs → ps ≡ qs
-parts_one ps qs p q e = rows_one part_octets (IsPartBefore None) (λ (x : Part). x.start) 25 (parts_spelled None) ps qs (open_all ps p) (open_all qs q) e
+parts_one ps qs p q e = rows_one part_octets (IsPartBefore None) (λ (x : Part). x.start) 25 (parts_encoded None) ps qs (open_all ps p) (open_all qs q) e
 
 pub column_one : (a b : ColumnInPage) (octets : List ℕ) → BeginsAsColumn a octets → BeginsAsColumn b octets → a ≡ b
 column_one a b octets p q =
     let of = column_of_begun (column_header a) (column_entries a) octets b (column_begun a octets p) q.valid (column_begun b octets q) in
     let s = current_back (column_entries a) a.current (flat_map part_octets a.parts) refl in
-    let t = current_back (column_entries a) b.current (flat_map part_octets b.parts) of.spelled in
+    let t = current_back (column_entries a) b.current (flat_map part_octets b.parts) of.encoded in
     let parts = parts_one a.parts b.parts p.valid.each q.valid.each (sym s.0 ∙ t.0) in
     let current = current_one a.current b.current (record { start = p.valid.current_start; page = p.valid.current_page }) (record { start = q.valid.current_start; page = q.valid.current_page }) (sym s.1 ∙ t.1) in
     let bounds : a.bounds ≡ b.bounds = sym of.bounds in
@@ -55,7 +55,7 @@ column_one a b octets p q =
 pub old_column_one : (a b : ColumnInBlock) (octets : List ℕ) → BeginsAsOldColumn a octets → BeginsAsOldColumn b octets → a ≡ b
 old_column_one a b octets p q =
     let of = old_of_begun (old_header a) (flat_map part_octets a.parts) octets b (old_begun a octets p) q.valid (old_begun b octets q) in
-    let parts = parts_one a.parts b.parts p.valid.each q.valid.each of.spelled in
+    let parts = parts_one a.parts b.parts p.valid.each q.valid.each of.encoded in
     let bounds : a.bounds ≡ b.bounds = sym of.bounds in
     λ i. record { bounds = bounds i; parts = parts i }
 
@@ -64,7 +64,7 @@ key_node_one a b octets p q =
     let of = key_node_of_begun (key_node_header a) (flat_map child_octets a.children) octets b (key_node_begun a octets p) q.valid (key_node_begun b octets q) in
     let bounds : a.bounds ≡ b.bounds = sym of.bounds in
     let each = subst (λ (x : Bounds). AllByRecursion (IsChildEntry x) b.children) of.bounds q.valid.each in
-    let children = rows_one child_octets (IsChildEntry a.bounds) (λ (x : Child). x.low) 48 (children_spelled a.bounds) a.children b.children p.valid.each each of.spelled in
+    let children = rows_one child_octets (IsChildEntry a.bounds) (λ (x : Child). x.low) 48 (children_encoded a.bounds) a.children b.children p.valid.each each of.encoded in
     let level : a.level ≡ b.level = of.level in
     λ i. record { level = level i; bounds = bounds i; children = children i }
 
@@ -75,13 +75,13 @@ leaf_one a b octets p q =
     λ i. record { bounds = bounds i; versions = versions i }
 
 column_page : (c : ColumnInPage) (octets : List ℕ) → IsColumnPage c octets → BeginsAsColumn c octets
-column_page c octets is = record { valid = is.valid; last = _; spelled = is.page.spelled }
+column_page c octets is = record { valid = is.valid; last = _; encoded = is.page.encoded }
 
 key_page : (k : KeyNodeInPage) (octets : List ℕ) → IsKeyNodePage k octets → BeginsAsKeyNode k octets
-key_page k octets is = record { valid = is.valid; last = _; spelled = is.page.spelled }
+key_page k octets is = record { valid = is.valid; last = _; encoded = is.page.encoded }
 
 pub old_block : (c : ColumnInBlock) (octets : List ℕ) → IsColumnBlock c octets → BeginsAsOldColumn c octets
-old_block c octets is = record { valid = is.valid; last = _; spelled = is.block.spelled }
+old_block c octets is = record { valid = is.valid; last = _; encoded = is.block.encoded }
 
 kinds : (h g : Header) (es fs octets : List ℕ) → BeginsAsNode h es octets → BeginsAsNode g fs octets → h.kind ≡ g.kind
 kinds h g es fs octets p q = (nodes_same h g es fs octets p q).kind

@@ -9,7 +9,7 @@ use Rattle.version_model.specs.declared.part.PartKind.TheVariants.{LeafBlock, Co
 use Rattle.tsb_node.specs.declared.column.Current.{Current}
 use Rattle.tsb_node.specs.Columns.{IsPartEntry, part_kind, part_octets, current_octets, place_octets}
 use Rattle.tsb_node.specs.inner.Fields.{number_in}
-use Rattle.tsb_node.specs.inner.Rows.{IsSpelling, IsFront}
+use Rattle.tsb_node.specs.inner.Rows.{IsEncoding, IsFront}
 use Rattle.tsb_node.specs.inner.PartReading.{IsPartBefore, IsCurrentEntry}
 use Rattle.tsb_node.proofs.NumberLaws.{drop_twice}
 use Rattle.tsb_node.proofs.HeaderLaws.{again_in, number_in-lt, take_on, are-drop}
@@ -17,8 +17,8 @@ use Rattle.tsb_node.proofs.CheckingLaws.{one_octet}
 use Rattle.tsb_node.proofs.ColumnLaws.{place-size, part_read, current_read, index_drop}
 
 -- a place at the front of octets is encoded as it is read
-pub place_spelled : (kind : ℕ) (bytes : List ℕ) → AreOctets bytes → 25 ≤ length bytes → slice_index bytes 16 ≡ kind → bytes ≡ place_octets (number_in 16 0 bytes) kind (number_in 8 17 bytes) ++ drop 25 bytes
-place_spelled kind bytes are le is =
+pub place_encoded : (kind : ℕ) (bytes : List ℕ) → AreOctets bytes → 25 ≤ length bytes → slice_index bytes 16 ≡ kind → bytes ≡ place_octets (number_in 16 0 bytes) kind (number_in 8 17 bytes) ++ drop 25 bytes
+place_encoded kind bytes are le is =
     let s = again_in 16 0 bytes are (omega (arith, le)) in
     let n = again_in 8 17 bytes are (omega (arith, le)) in
     let k : take 1 (drop 16 bytes) ≡ kind ∷ [] = one_octet bytes 16 (omega (arith, le)) ∙ ap (λ (x : ℕ). x ∷ []) is in
@@ -45,8 +45,8 @@ part_apart p q a b is_p is_q e =
     let block : p.block ≡ q.block = sym r.number_is ∙ ap (number_in 8 17) e ∙ t.number_is in
     λ i. record { start = start i; kind = kind i; block = block i }
 
-pub parts_spelled : (end : Option ℕ) → IsSpelling part_octets (IsPartBefore end) 25
-parts_spelled end = record { some = omega arith; size_is = part-size; apart = λ p q a b is_p is_q e. part_apart p q a b is_p.entry is_q.entry e }
+pub parts_encoded : (end : Option ℕ) → IsEncoding part_octets (IsPartBefore end) 25
+parts_encoded end = record { some = omega arith; size_is = part-size; apart = λ p q a b is_p is_q e. part_apart p q a b is_p.entry is_q.entry e }
 
 -- the part that is read from a place on
 pub part_is : (at start block : ℕ) (kind : PartKind) (area : List ℕ) → AreOctets area → at + 25 ≤ length area → start ≡ number_in 16 at area → block ≡ number_in 8 (at + 17) area
@@ -55,7 +55,7 @@ unfolding part_octets
 part_is at start block kind area are le s n k =
     let bytes : List ℕ = drop at area in
     let there : number_in 8 17 bytes ≡ block = ap (λ (t : List ℕ). number_of (take 8 t)) (drop_twice at 17 area) ∙ sym n in
-    let whole = place_spelled (part_kind kind) bytes (are-drop at area are) (omega (arith, le, length-drop at area)) (index_drop at 16 area ∙ k) in (
+    let whole = place_encoded (part_kind kind) bytes (are-drop at area are) (omega (arith, le, length-drop at area)) (index_drop at 16 area ∙ k) in (
       record { start = rw s (number_in-lt 16 at area are (omega (arith, le))); block = rw n (number_in-lt 8 (at + 17) area are (omega (arith, le))) },
       whole ∙ ap (λ (m : ℕ). place_octets m (part_kind kind) (number_in 8 17 bytes) ++ drop 25 bytes) (sym s) ∙ ap (λ (m : ℕ). place_octets start (part_kind kind) m ++ drop 25 bytes) there
           ∙ ap (λ (t : List ℕ). place_octets start (part_kind kind) block ++ t) (drop_twice at 25 area),
@@ -80,7 +80,7 @@ pub current_is : (start page : ℕ) (bytes : List ℕ) → AreOctets bytes → l
     → IsCurrentEntry (record { start = start; page = page }) × (bytes ≡ current_octets (record { start = start; page = page }))
 unfolding current_octets
 current_is start page bytes are long k s n =
-    let whole = place_spelled 0 bytes are (omega (arith, long)) k in
+    let whole = place_encoded 0 bytes are (omega (arith, long)) k in
     let none : drop 25 bytes ≡ [] = empty (drop 25 bytes) (omega (arith, length-drop 25 bytes, long)) in (
       record { start = rw s (number_in-lt 16 0 bytes are (omega (arith, long))); page = rw n (number_in-lt 8 17 bytes are (omega (arith, long))) },
       whole ∙ ap (λ (m : ℕ). place_octets m 0 (number_in 8 17 bytes) ++ drop 25 bytes) (sym s) ∙ ap (λ (m : ℕ). place_octets start 0 m ++ drop 25 bytes) (sym n)
@@ -97,11 +97,11 @@ current_kind c bytes is e = ap (λ (l : List ℕ). slice_index l 16) (e ∙ sym 
 -- ---- parts at the front
 
 pub open_front : (end : Option ℕ) (bytes : List ℕ) (p : Part) → IsFront part_octets (IsPartBefore end) 25 bytes p → IsFront part_octets (IsPartBefore None) 25 bytes p
-open_front end bytes p front = record { valid_is = record { entry = front.valid_is.entry; before = tt }; spelled = front.spelled }
+open_front end bytes p front = record { valid_is = record { entry = front.valid_is.entry; before = tt }; encoded = front.encoded }
 
 pub same_front : (end : Option ℕ) (bytes : List ℕ) (p q : Part) → IsFront part_octets (IsPartBefore end) 25 bytes p → IsFront part_octets (IsPartBefore None) 25 bytes q → IsFront part_octets (IsPartBefore end) 25 bytes q
 same_front end bytes p q front read =
-    let same : p ≡ q = part_apart p q (drop 25 bytes) (drop 25 bytes) front.valid_is.entry read.valid_is.entry (sym front.spelled ∙ read.spelled) in
+    let same : p ≡ q = part_apart p q (drop 25 bytes) (drop 25 bytes) front.valid_is.entry read.valid_is.entry (sym front.encoded ∙ read.encoded) in
     subst (IsFront part_octets (IsPartBefore end) 25 bytes) same front
 
 -- a current leaf that ends octets
@@ -113,4 +113,4 @@ current_back bytes c front e =
     )
 
 pub front-size : (end : Option ℕ) (bytes : List ℕ) (p : Part) → IsFront part_octets (IsPartBefore end) 25 bytes p → 25 ≤ length bytes
-front-size end bytes p front = omega (arith, ap length front.spelled, length-append (part_octets p) (drop 25 bytes), part-size p)
+front-size end bytes p front = omega (arith, ap length front.encoded, length-append (part_octets p) (drop 25 bytes), part-size p)

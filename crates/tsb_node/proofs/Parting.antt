@@ -20,7 +20,7 @@ version_is v w k s o = λ i. record { key = k i; stamp = s i; value = o i }
 
 -- the version at the front is that of the leaf there
 pub version_next : (leaf : LeafNode) (n : ℕ) (rest : List ℕ) → (next : IsNext leaf n rest) → version_in rest ≡ next.v
-version_next leaf n rest next = ap version_in next.spelled ∙ (entry_read leaf.bounds next.v next.more next.valid).is
+version_next leaf n rest next = ap version_in next.encoded ∙ (entry_read leaf.bounds next.v next.more next.valid).is
 
 -- the versions of entries with one more after them
 pub versions_more : (kept new : List Entry) (e : Entry) (v : Version) → new ≡ kept ++ e ∷ [] → version_of e ≡ v → versions_of new ≡ versions_of kept ++ v ∷ []

@@ -4,7 +4,7 @@ use Rattle.std.specs.List.{flat_map, AllByRecursion}
 use Rattle.std.proofs.lemmas.List.{append-nil, length-append, drop_at}
 use Rattle.std.proofs.lemmas.Grind.{flat_map-append}
 use Rattle.tsb_node.specs.Columns.{AreAscending}
-use Rattle.tsb_node.specs.inner.Rows.{IsSpelling, StartsAt, AreRows, IsLastNumber, IsNextNumber, IsFront}
+use Rattle.tsb_node.specs.inner.Rows.{IsEncoding, StartsAt, AreRows, IsLastNumber, IsNextNumber, IsFront}
 use Rattle.tsb_node.proofs.Laying.{all_push}
 
 -- ---- numbers that rise
@@ -62,50 +62,50 @@ pub map-append : {X : Type 0} (f : X → ℕ) (xs ys : List X) → map f (xs ++ 
 map-append f [] ys = refl
 map-append f (x ∷ xs) ys = ap (λ (t : List ℕ). f x ∷ t) (map-append f xs ys)
 
-module _ {X : Type 0} (spell : X → List ℕ) (valid : X → Type 0) (number : X → ℕ) (size : ℕ) (is : IsSpelling spell valid size) where
-  pub rows-size : (xs : List X) → length (flat_map spell xs) ≡ length xs * size
+module _ {X : Type 0} (encode : X → List ℕ) (valid : X → Type 0) (number : X → ℕ) (size : ℕ) (is : IsEncoding encode valid size) where
+  pub rows-size : (xs : List X) → length (flat_map encode xs) ≡ length xs * size
   rows-size [] = omega arith
-  rows-size (x ∷ xs) = omega (arith, rows-size xs, is.size_is x, length-append (spell x) (flat_map spell xs))
+  rows-size (x ∷ xs) = omega (arith, rows-size xs, is.size_is x, length-append (encode x) (flat_map encode xs))
 
   -- where the octets of ys begin with those of xs, the rest of ys follows
-  pub rows_behind : (xs ys : List X) (rest : List ℕ) → AllByRecursion valid xs → AllByRecursion valid ys → flat_map spell xs ++ rest ≡ flat_map spell ys
-      → (more : List X) × (ys ≡ xs ++ more) × (rest ≡ flat_map spell more)
-  rows_behind [] ys rest p q e = (ys, refl, e)
-  rows_behind (x ∷ xs) [] rest p q e = absurd (omega (arith, ap length e, is.size_is x, is.some, length-append (spell x ++ flat_map spell xs) rest, length-append (spell x) (flat_map spell xs)))
-  rows_behind (x ∷ xs) (y ∷ ys) rest p q e =
-      let there : spell x ++ (flat_map spell xs ++ rest) ≡ spell y ++ flat_map spell ys = sym (append_assoc (spell x) (flat_map spell xs) rest) ∙ e in
-      let same : x ≡ y = is.apart x y (flat_map spell xs ++ rest) (flat_map spell ys) p.0 q.0 there in
-      let behind : flat_map spell xs ++ rest ≡ flat_map spell ys =
-      sym (drop_at (spell x) (flat_map spell xs ++ rest) size (is.size_is x)) ∙ ap (drop size) there ∙ drop_at (spell y) (flat_map spell ys) size (is.size_is y) in
-      let t = rows_behind xs ys rest p.1 q.1 behind in
+  pub rows_after : (xs ys : List X) (rest : List ℕ) → AllByRecursion valid xs → AllByRecursion valid ys → flat_map encode xs ++ rest ≡ flat_map encode ys
+      → (more : List X) × (ys ≡ xs ++ more) × (rest ≡ flat_map encode more)
+  rows_after [] ys rest p q e = (ys, refl, e)
+  rows_after (x ∷ xs) [] rest p q e = absurd (omega (arith, ap length e, is.size_is x, is.some, length-append (encode x ++ flat_map encode xs) rest, length-append (encode x) (flat_map encode xs)))
+  rows_after (x ∷ xs) (y ∷ ys) rest p q e =
+      let there : encode x ++ (flat_map encode xs ++ rest) ≡ encode y ++ flat_map encode ys = sym (append_assoc (encode x) (flat_map encode xs) rest) ∙ e in
+      let same : x ≡ y = is.apart x y (flat_map encode xs ++ rest) (flat_map encode ys) p.0 q.0 there in
+      let beyond : flat_map encode xs ++ rest ≡ flat_map encode ys =
+      sym (drop_at (encode x) (flat_map encode xs ++ rest) size (is.size_is x)) ∙ ap (drop size) there ∙ drop_at (encode y) (flat_map encode ys) size (is.size_is y) in
+      let t = rows_after xs ys rest p.1 q.1 beyond in
       (t.0, ap (λ (h : X). h ∷ ys) (sym same) ∙ ap (λ (l : List X). x ∷ l) t.1, t.2)
 
-  pub rows_one : (xs ys : List X) → AllByRecursion valid xs → AllByRecursion valid ys → flat_map spell xs ≡ flat_map spell ys → xs ≡ ys
+  pub rows_one : (xs ys : List X) → AllByRecursion valid xs → AllByRecursion valid ys → flat_map encode xs ≡ flat_map encode ys → xs ≡ ys
   rows_one xs ys p q e =
-      let t = rows_behind xs ys [] p q (append-nil (flat_map spell xs) ∙ e) in
+      let t = rows_after xs ys [] p q (append-nil (flat_map encode xs) ∙ e) in
       let none : t.0 ≡ [] = nothing t.0 (sym t.2) in
       sym (t.1 ∙ ap (λ (l : List X). xs ++ l) none ∙ append-nil xs)
     where
-      nothing : (more : List X) → flat_map spell more ≡ [] → more ≡ []
+      nothing : (more : List X) → flat_map encode more ≡ [] → more ≡ []
       nothing [] e = refl
-      nothing (x ∷ more) e = absurd (omega (arith, ap length e, is.size_is x, is.some, length-append (spell x) (flat_map spell more)))
+      nothing (x ∷ more) e = absurd (omega (arith, ap length e, is.size_is x, is.some, length-append (encode x) (flat_map encode more)))
 
 -- the first n entries have been read
-pub record HasRead {X : Type 0} (spell : X → List ℕ) (valid : X → Type 0) (number : X → ℕ) (first n : ℕ) (last : Option ℕ) (bytes rest : List ℕ) : Type 0 where
+pub record HasRead {X : Type 0} (encode : X → List ℕ) (valid : X → Type 0) (number : X → ℕ) (first n : ℕ) (last : Option ℕ) (bytes rest : List ℕ) : Type 0 where
   pub rows : List X
   pub each : AllByRecursion valid rows
   pub from_first : StartsAt first (map number rows)
   pub rising : AreAscending (map number rows)
   pub counted : length rows ≡ n
-  pub whole : bytes ≡ flat_map spell rows ++ rest
+  pub whole : bytes ≡ flat_map encode rows ++ rest
   pub newest : IsLastNumber (map number rows) last
 
-module _ {X : Type 0} (spell : X → List ℕ) (valid : X → Type 0) (number : X → ℕ) (size : ℕ) (is : IsSpelling spell valid size) (first : ℕ) where
-  pub read_start : (bytes : List ℕ) → HasRead spell valid number first 0 None bytes bytes
+module _ {X : Type 0} (encode : X → List ℕ) (valid : X → Type 0) (number : X → ℕ) (size : ℕ) (is : IsEncoding encode valid size) (first : ℕ) where
+  pub read_start : (bytes : List ℕ) → HasRead encode valid number first 0 None bytes bytes
   read_start bytes = record { rows = []; each = tt; from_first = tt; rising = tt; counted = refl; whole = refl; newest = refl }
 
-  pub read_on : (n : ℕ) (last : Option ℕ) (bytes rest : List ℕ) (x : X) → HasRead spell valid number first n last bytes rest → IsFront spell valid size rest x → IsNextNumber first last (number x)
-      → HasRead spell valid number first (n + 1) (Some (number x)) bytes (drop size rest)
+  pub read_on : (n : ℕ) (last : Option ℕ) (bytes rest : List ℕ) (x : X) → HasRead encode valid number first n last bytes rest → IsFront encode valid size rest x → IsNextNumber first last (number x)
+      → HasRead encode valid number first (n + 1) (Some (number x)) bytes (drop size rest)
   read_on n last bytes rest x r front next =
       let more : map number (r.rows ++ x ∷ []) ≡ map number r.rows ++ number x ∷ [] = map-append number r.rows (x ∷ []) in
       let up = next_up first (map number r.rows) last (number x) r.newest r.from_first r.rising next in
@@ -115,18 +115,18 @@ module _ {X : Type 0} (spell : X → List ℕ) (valid : X → Type 0) (number : 
         from_first = subst (StartsAt first) (sym more) up.0;
         rising = subst AreAscending (sym more) up.1;
         counted = length-append r.rows (x ∷ []) ∙ ap (λ (k : ℕ). k + 1) r.counted;
-        whole = r.whole ∙ ap (λ (t : List ℕ). flat_map spell r.rows ++ t) front.spelled ∙ sym (append_assoc (flat_map spell r.rows) (spell x) (drop size rest))
-            ∙ ap (λ (t : List ℕ). t ++ drop size rest) (ap (λ (t : List ℕ). flat_map spell r.rows ++ t) (sym (append-nil (spell x))) ∙ sym (flat_map-append spell r.rows (x ∷ [])));
+        whole = r.whole ∙ ap (λ (t : List ℕ). flat_map encode r.rows ++ t) front.encoded ∙ sym (append_assoc (flat_map encode r.rows) (encode x) (drop size rest))
+            ∙ ap (λ (t : List ℕ). t ++ drop size rest) (ap (λ (t : List ℕ). flat_map encode r.rows ++ t) (sym (append-nil (encode x))) ∙ sym (flat_map-append encode r.rows (x ∷ [])));
         newest = (map number r.rows, more);
       }
 
-  pub read_end : (n : ℕ) (last : Option ℕ) (bytes rest : List ℕ) → (r : HasRead spell valid number first n last bytes rest) → length rest ≡ 0 → AreRows spell valid number first n bytes r.rows
+  pub read_end : (n : ℕ) (last : Option ℕ) (bytes rest : List ℕ) → (r : HasRead encode valid number first n last bytes rest) → length rest ≡ 0 → AreRows encode valid number first n bytes r.rows
   read_end n last bytes rest r none = record {
     each = r.each;
     from_first = r.from_first;
     rising = r.rising;
     counted = r.counted;
-    spelled = r.whole ∙ ap (λ (t : List ℕ). flat_map spell r.rows ++ t) (empty rest none) ∙ append-nil (flat_map spell r.rows);
+    encoded = r.whole ∙ ap (λ (t : List ℕ). flat_map encode r.rows ++ t) (empty rest none) ∙ append-nil (flat_map encode r.rows);
   }
     where
       empty : (xs : List ℕ) → length xs ≡ 0 → xs ≡ []
@@ -134,43 +134,43 @@ module _ {X : Type 0} (spell : X → List ℕ) (valid : X → Type 0) (number : 
       empty (x ∷ xs) e = absurd (omega (arith, e))
 
   -- where the octets are entries, one stands at the front and may come next
-  pub row_stands : (n count : ℕ) (last : Option ℕ) (bytes rest : List ℕ) (xs : List X) → HasRead spell valid number first n last bytes rest → AreRows spell valid number first count bytes xs → n < count
-      → (x : X) × IsFront spell valid size rest x × IsNextNumber first last (number x)
+  pub row_stands : (n count : ℕ) (last : Option ℕ) (bytes rest : List ℕ) (xs : List X) → HasRead encode valid number first n last bytes rest → AreRows encode valid number first count bytes xs → n < count
+      → (x : X) × IsFront encode valid size rest x × IsNextNumber first last (number x)
   row_stands n count last bytes rest xs r are lt =
-      let t = rows_behind spell valid number size is r.rows xs rest r.each are.each (sym r.whole ∙ are.spelled) in
+      let t = rows_after encode valid number size is r.rows xs rest r.each are.each (sym r.whole ∙ are.encoded) in
       head t.0 t.1 t.2
     where
       valid_head : (rows : List X) (x : X) (more : List X) → AllByRecursion valid (rows ++ x ∷ more) → valid x
       valid_head rows x more all = (all_append valid rows (x ∷ more) all).0
 
-      head : (more : List X) → xs ≡ r.rows ++ more → rest ≡ flat_map spell more → (x : X) × IsFront spell valid size rest x × IsNextNumber first last (number x)
+      head : (more : List X) → xs ≡ r.rows ++ more → rest ≡ flat_map encode more → (x : X) × IsFront encode valid size rest x × IsNextNumber first last (number x)
       head [] e f = absurd (omega (arith, lt, are.counted, r.counted, ap length e, length-append r.rows []))
       head (x ∷ more) e f =
           let numbers : map number xs ≡ map number r.rows ++ number x ∷ map number more = ap (map number) e ∙ map-append number r.rows (x ∷ more) in (
             x,
             record {
               valid_is = valid_head r.rows x more (subst (AllByRecursion valid) e are.each);
-              spelled = f ∙ ap (λ (t : List ℕ). spell x ++ t) (sym (ap (drop size) f ∙ drop_at (spell x) (flat_map spell more) size (is.size_is x)));
+              encoded = f ∙ ap (λ (t : List ℕ). encode x ++ t) (sym (ap (drop size) f ∙ drop_at (encode x) (flat_map encode more) size (is.size_is x)));
             },
             next_needed first (map number r.rows) (map number more) last (number x) r.newest (subst (StartsAt first) numbers are.from_first) (subst AreAscending numbers are.rising),
           )
 
-  pub nothing_behind : (count : ℕ) (last : Option ℕ) (bytes rest : List ℕ) (xs : List X) → HasRead spell valid number first count last bytes rest → AreRows spell valid number first count bytes xs → length rest ≡ 0
-  nothing_behind count last bytes rest xs r are =
-      let t = rows_behind spell valid number size is r.rows xs rest r.each are.each (sym r.whole ∙ are.spelled) in
+  pub nothing_after : (count : ℕ) (last : Option ℕ) (bytes rest : List ℕ) (xs : List X) → HasRead encode valid number first count last bytes rest → AreRows encode valid number first count bytes xs → length rest ≡ 0
+  nothing_after count last bytes rest xs r are =
+      let t = rows_after encode valid number size is r.rows xs rest r.each are.each (sym r.whole ∙ are.encoded) in
       let long : length t.0 ≡ 0 = omega (arith, are.counted, r.counted, ap length t.1, length-append r.rows t.0) in
-      ap length t.2 ∙ rows-size spell valid number size is t.0 ∙ ap (λ (k : ℕ). k * size) long ∙ (let z : 0 * size ≡ 0 = omega arith in z)
+      ap length t.2 ∙ rows-size encode valid number size is t.0 ∙ ap (λ (k : ℕ). k * size) long ∙ (let z : 0 * size ≡ 0 = omega arith in z)
 
   -- one entry at the front
-  pub front_one : (rest : List ℕ) (x y : X) → IsFront spell valid size rest x → IsFront spell valid size rest y → x ≡ y
-  front_one rest x y f g = is.apart x y (drop size rest) (drop size rest) f.valid_is g.valid_is (sym f.spelled ∙ g.spelled)
+  pub front_one : (rest : List ℕ) (x y : X) → IsFront encode valid size rest x → IsFront encode valid size rest y → x ≡ y
+  front_one rest x y f g = is.apart x y (drop size rest) (drop size rest) f.valid_is g.valid_is (sym f.encoded ∙ g.encoded)
 
 -- the first n entries are kept
-pub record HasKept {X : Type 0} (spell : X → List ℕ) (xs kept : List X) (n : ℕ) (rest : List ℕ) : Type 0 where
+pub record HasKept {X : Type 0} (encode : X → List ℕ) (xs kept : List X) (n : ℕ) (rest : List ℕ) : Type 0 where
   pub whole : kept ++ drop n xs ≡ xs
-  pub there : rest ≡ flat_map spell (drop n xs)
+  pub there : rest ≡ flat_map encode (drop n xs)
 
-module _ {X : Type 0} (spell : X → List ℕ) (valid : X → Type 0) (number : X → ℕ) (size : ℕ) (is : IsSpelling spell valid size) (first count : ℕ) (bytes : List ℕ) (xs : List X) (are : AreRows spell valid number first count bytes xs) where
+module _ {X : Type 0} (encode : X → List ℕ) (valid : X → Type 0) (number : X → ℕ) (size : ℕ) (is : IsEncoding encode valid size) (first count : ℕ) (bytes : List ℕ) (xs : List X) (are : AreRows encode valid number first count bytes xs) where
   drop_more : (n : ℕ) (ys : List X) → n < length ys → (x : X) × (drop n ys ≡ x ∷ drop (n + 1) ys)
   drop_more n [] lt = absurd (omega (arith, lt))
   drop_more zero (y ∷ ys) lt = (y, refl)
@@ -184,33 +184,33 @@ module _ {X : Type 0} (spell : X → List ℕ) (valid : X → Type 0) (number : 
   all_drop (suc n) [] all = all
   all_drop (suc n) (y ∷ ys) all = all_drop n ys all.1
 
-  pub kept_start : HasKept spell xs [] 0 bytes
-  kept_start = record { whole = refl; there = are.spelled }
+  pub kept_start : HasKept encode xs [] 0 bytes
+  kept_start = record { whole = refl; there = are.encoded }
 
   -- the next entry at the front
-  pub kept_front : (kept : List X) (n : ℕ) (rest : List ℕ) → HasKept spell xs kept n rest → n < count → (x : X) × IsFront spell valid size rest x × (drop n xs ≡ x ∷ drop (n + 1) xs)
+  pub kept_front : (kept : List X) (n : ℕ) (rest : List ℕ) → HasKept encode xs kept n rest → n < count → (x : X) × IsFront encode valid size rest x × (drop n xs ≡ x ∷ drop (n + 1) xs)
   kept_front kept n rest k lt =
       let d = drop_more n xs (omega (arith, lt, are.counted)) in
-      let e : rest ≡ spell d.0 ++ flat_map spell (drop (n + 1) xs) = k.there ∙ ap (flat_map spell) d.1 in (
+      let e : rest ≡ encode d.0 ++ flat_map encode (drop (n + 1) xs) = k.there ∙ ap (flat_map encode) d.1 in (
         d.0,
         record {
           valid_is = (subst (AllByRecursion valid) d.1 (all_drop n xs are.each)).0;
-          spelled = e ∙ ap (λ (t : List ℕ). spell d.0 ++ t) (sym (ap (drop size) e ∙ drop_at (spell d.0) (flat_map spell (drop (n + 1) xs)) size (is.size_is d.0)));
+          encoded = e ∙ ap (λ (t : List ℕ). encode d.0 ++ t) (sym (ap (drop size) e ∙ drop_at (encode d.0) (flat_map encode (drop (n + 1) xs)) size (is.size_is d.0)));
         },
         d.1,
       )
 
-  pub kept_on : (kept : List X) (n : ℕ) (rest : List ℕ) (x : X) → HasKept spell xs kept n rest → n < count → IsFront spell valid size rest x → HasKept spell xs (kept ++ x ∷ []) (n + 1) (drop size rest)
+  pub kept_on : (kept : List X) (n : ℕ) (rest : List ℕ) (x : X) → HasKept encode xs kept n rest → n < count → IsFront encode valid size rest x → HasKept encode xs (kept ++ x ∷ []) (n + 1) (drop size rest)
   kept_on kept n rest x k lt front =
       let t = kept_front kept n rest k lt in
-      let same : t.0 ≡ x = front_one spell valid number size is first rest t.0 x t.1 front in
+      let same : t.0 ≡ x = front_one encode valid number size is first rest t.0 x t.1 front in
       let e : drop n xs ≡ x ∷ drop (n + 1) xs = t.2 ∙ ap (λ (h : X). h ∷ drop (n + 1) xs) same in
       record {
         whole = append_assoc kept (x ∷ []) (drop (n + 1) xs) ∙ ap (λ (l : List X). kept ++ l) (sym e) ∙ k.whole;
-        there = ap (drop size) (k.there ∙ ap (flat_map spell) e) ∙ drop_at (spell x) (flat_map spell (drop (n + 1) xs)) size (is.size_is x);
+        there = ap (drop size) (k.there ∙ ap (flat_map encode) e) ∙ drop_at (encode x) (flat_map encode (drop (n + 1) xs)) size (is.size_is x);
       }
 
-  pub kept_all : (kept : List X) (n : ℕ) (rest : List ℕ) → HasKept spell xs kept n rest → count ≤ n → kept ≡ xs
+  pub kept_all : (kept : List X) (n : ℕ) (rest : List ℕ) → HasKept encode xs kept n rest → count ≤ n → kept ≡ xs
   kept_all kept n rest k le =
       sym (append-nil kept) ∙ ap (λ (l : List X). kept ++ l) (sym (over n xs (omega (arith, le, are.counted)))) ∙ k.whole
     where

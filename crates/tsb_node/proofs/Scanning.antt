@@ -7,7 +7,7 @@ use Rattle.tsb_node.specs.inner.Fields.{number_in}
 use Rattle.version_model.specs.Versions.{Version, AsOf, IsRising}
 use Rattle.version_model.specs.declared.bounds.Bounds.{Bounds}
 use Rattle.tsb_node.specs.Leaves.{LeafNode, BeginsAsLeaf, entry, entries, IsVersionOf}
-use Rattle.tsb_node.specs.inner.Reading.{value_size, value_in, version_in, versions_in, after, behind_version, area}
+use Rattle.tsb_node.specs.inner.Reading.{value_size, value_in, version_in, versions_in, after, after_version, area}
 use Rattle.std.specs.Ordering.{nat_cmp, is_le}
 use Rattle.std.proofs.Common.{inl, inr, true}
 use Rattle.std.proofs.lemmas.Bool.{eq-eqb, ne_eqb, cases_order, lt-ltb, le-ltb}
@@ -64,9 +64,9 @@ scan_start count key s bytes = (refl, record { none = λ k v above below at coun
 
 pub scan_on : (i : ℕ) (rest bytes : List ℕ) → rest ≡ after i bytes → drop (59 + value_size rest) rest ≡ after (i + 1) bytes
 scan_on i rest bytes e =
-    let next : after (suc i) bytes ≡ behind_version (after i bytes) = after-next i bytes in
+    let next : after (suc i) bytes ≡ after_version (after i bytes) = after-next i bytes in
     let one : suc i ≡ i + 1 = omega arith in
-    ap behind_version e ∙ sym next ∙ ap (λ (n : ℕ). after n bytes) one
+    ap after_version e ∙ sym next ∙ ap (λ (n : ℕ). after n bytes) one
 
 at_place : (count i : ℕ) (rest bytes : List ℕ) → i < count → rest ≡ after i bytes → slice_get (versions_in count bytes) i ≡ Some (version_in rest)
 at_place count i rest bytes lt e = version_at count i bytes lt ∙ ap (λ (t : List ℕ). Some (version_in t)) (sym e)
@@ -120,24 +120,24 @@ scanned_none leaf octets key s is none v holds =
     none.none holds.has.place v (omega arith) below here (record { of_key = holds.of_key; not_after = holds.not_after })
 
 -- each version of a leaf is whole
-whole_spelled : (b : Bounds) (n : ℕ) (vs : List Version) (rest : List ℕ) → AllByRecursion (IsVersionOf b) vs → n < length vs → IsWholeVersion (after n (entries vs ++ rest))
+whole_encoded : (b : Bounds) (n : ℕ) (vs : List Version) (rest : List ℕ) → AllByRecursion (IsVersionOf b) vs → n < length vs → IsWholeVersion (after n (entries vs ++ rest))
 unfolding after entries
-whole_spelled b n [] rest all lt = absurd (omega arith)
-whole_spelled b zero (v ∷ vs) rest all lt =
+whole_encoded b n [] rest all lt = absurd (omega arith)
+whole_encoded b zero (v ∷ vs) rest all lt =
     let e : entries (v ∷ vs) ++ rest ≡ entry v ++ (entries vs ++ rest) = append_assoc (entry v) (entries vs) rest in
     let r = entry_read b v (entries vs ++ rest) all.0 in
     let long = length-append (entry v) (entries vs ++ rest) in
     subst IsWholeVersion (sym e) (omega (arith, r.size, long, entry-size v))
-whole_spelled b (suc n) (v ∷ vs) rest all lt =
+whole_encoded b (suc n) (v ∷ vs) rest all lt =
     let e : entries (v ∷ vs) ++ rest ≡ entry v ++ (entries vs ++ rest) = append_assoc (entry v) (entries vs) rest in
     let r = entry_read b v (entries vs ++ rest) all.0 in
-    let same : after (suc n) (entries (v ∷ vs) ++ rest) ≡ after n (entries vs ++ rest) = ap (after (suc n)) e ∙ ap (after n) r.behind in
-    subst IsWholeVersion (sym same) (whole_spelled b n vs rest all.1 (omega arith))
+    let same : after (suc n) (entries (v ∷ vs) ++ rest) ≡ after n (entries vs ++ rest) = ap (after (suc n)) e ∙ ap (after n) r.beyond in
+    subst IsWholeVersion (sym same) (whole_encoded b n vs rest all.1 (omega arith))
 
 pub leaf_whole : (leaf : LeafNode) (octets : List ℕ) (k : ℕ) → BeginsAsLeaf leaf octets → k < number_in 2 4 octets → IsWholeVersion (after k (area octets))
 leaf_whole leaf octets k is lt =
     let says = leaf_says leaf octets is in
-    subst (λ (t : List ℕ). IsWholeVersion (after k t)) (sym (leaf_area leaf octets is)) (whole_spelled leaf.bounds k leaf.versions (pad_of leaf) is.valid.each (omega (arith, lt, says.count_is)))
+    subst (λ (t : List ℕ). IsWholeVersion (after k t)) (sym (leaf_area leaf octets is)) (whole_encoded leaf.bounds k leaf.versions (pad_of leaf) is.valid.each (omega (arith, lt, says.count_is)))
 
 -- so what has one that isn't whole is no leaf
 pub broken_none : (leaf : LeafNode) (octets : List ℕ) → IsBroken (area octets) (number_in 2 4 octets) → BeginsAsLeaf leaf octets → ⊥

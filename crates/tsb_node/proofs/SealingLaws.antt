@@ -66,8 +66,8 @@ block_made leaf page end is lt after =
     let n : ℕ = length leaf.versions in
     let es : List ℕ = entries leaf.versions in
     let node : List ℕ = body 1 0 n (ending leaf.bounds end) es in
-    let whole : laid 104 (octets_of 16 end) page ≡ node ++ replicate 32 0 = ap (laid 104 (octets_of 16 end)) is.page.spelled ∙ body_ended 1 0 n leaf.bounds es (replicate 32 0) end in
+    let whole : laid 104 (octets_of 16 end) page ≡ node ++ replicate 32 0 = ap (laid 104 (octets_of 16 end)) is.page.encoded ∙ body_ended 1 0 n leaf.bounds es (replicate 32 0) end in
     record {
       valid = leaf_ended leaf end is.valid lt after;
-      block = record { ended = refl; spelled = sealed_is node (laid 104 (octets_of 16 end) page) (body-size 1 0 n (ending leaf.bounds end) es is.valid.fits) whole };
+      block = record { ended = refl; encoded = sealed_is node (laid 104 (octets_of 16 end) page) (body-size 1 0 n (ending leaf.bounds end) es is.valid.fits) whole };
     }

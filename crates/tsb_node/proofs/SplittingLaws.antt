@@ -13,11 +13,11 @@ use Rattle.tsb_node.specs.Nodes.{IsBounds, header, seconds, body}
 use Rattle.tsb_node.specs.Leaves.{LeafNode, IsLeaf, BeginsAsLeaf, IsLeafPage, entry, entries, IsVersionOf}
 use Rattle.tsb_node.specs.inner.Reading.{value_size, after, area}
 use Rattle.tsb_node.specs.inner.Laying.{laid, IsFilling}
-use Rattle.tsb_node.specs.inner.Sides.{is_below, lies_within, side_of}
+use Rattle.tsb_node.specs.inner.Sides.{is_below, located_within, side_of}
 use Rattle.std.proofs.lemmas.List.Elements.{filter-append}
 use Rattle.tsb_node.proofs.Scanning.{key_said}
 use Rattle.version_model.proofs.api.Pushed.{get-push, IsRising-push}
-use Rattle.tsb_node.proofs.Entries.{entry_read, entry-size, after_spelled}
+use Rattle.tsb_node.proofs.Entries.{entry_read, entry-size, after_encoded}
 use Rattle.tsb_node.proofs.Leaves.{leaf_area, pad_of, header-size}
 use Rattle.tsb_node.proofs.Laying.{recounted, entries-push, all_push, replicate_add}
 use Rattle.tsb_node.proofs.WritingLaws.{filling_on, filled}
@@ -51,7 +51,7 @@ filter_skip p vs v e = filter-append p vs (v ∷ []) ∙ ap (λ (t : List Versio
 -- ---- what is kept
 
 abbrev pub keeps : Bounds → Version → Bool
-keeps b v = lies_within b v.key
+keeps b v = located_within b v.key
 
 -- of the first n versions those between the bounds have been copied
 pub record HasCopied (leaf : LeafNode) (b : Bounds) (n at kept : ℕ) (page : List ℕ) : Type 0 where
@@ -68,7 +68,7 @@ pub record IsNext (leaf : LeafNode) (n : ℕ) (rest : List ℕ) : Type 0 where
   pub is : slice_get leaf.versions n ≡ Some v
   pub valid : IsVersionOf leaf.bounds v
   pub more : List ℕ
-  pub spelled : rest ≡ entry v ++ more
+  pub encoded : rest ≡ entry v ++ more
   pub front : take (59 + value_size rest) rest ≡ entry v
 
 get_drop : (vs : List Version) (n : ℕ) → n < length vs → (v : Version) × (more : List Version) × (slice_get vs n ≡ Some v) × (drop n vs ≡ v ∷ more)
@@ -91,11 +91,11 @@ next_version leaf octets rest n is lt at =
     let valid : IsVersionOf leaf.bounds d.0 = all_at (IsVersionOf leaf.bounds) leaf.versions n d.0 is.valid.each d.2 in
     let more : List ℕ = entries d.1 ++ pad_of leaf in
     let here : rest ≡ entry d.0 ++ more =
-    at ∙ ap (after n) (leaf_area leaf octets is) ∙ after_spelled leaf.bounds n leaf.versions (pad_of leaf) is.valid.each (omega arith)
+    at ∙ ap (after n) (leaf_area leaf octets is) ∙ after_encoded leaf.bounds n leaf.versions (pad_of leaf) is.valid.each (omega arith)
     ∙ ap (λ (t : List Version). entries t ++ pad_of leaf) d.3 ∙ ap (λ (t : List ℕ). t ++ pad_of leaf) (entries-cons d.0 d.1) ∙ append_assoc (entry d.0) (entries d.1) (pad_of leaf) in
     let r = entry_read leaf.bounds d.0 more valid in
     let size : length (entry d.0) ≡ 59 + value_size rest = entry-size d.0 ∙ ap (λ (k : ℕ). 59 + k) (sym r.size ∙ ap value_size (sym here)) in
-    record { v = d.0; is = d.2; valid = valid; more = more; spelled = here; front = ap (take (59 + value_size rest)) here ∙ take_at (entry d.0) more (59 + value_size rest) size }
+    record { v = d.0; is = d.2; valid = valid; more = more; encoded = here; front = ap (take (59 + value_size rest)) here ∙ take_at (entry d.0) more (59 + value_size rest) size }
 
 pub key_of_entry : (b : Bounds) (v : Version) (bytes : List ℕ) → IsVersionOf b v → bytes ≡ entry v → number_in 40 0 bytes ≡ v.key
 key_of_entry b v bytes is e =
@@ -107,7 +107,7 @@ take_version [] n v e = absurd (none-some v e)
 take_version (w ∷ vs) zero v e = ap (λ (x : Version). x ∷ []) (same_Some w v e)
 take_version (w ∷ vs) (suc n) v e = ap (λ (k : ℕ). take k (w ∷ vs)) (let z : suc n + 1 ≡ suc (n + 1) = omega arith in z) ∙ ap (λ (t : List Version). w ∷ t) (take_version vs n v e)
 
-pub copied_skip : (leaf : LeafNode) (b : Bounds) (n at kept : ℕ) (page : List ℕ) (v : Version) → slice_get leaf.versions n ≡ Some v → lies_within b v.key ≡ false → HasCopied leaf b n at kept page → HasCopied leaf b (n + 1) at kept page
+pub copied_skip : (leaf : LeafNode) (b : Bounds) (n at kept : ℕ) (page : List ℕ) (v : Version) → slice_get leaf.versions n ≡ Some v → located_within b v.key ≡ false → HasCopied leaf b n at kept page → HasCopied leaf b (n + 1) at kept page
 copied_skip leaf b n at kept page v is out c =
     let same : filter (keeps b) (take (n + 1) leaf.versions) ≡ filter (keeps b) (take n leaf.versions) = ap (filter (keeps b)) (take_version leaf.versions n v is) ∙ filter_skip (keeps b) (take n leaf.versions) v out in
     record {
@@ -119,8 +119,8 @@ copied_skip leaf b n at kept page v is out c =
       is_in = λ w h. (let old = c.is_in w (subst (λ (t : List Version). Has t w) same h) in (old.0, omega (arith, old.1), old.2));
     }
 
-lies : (b : Bounds) (key : ℕ) → lies_within b key ≡ true → (b.low ≤ key) × IfSome b.high (λ n. key < n)
-lies b key e = elim (cases_lt key b.low) [
+located : (b : Bounds) (key : ℕ) → located_within b key ≡ true → (b.low ≤ key) × IfSome b.high (λ n. key < n)
+located b key e = elim (cases_lt key b.low) [
   | inl lt ↦ absurd (out (nat_lt key b.low) (is_below b.high key) (lt-ltb key b.low lt) e)
   | inr ge ↦ (ge, high b.high (second (nat_lt key b.low) (is_below b.high key) e))
 ]
@@ -137,14 +137,14 @@ lies b key e = elim (cases_lt key b.low) [
     high None e = tt
     high (Some n) e = elim (cases_lt key n) [ inl lt ↦ lt | inr ge ↦ absurd (cc (e, le-ltb key n ge)) ]
 
-pub copied_more : (leaf : LeafNode) (b : Bounds) (n at kept : ℕ) (page : List ℕ) (v : Version) → IsLeaf leaf → slice_get leaf.versions n ≡ Some v → lies_within b v.key ≡ true → at + length (entry v) ≤ 16352 → HasCopied leaf b n at kept page
+pub copied_more : (leaf : LeafNode) (b : Bounds) (n at kept : ℕ) (page : List ℕ) (v : Version) → IsLeaf leaf → slice_get leaf.versions n ≡ Some v → located_within b v.key ≡ true → at + length (entry v) ≤ 16352 → HasCopied leaf b n at kept page
     → HasCopied leaf b (n + 1) (at + length (entry v)) (kept + 1) (laid at (entry v) page)
 copied_more leaf b n at kept page v valid is within room c =
     let old : List Version = filter (keeps b) (take n leaf.versions) in
     let same : filter (keeps b) (take (n + 1) leaf.versions) ≡ old ++ v ∷ [] = ap (filter (keeps b)) (take_version leaf.versions n v is) ∙ filter_push (keeps b) (take n leaf.versions) v within in
     let more : entries (old ++ v ∷ []) ≡ entries old ++ entry v = entries-push old v in
     let was : IsVersionOf leaf.bounds v = all_at (IsVersionOf leaf.bounds) leaf.versions n v valid.each is in
-    let l = lies b v.key within in
+    let l = located b v.key within in
     let above : IsAbove old v.stamp = record { above = λ w h. (let k = c.is_in w h in valid.rising.rises k.0 n w v k.1 k.2 is) } in
     record {
       filling = rw (same, more) (filling_on (header 1 seconds 0 0 0 b) (entries old) (entry v) page at c.filling c.at_is (omega (arith, room, c.at_is)));
@@ -163,7 +163,7 @@ unfolding entries body
 copied_start leaf b page is = record {
   filling = record {
     size = header-size 1 seconds 0 0 0 b;
-    spelled = is.page.spelled ∙ append_assoc (header 1 seconds 0 0 0 b ++ []) (replicate 16232 0) (replicate 32 0) ∙ ap (λ (t : List ℕ). (header 1 seconds 0 0 0 b ++ []) ++ t) (sym (replicate_add 16232 32 0));
+    encoded = is.page.encoded ∙ append_assoc (header 1 seconds 0 0 0 b ++ []) (replicate 16232 0) (replicate 32 0) ∙ ap (λ (t : List ℕ). (header 1 seconds 0 0 0 b ++ []) ++ t) (sym (replicate_add 16232 32 0));
   };
   at_is = refl;
   kept_is = refl;
@@ -180,20 +180,20 @@ copied_end leaf b n at kept used page valid current done small sized c =
     let es : List ℕ = entries vs in
     let rep : List ℕ = replicate (16264 - length es) 0 in
     let h : List ℕ = header 1 seconds 0 kept used b in
-    let whole : page ≡ header 1 seconds 0 0 0 b ++ (es ++ rep) = c.filling.spelled ∙ append_assoc (header 1 seconds 0 0 0 b) es rep in
+    let whole : page ≡ header 1 seconds 0 0 0 b ++ (es ++ rep) = c.filling.encoded ∙ append_assoc (header 1 seconds 0 0 0 b) es rep in
     let counted : laid 6 (octets_of 2 used) (laid 4 (octets_of 2 kept) page) ≡ (h ++ es) ++ rep =
     ap (λ (t : List ℕ). laid 6 (octets_of 2 used) (laid 4 (octets_of 2 kept) t)) whole ∙ recounted 1 seconds 0 0 0 kept used b (es ++ rep) ∙ sym (append_assoc h es rep) in
     let size : used ≡ length es = omega (arith, sized, c.at_is) in
     let filling : IsFilling (header 1 seconds 0 (length vs) (length es) b) es (laid 6 (octets_of 2 used) (laid 4 (octets_of 2 kept) page)) = record {
       size = header-size 1 seconds 0 (length vs) (length es) b;
-      spelled = counted ∙ ap (λ (k : ℕ). (header 1 seconds 0 k used b ++ es) ++ rep) c.kept_is ∙ ap (λ (k : ℕ). (header 1 seconds 0 (length vs) k b ++ es) ++ rep) size;
+      encoded = counted ∙ ap (λ (k : ℕ). (header 1 seconds 0 k used b ++ es) ++ rep) c.kept_is ∙ ap (λ (k : ℕ). (header 1 seconds 0 (length vs) k b ++ es) ++ rep) size;
     } in
     let fits : length es ≤ 16232 = omega (arith, small, c.at_is) in
-    let spelled = filled 1 0 (length vs) b es (laid 6 (octets_of 2 used) (laid 4 (octets_of 2 kept) page)) filling fits in
+    let encoded = filled 1 0 (length vs) b es (laid 6 (octets_of 2 used) (laid 4 (octets_of 2 kept) page)) filling fits in
     subst (λ (t : List Version). IsLeafPage (record { bounds = b; versions = t }) (laid 6 (octets_of 2 used) (laid 4 (octets_of 2 kept) page))) all
     (record {
       valid = record { bounds = valid; each = c.each; rising = c.rising; fits = fits };
-      page = record { current = current; spelled = spelled };
+      page = record { current = current; encoded = encoded };
     })
 
 pub after_none : (bytes : List ℕ) → bytes ≡ after 0 bytes

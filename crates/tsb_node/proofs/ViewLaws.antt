@@ -18,12 +18,12 @@ use Rattle.version_model.proofs.api.LooksShown.{filter_has, has_filter}
 use Rattle.tsb_node.specs.declared.key_node.Under.{Under}
 use Rattle.tsb_node.specs.declared.column.PartAt.{PartAt}
 use Rattle.tsb_node.specs.declared.column.Spot.TheVariants.{InBlock}
-use Rattle.tsb_node.specs.Leaves.{LeafNode, IsLeaf, IsVersionOf, value_spelled, entry, entries}
+use Rattle.tsb_node.specs.Leaves.{LeafNode, IsLeaf, IsVersionOf, value_encoded, entry, entries}
 use Rattle.tsb_node.specs.Columns.{ColumnInPage, ColumnInBlock, IsColumn, IsOldColumn, BeginsAt, AreAscending, starts_of}
 use Rattle.tsb_node.specs.KeyNodes.{KeyNodeInPage, IsKeyNode, IsChildEntry}
 use Rattle.tsb_node.specs.Children.{IsUnder, high_of}
 use Rattle.tsb_node.specs.Parts.{IsSpot, IsPartAt}
-use Rattle.tsb_node.specs.inner.Sides.{is_below, lies_within, side_of}
+use Rattle.tsb_node.specs.inner.Sides.{is_below, located_within, side_of}
 use Rattle.tsb_node.specs.Splitting.{IsSide}
 use Rattle.tsb_node.specs.Views.{keys_between}
 use Rattle.tsb_node.proofs.Entries.{entry-size}
@@ -163,14 +163,14 @@ old_part c end stamp found e is =
 
 -- ---- sizes
 
-spelled-octets : (o : Option (List ℕ)) → length (value_spelled o) ≡ value_octets o
-spelled-octets None = refl
-spelled-octets (Some v) = refl
+encoded-octets : (o : Option (List ℕ)) → length (value_encoded o) ≡ value_octets o
+encoded-octets None = refl
+encoded-octets (Some v) = refl
 
 pub entries-octets : (vs : List Version) → length (entries vs) ≡ octets vs
 unfolding entries
 entries-octets [] = refl
-entries-octets (v ∷ vs) = omega (arith, entries-octets vs, entry-size v, spelled-octets v.value, length-append (entry v) (entries vs))
+entries-octets (v ∷ vs) = omega (arith, entries-octets vs, entry-size v, encoded-octets v.value, length-append (entry v) (entries vs))
 
 -- ---- sides
 
@@ -194,12 +194,12 @@ high_yes : (high : Option ℕ) (key : ℕ) → IfSome high (λ n. key < n) → i
 high_yes None key is = refl
 high_yes (Some n) key is = lt-ltb key n is
 
-within_true : (b : Bounds) (key : ℕ) → lies_within b key ≡ true → (b.low ≤ key) × IfSome b.high (λ n. key < n)
+within_true : (b : Bounds) (key : ℕ) → located_within b key ≡ true → (b.low ≤ key) × IfSome b.high (λ n. key < n)
 within_true b key is =
     let both = and_parts (not (nat_lt key b.low)) (is_below b.high key) is in
     (low_true key b.low both.0, high_true b.high key both.1)
 
-within_yes : (b : Bounds) (key : ℕ) → b.low ≤ key → IfSome b.high (λ n. key < n) → lies_within b key ≡ true
+within_yes : (b : Bounds) (key : ℕ) → b.low ≤ key → IfSome b.high (λ n. key < n) → located_within b key ≡ true
 within_yes b key low high = and_from (not (nat_lt key b.low)) (is_below b.high key) (low_yes key b.low low) (high_yes b.high key high)
 
 version_at : (leaf : LeafNode) (v : Version) → IsLeaf leaf → Has leaf.versions v → IsVersionOf leaf.bounds v
@@ -208,7 +208,7 @@ version_at leaf v valid has = each_get (IsVersionOf leaf.bounds) leaf.versions h
 -- what is copied is the side
 pub side_is : (leaf : LeafNode) (b : Bounds) → IsSide b leaf.versions (side_of leaf b).versions
 side_is leaf b =
-    let p : Version → Bool = λ v. lies_within b v.key in
+    let p : Version → Bool = λ v. located_within b v.key in
     record {
       is_in = λ v h. (filter_has p leaf.versions v h).0;
       only = λ v h. (let within = within_true b v.key (filter_has p leaf.versions v h).1 in record { low = within.0; high = within.1 });

@@ -24,7 +24,7 @@ filling_start kind level count used b page is =
     let split : replicate 16384 0 ≡ replicate 120 0 ++ replicate 16264 0 = replicate_add 120 16264 0 in
     record {
       size = size;
-      spelled = is ∙ ap (laid 0 h) split ∙ put_field 0 [] (replicate 120 0) (replicate 16264 0) h refl (length-replicate {A = ℕ} 120 0 ∙ sym size) ∙ ap (λ (t : List ℕ). t ++ replicate 16264 0) (sym (append-nil h));
+      encoded = is ∙ ap (laid 0 h) split ∙ put_field 0 [] (replicate 120 0) (replicate 16264 0) h refl (length-replicate {A = ℕ} 120 0 ∙ sym size) ∙ ap (λ (t : List ℕ). t ++ replicate 16264 0) (sym (append-nil h));
     }
 
 pub filling_on : (h es new page : List ℕ) (at : ℕ) → IsFilling h es page → at ≡ 120 + length es → length es + length new ≤ 16264 → IsFilling h (es ++ new) (laid at new page)
@@ -36,7 +36,7 @@ filling_on h es new page at f here fits =
     let front : length (h ++ es) ≡ at = omega (arith, length-append h es, f.size, here) in
     record {
       size = f.size;
-      spelled = ap (laid at new) (f.spelled ∙ ap (λ (t : List ℕ). (h ++ es) ++ t) zeros_part)
+      encoded = ap (laid at new) (f.encoded ∙ ap (λ (t : List ℕ). (h ++ es) ++ t) zeros_part)
           ∙ put_field at (h ++ es) (replicate (length new) 0) (replicate left 0) new front (length-replicate {A = ℕ} (length new) 0)
           ∙ sym (append_assoc (h ++ es) new (replicate left 0)) ∙ ap (λ (t : List ℕ). t ++ replicate left 0) (append_assoc h es new);
     }
@@ -47,7 +47,7 @@ filled kind level count b es page f fits =
     let h : List ℕ = header kind seconds level count (length es) b in
     let n : ℕ = 16232 - length es in
     let sum : 16264 - length es ≡ n + 32 = omega arith in
-    f.spelled ∙ ap (λ (t : List ℕ). (h ++ es) ++ t) (ap (λ (k : ℕ). replicate k 0) sum ∙ replicate_add n 32 0) ∙ sym (append_assoc (h ++ es) (replicate n 0) (replicate 32 0))
+    f.encoded ∙ ap (λ (t : List ℕ). (h ++ es) ++ t) (ap (λ (k : ℕ). replicate k 0) sum ∙ replicate_add n 32 0) ∙ sym (append_assoc (h ++ es) (replicate n 0) (replicate 32 0))
 
 -- ---- key nodes
 
@@ -61,7 +61,7 @@ child_laid at c page le =
 pub filling-size : (h es page : List ℕ) → IsFilling h es page → length es ≤ 16264 → length page ≡ 16384
 filling-size h es page f le =
     let z : length (replicate {A = ℕ} (16264 - length es) 0) ≡ 16264 - length es = length-replicate {A = ℕ} (16264 - length es) 0 in
-    ap length f.spelled ∙ omega (arith, f.size, z, length-append (h ++ es) (replicate (16264 - length es) 0), length-append h es)
+    ap length f.encoded ∙ omega (arith, f.size, z, length-append (h ++ es) (replicate (16264 - length es) 0), length-append h es)
 
 -- what types say of a child
 abbrev pub ChildFits : Child → Type 0
@@ -121,4 +121,4 @@ written_end node count used at n page can bounds counted sized done w current =
     subst (λ (t : List ℕ). IsFilling (header 3 seconds node.level (length cs) (length es) node.bounds) t page) (ap (flat_map child_octets) all)
     (subst (λ (k : ℕ). IsFilling (header 3 seconds node.level (length cs) k node.bounds) (flat_map child_octets (take n cs)) page) size
     (subst (λ (k : ℕ). IsFilling (header 3 seconds node.level k used node.bounds) (flat_map child_octets (take n cs)) page) counted w.filling)) in
-    record { valid = valid; page = record { current = current; spelled = filled 3 node.level (length cs) node.bounds es page f (omega (arith, children-count cs, valid.fits)) } }
+    record { valid = valid; page = record { current = current; encoded = filled 3 node.level (length cs) node.bounds es page f (omega (arith, children-count cs, valid.fits)) } }

@@ -9,7 +9,7 @@ use Rattle.tsb_node.specs.KeyNodes.{KeyNodeInPage, IsKeyNode, key_node_body}
 pub record BeginsAsKeyNode (node : KeyNodeInPage) (octets : List ℕ) : Type 0 where
   pub valid : IsKeyNode node
   pub last : List ℕ
-  pub spelled : octets ≡ key_node_body node ++ last
+  pub encoded : octets ≡ key_node_body node ++ last
 
 -- the key lies between the bounds
 pub record IsKeyWithin (b : Bounds) (key : ℕ) : Type 0 where

@@ -13,7 +13,7 @@ pub record BeginsWithEntries (count : ℕ) (octets : List ℕ) : Type 0 where
   pub counted : length some ≡ count
   pub each : AllByRecursion IsSomeEntry some
   pub rest : List ℕ
-  pub spelled : octets ≡ flat_map (λ one. one) some ++ rest
+  pub encoded : octets ≡ flat_map (λ one. one) some ++ rest
 
 -- between its header and its last 32 octets a node begins with as many entries as the header counts
 abbrev pub HoldsItsEntries : List ℕ → Type 0

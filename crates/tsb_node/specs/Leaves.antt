@@ -18,26 +18,26 @@ tag None = 0
 tag (Some value) = 1
 
 -- the octets of a value; an end has none
-abbrev pub value_spelled : Option (List ℕ) → List ℕ
-value_spelled None = []
-value_spelled (Some value) = value
+abbrev pub value_encoded : Option (List ℕ) → List ℕ
+value_encoded None = []
+value_encoded (Some value) = value
 
 -- a version in octets: key, stamp, tag, length, value
 unfoldable pub entry : Version → List ℕ
-entry v = octets_of 40 v.key ++ octets_of 16 v.stamp ++ (tag v.value ∷ []) ++ octets_of 2 (length (value_spelled v.value)) ++ value_spelled v.value
+entry v = octets_of 40 v.key ++ octets_of 16 v.stamp ++ (tag v.value ∷ []) ++ octets_of 2 (length (value_encoded v.value)) ++ value_encoded v.value
 
 -- a version of one of these keys, with a value of at most 3,072 octets: what a writer asks of a version beside what its types say
 pub record IsShortOf (b : Bounds) (v : Version) : Type 0 where
   pub low : b.low ≤ v.key
   pub high : IfSome b.high (λ n. v.key < n)
-  pub size : length (value_spelled v.value) ≤ 3072
+  pub size : length (value_encoded v.value) ≤ 3072
 
 -- the same, with a key of 40 octets, a stamp of 16, and a value of octets
 pub record IsVersionOf (b : Bounds) (v : Version) : Type 0 where
   pub short : IsShortOf b v
   pub key : v.key < 256 ^ 40
   pub stamp : v.stamp < 256 ^ 16
-  pub octets : AreOctets (value_spelled v.value)
+  pub octets : AreOctets (value_encoded v.value)
 
 -- the octets of all entries
 unfoldable pub entries : List Version → List ℕ
@@ -76,4 +76,4 @@ pub record IsLeafBlock (leaf : LeafNode) (octets : List ℕ) : Type 0 where
 pub record BeginsAsLeaf (leaf : LeafNode) (octets : List ℕ) : Type 0 where
   pub valid : IsLeaf leaf
   pub last : List ℕ
-  pub spelled : octets ≡ leaf_body leaf ++ last
+  pub encoded : octets ≡ leaf_body leaf ++ last

@@ -32,9 +32,9 @@ body kind level count bounds entries = header kind seconds level count (length e
 -- a page is current, and ends in 32 zeros
 pub record IsInPage (bounds : Bounds) (node octets : List ℕ) : Type 0 where
   pub current : bounds.end ≡ None
-  pub spelled : octets ≡ node ++ replicate 32 0
+  pub encoded : octets ≡ node ++ replicate 32 0
 
 -- a block has an end, and ends in the SHA-256 of all that stands before
 pub record IsInBlock (bounds : Bounds) (node octets : List ℕ) : Type 0 where
   pub ended : IsSome bounds.end
-  pub spelled : octets ≡ node ++ sha256 node
+  pub encoded : octets ≡ node ++ sha256 node

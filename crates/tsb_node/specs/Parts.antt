@@ -11,13 +11,13 @@ use Rattle.tsb_node.specs.Columns.{ColumnInPage, ColumnInBlock, IsColumn, IsOldC
 pub record BeginsAsColumn (column : ColumnInPage) (octets : List ℕ) : Type 0 where
   pub valid : IsColumn column
   pub last : List ℕ
-  pub spelled : octets ≡ column_body column ++ last
+  pub encoded : octets ≡ column_body column ++ last
 
 -- the octets begin as the block of the column does
 pub record BeginsAsOldColumn (column : ColumnInBlock) (octets : List ℕ) : Type 0 where
   pub valid : IsOldColumn column
   pub last : List ℕ
-  pub spelled : octets ≡ old_column_body column ++ last
+  pub encoded : octets ≡ old_column_body column ++ last
 
 -- the part, with its stamps, in which the stamp lies, of parts that go on up to an end
 pub record IsPartAt (parts : List Part) (end stamp : ℕ) (found : PartAt) : Type 0 where

@@ -54,7 +54,7 @@ fn kind_at(area: &[u8], at: usize) -> Result<PartKind, NotANode>
 /// The part at a place.
 pub fn part_in(area: &[u8], at: usize) -> Result<Part, NotANode>
     requires { at + 25 ≤ length area.now }
-    ensures spelled { IfOk result (λ p. IsPartEntry p × (drop at area.now ≡ part_octets p ++ drop (at + 25) area.now)) }
+    ensures encoded { IfOk result (λ p. IsPartEntry p × (drop at area.now ≡ part_octets p ++ drop (at + 25) area.now)) }
     ensures part { (p : PartValue) (rest : List ℕ) → IsPartEntry p → drop at area.now ≡ part_octets p ++ rest → result ≡ Ok p }
 {
     let Ok(kind) = kind_at(area, at) else {

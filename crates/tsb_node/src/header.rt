@@ -70,7 +70,7 @@ pub fn is_before_end(stamp: Stamp, end: Option<Stamp>) -> bool
 /// The high key in forty octets at a place, or none where each of them is FF.
 pub fn high_at(octets: &[u8], place: usize) -> Option<Key>
     requires { place + 40 ≤ length octets.now }
-    ensures spelled { bound_octets 40 result ≡ take 40 (drop place octets.now) }
+    ensures encoded { bound_octets 40 result ≡ take 40 (drop place octets.now) }
     ensures apart { IfSome result (λ n. n + 1 < 256 ^ 40) }
 {
     let key = key_at(octets, place);
@@ -84,7 +84,7 @@ pub fn high_at(octets: &[u8], place: usize) -> Option<Key>
 /// The end stamp in sixteen octets at a place, or none where each of them is FF.
 pub fn end_at(octets: &[u8], place: usize) -> Option<Stamp>
     requires { place + 16 ≤ length octets.now }
-    ensures spelled { bound_octets 16 result ≡ take 16 (drop place octets.now) }
+    ensures encoded { bound_octets 16 result ≡ take 16 (drop place octets.now) }
     ensures apart { IfSome result (λ n. n + 1 < 256 ^ 16) }
 {
     let stamp = stamp_at(octets, place);

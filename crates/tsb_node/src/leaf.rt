@@ -6,7 +6,7 @@ ghost use Rattle.tsb_node.specs.Children.{IsKeyWithin};
 ghost use Rattle.version_model.specs.Versions.{IsAbove};
 ghost use Rattle.tsb_node.specs.Pushing.{version, PushedTo, StaysUnlessPushed};
 ghost use Rattle.std.specs.Prelude.{◌≡◌, ◌≤◌, ◌+◌, length, option_map, IfSome, IfNone, IfOk, IfErr};
-ghost use Rattle.tsb_node.specs.Leaves.{LeafNode, BeginsAsLeaf, IsLeafPage, value_spelled};
+ghost use Rattle.tsb_node.specs.Leaves.{LeafNode, BeginsAsLeaf, IsLeafPage, value_encoded};
 ghost use Rattle.tsb_node.specs.Finding.{Finds};
 ghost use Rattle.std.specs.Result.{MatchResult};
 ghost use Rattle.tsb_node.specs.inner.Scanning.{IsLast, IsBroken, IsWholeVersion};
@@ -149,7 +149,7 @@ pub const ROOM: usize = 16_232;
 /// Appends a version of a key of the leaf in this page, later than all of its versions, where there is room for it, and returns whether
 /// there was. Fails only where the page isn't a leaf, but not in every such case. Where nothing was written the page is as it was.
 pub fn push(page: &mut Page, key: Key, stamp: Stamp, value: Option<&[u8]>) -> Result<bool, NotANode>
-    requires short { length (value_spelled (option_map (λ x. x.now) value)) ≤ 3072 }
+    requires short { length (value_encoded (option_map (λ x. x.now) value)) ≤ 3072 }
     ensures pushed { (leaf : LeafNode) → IsLeafPage leaf page.old → IsKeyWithin leaf.bounds key → IsAbove leaf.versions stamp
         → PushedTo leaf (version key stamp (option_map (λ x. x.now) value.entry)) page.new result }
     ensures stays { StaysUnlessPushed page.old page.new result }

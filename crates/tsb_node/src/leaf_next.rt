@@ -5,7 +5,7 @@ ghost use Rattle.version_model.specs.inner.Lower.{IsLower};
 ghost use Rattle.tsb_node.specs.Leaves.{LeafNode, BeginsAsLeaf};
 ghost use Rattle.tsb_node.specs.inner.Fields.{number_in};
 ghost use Rattle.tsb_node.specs.inner.Scanning.{IsWholeVersion};
-ghost use Rattle.tsb_node.specs.inner.Nexts.{IsLeastOf, TellsLive};
+ghost use Rattle.tsb_node.specs.inner.Nexts.{IsLeastOf, ReportsLive};
 ghost use Rattle.version_model.specs.Looks.{IsLeastLive};
 ghost use Rattle.std.specs.Result.{MatchResult};
 
@@ -18,7 +18,7 @@ use version_model::Stamp;
 // Whether the key has a value as of the stamp.
 fn is_live(octets: &[u8], key: Key, stamp: Stamp) -> Result<bool, NotANode>
     requires size { length octets.now ≡ 16384 }
-    ensures live { (leaf : LeafNode) → BeginsAsLeaf leaf octets.now → MatchResult result (TellsLive leaf.versions key stamp) (λ e. ⊥) }
+    ensures live { (leaf : LeafNode) → BeginsAsLeaf leaf octets.now → MatchResult result (ReportsLive leaf.versions key stamp) (λ e. ⊥) }
 {
     match find(octets, key, stamp) {
         Ok(Some(found)) => Ok(found.value.is_some()),
@@ -90,9 +90,9 @@ pub fn next(octets: &[u8], from: Key, stamp: Stamp) -> Result<Option<Key>, NotAN
         if live {
             return Ok(Some(key));
         }
-        let Some(behind) = key.next() else {
+        let Some(beyond) = key.next() else {
             return Ok(None);
         };
-        from = behind;
+        from = beyond;
     }
 }

@@ -3,7 +3,7 @@
 ghost use Rattle.std.specs.Prelude.{List, ℕ, ◌≡◌, ◌≤◌, ◌<◌, ◌+◌, ◌↔◌, length, take, drop, All, IfSome, IfNone, IsTrue, None};
 ghost use Rattle.tsb_node.specs.inner.Reading.{value_size};
 ghost use Rattle.tsb_node.specs.Leaves.{LeafNode, BeginsAsLeaf, IsLeafPage, IsLeafBlock};
-ghost use Rattle.tsb_node.specs.inner.Checking.{IsSpelled, AreEntries, IsAfter, IsLeafOf};
+ghost use Rattle.tsb_node.specs.inner.Checking.{IsEncoded, AreEntries, IsAfter, IsLeafOf};
 ghost use Rattle.tsb_node.specs.inner.NodeReading.{IsNode};
 
 use crate::header::{Header, is_below_high, is_key_below, is_of_kind, is_stamp_below};
@@ -15,8 +15,8 @@ use version_model::{Bounds, Stamp};
 
 /// How many octets the entry at the front takes, where it is one of a leaf of these bounds.
 fn version_size(bytes: &[u8], bounds: &Bounds) -> Option<usize>
-    ensures found { IfSome result (λ n. (n ≡ 59 + value_size bytes.now) × IsSpelled bounds.now bytes.now) }
-    ensures none { IfNone result (IsSpelled bounds.now bytes.now → ⊥) }
+    ensures found { IfSome result (λ n. (n ≡ 59 + value_size bytes.now) × IsEncoded bounds.now bytes.now) }
+    ensures none { IfNone result (IsEncoded bounds.now bytes.now → ⊥) }
 {
     let size = entry_size(bytes)?;
     if size > 59 + 3072 {

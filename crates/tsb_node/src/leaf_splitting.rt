@@ -4,7 +4,7 @@ ghost use Rattle.std.specs.Prelude.{◌≡◌, None, length};
 ghost use Rattle.tsb_node.specs.Nodes.{AreInOrder};
 ghost use Rattle.tsb_node.specs.Leaves.{LeafNode, BeginsAsLeaf};
 ghost use Rattle.tsb_node.specs.Splitting.{IsSidePage};
-ghost use Rattle.tsb_node.specs.inner.Sides.{lies_within};
+ghost use Rattle.tsb_node.specs.inner.Sides.{located_within};
 ghost use Rattle.std.specs.Result.{MatchResult};
 
 use crate::header::{is_below_high, is_key_below};
@@ -17,7 +17,7 @@ use version_model::Bounds;
 
 /// Whether a key lies between the bounds.
 fn is_within(key: Key, bounds: &Bounds) -> bool
-    ensures { result ≡ lies_within bounds.now key }
+    ensures { result ≡ located_within bounds.now key }
 {
     if is_key_below(key, bounds.low) {
         return false;

@@ -3,7 +3,7 @@
 ghost use Rattle.std.specs.Prelude.{◌≡◌, ◌≤◌, ◌<◌, ◌^◌, ◌+◌, length, option_map};
 ghost use Rattle.tsb_node.specs.Numbers.{octets_of, bound_octets};
 ghost use Rattle.route_model.specs.Octets.{AreOctets};
-ghost use Rattle.tsb_node.specs.Leaves.{tag, value_spelled, entry};
+ghost use Rattle.tsb_node.specs.Leaves.{tag, value_encoded, entry};
 ghost use Rattle.tsb_node.specs.inner.Laying.{laid};
 ghost use Rattle.tsb_node.specs.Pushing.{version};
 ghost use Rattle.tsb_node.specs.Nodes.{header, seconds, IsBounds, AreInOrder};
@@ -71,7 +71,7 @@ fn each_octet(octets: &[u8]) -> usize
 
 /// The octets of a value; an end has none.
 pub fn octets_in<'a>(value: Option<&'a [u8]>) -> &'a [u8]
-    ensures value { result.now ≡ value_spelled (option_map (λ x. x.now) value.entry) }
+    ensures value { result.now ≡ value_encoded (option_map (λ x. x.now) value.entry) }
     ensures octets { AreOctets result.now }
 {
     match value {
@@ -85,8 +85,8 @@ pub fn octets_in<'a>(value: Option<&'a [u8]>) -> &'a [u8]
 
 /// Writes an entry into a page from a place on.
 pub fn put_entry(page: &mut Page, at: usize, key: Key, stamp: Stamp, value: Option<&[u8]>)
-    requires short { length (value_spelled (option_map (λ x. x.now) value)) ≤ 3072 }
-    requires room { at + 59 + length (value_spelled (option_map (λ x. x.now) value)) ≤ 16384 }
+    requires short { length (value_encoded (option_map (λ x. x.now) value)) ≤ 3072 }
+    requires room { at + 59 + length (value_encoded (option_map (λ x. x.now) value)) ≤ 16384 }
     ensures { page.new ≡ laid at (entry (version key stamp (option_map (λ x. x.now) value.entry))) page.old }
 {
     let _octets = page.octets();

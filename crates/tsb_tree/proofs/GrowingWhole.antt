@@ -9,7 +9,7 @@ use Rattle.version_model.specs.Shows.{IsFrom}
 use Rattle.version_model.specs.Sizes.{octets, entry_octets, value_octets}
 use Rattle.version_model.specs.Versions.{Version, Has, IsAbove}
 use Rattle.version_model.proofs.api.Pushed.{Has-push_cases}
-use Rattle.tsb_node.specs.Leaves.{IsLeafPage, IsShortOf, value_spelled}
+use Rattle.tsb_node.specs.Leaves.{IsLeafPage, IsShortOf, value_encoded}
 use Rattle.tsb_node.proofs.ViewLaws.{entries-octets}
 use Rattle.worm_migration.specs.Settled.{ShelfSays}
 use Rattle.tsb_tree.specs.declared.whole.Whole.{Whole}
@@ -22,7 +22,7 @@ use Rattle.tsb_tree.proofs.Outliving.{none_outlived}
 use Rattle.tsb_tree.proofs.Shaping.{whole_with, short_push}
 use Rattle.tsb_tree.proofs.Taking.{takes_in_leaf, octets-push}
 
-pub value_size : (value : Option (List ℕ)) → length (value_spelled value) ≡ value_octets value
+pub value_size : (value : Option (List ℕ)) → length (value_encoded value) ≡ value_octets value
 value_size None = refl
 value_size (Some value) = refl
 

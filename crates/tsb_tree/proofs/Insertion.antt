@@ -42,7 +42,7 @@ use Rattle.tsb_tree.proofs.Growing.{TreeHas-grown, TreeHas-with, took, grown_roo
 use Rattle.tsb_tree.proofs.Laying.{put, put_other}
 use Rattle.tsb_tree.proofs.Saying.{reads_then}
 use Rattle.tsb_tree.proofs.Shelving.{says_on, honest_on}
-use Rattle.tsb_tree.proofs.Telling.{shown-set, get-set_other}
+use Rattle.tsb_tree.proofs.Reporting.{shown-set, get-set_other}
 
 module _ {O Pen Seen : Type 0} (device : OnceGhosts O Pen Seen) (shelf : Shelf O Pen Seen) (homes : ℕ) (s : Store) (all : List Version) (v : Version) (root level least : ℕ) (has : TreeHas s all root level least)
     (later : least ≤ v.stamp) (key : v.key + 1 < key_end) (in_time : v.stamp < stamp_end) (change : Change) (plans : Plans device shelf homes s v level root change) where
@@ -105,7 +105,7 @@ taken_in pages old new device shelf shelf' start shown s all change now is long 
   after = laid change.images.items shown;
   tree = record {
     store = record { nodes = plan.nodes; limit = change.unused; blocks = plan.blocks; next = next_of shelf' };
-    is = record { shows = shows; tells = plan.lays shown long is.tells; limit = sym next; honest = honest; says = plan.says; next = refl };
+    is = record { shows = shows; reports = plan.lays shown long is.reports; limit = sym next; honest = honest; says = plan.says; next = refl };
     has = plan.has;
   };
   others = λ page in_limit none. plan.own page in_limit none shown;
@@ -122,7 +122,7 @@ as_it_was pages old new E device most shelf shelf' F G start shown all root leve
       store = t;
       is = record {
         shows = reads.shown start shown tree.is.shows;
-        tells = tree.is.tells;
+        reports = tree.is.reports;
         limit = tree.is.limit ∙ sym reads.next;
         honest = honest_on device most shelf shelf' F G leaves tree.is.honest;
         says = says_on device most shelf shelf' F G s.blocks leaves tree.is.honest tree.is.says;

@@ -5,7 +5,7 @@ use Rattle.std.proofs.lemmas.Option.{same_Some, none-some}
 use Rattle.version_model.specs.declared.child.Child.{Child}
 use Rattle.tsb_node.specs.Columns.{AreAscending, BeginsAt}
 use Rattle.tsb_node.specs.KeyNodes.{lows_of}
-use Rattle.tsb_tree.specs.KeyNodes.{BeginsBehind}
+use Rattle.tsb_tree.specs.KeyNodes.{BeginsAfter}
 
 all_up : (m n : ℕ) (ns : List ℕ) → m ≤ n → AllByRecursion (λ later. n < later) ns → AllByRecursion (λ later. m < later) ns
 all_up m n [] le all = tt
@@ -45,8 +45,8 @@ insert_rises_at (c ∷ cs) (suc i) child new up at lt below =
     let first : c.low < child.low = all_get c.low cs i child up.0 at in
     (insert_above c.low cs (suc i) new up.0 (omega (arith, first, lt)), insert_rises_at cs i child new up.1 at lt below)
 
-pub insert_rises : (cs : List Child) (i : ℕ) (new : Child) → AreAscending (lows_of cs) → BeginsBehind cs i new.low → AreAscending (lows_of (insert cs (suc i) new))
-insert_rises cs i new up behind = insert_rises_at cs i behind.child new up behind.at behind.above behind.below
+pub insert_rises : (cs : List Child) (i : ℕ) (new : Child) → AreAscending (lows_of cs) → BeginsAfter cs i new.low → AreAscending (lows_of (insert cs (suc i) new))
+insert_rises cs i new up beyond = insert_rises_at cs i beyond.child new up beyond.at beyond.above beyond.below
 
 -- ---- a part of them
 
@@ -123,24 +123,24 @@ one_place_at (c ∷ cs) (suc i) (suc r) child key up at lt below le before above
     ap suc (one_place_at cs i r child key up.1 at lt below (omega (arith, le)) (λ j e less at_j. before (suc j) e (omega (arith, less)) at_j) above)
 
 -- a key begins after one child only
-pub one_place : (cs : List Child) (i r key : ℕ) → AreAscending (lows_of cs) → BeginsBehind cs i key → r ≤ length cs → ((j : ℕ) (c : Child) → j < r → slice_get cs j ≡ Some c → c.low ≤ key) → ((c : Child) → slice_get cs r ≡ Some c → key < c.low) → r ≡ suc i
-one_place cs i r key up behind le before above = one_place_at cs i r behind.child key up behind.at behind.above behind.below le before above
+pub one_place : (cs : List Child) (i r key : ℕ) → AreAscending (lows_of cs) → BeginsAfter cs i key → r ≤ length cs → ((j : ℕ) (c : Child) → j < r → slice_get cs j ≡ Some c → c.low ≤ key) → ((c : Child) → slice_get cs r ≡ Some c → key < c.low) → r ≡ suc i
+one_place cs i r key up beyond le before above = one_place_at cs i r beyond.child key up beyond.at beyond.above beyond.below le before above
 
 -- a key isn't the lowest of the child before those that begin above it
-pub behind_one : (cs : List Child) (r key : ℕ) (child : Child) → slice_get cs r ≡ Some child → (child.low ≡ key → ⊥) → ((j : ℕ) (c : Child) → j < suc r → slice_get cs j ≡ Some c → c.low ≤ key) → ((c : Child) → slice_get cs (suc r) ≡ Some c → key < c.low) → BeginsBehind cs r key
-behind_one cs r key child at ne before above = record { child = child; at = at; above = (let h = before r child (omega arith) at in omega (arith, h, ne)); below = above }
+pub after_one : (cs : List Child) (r key : ℕ) (child : Child) → slice_get cs r ≡ Some child → (child.low ≡ key → ⊥) → ((j : ℕ) (c : Child) → j < suc r → slice_get cs j ≡ Some c → c.low ≤ key) → ((c : Child) → slice_get cs (suc r) ≡ Some c → key < c.low) → BeginsAfter cs r key
+after_one cs r key child at ne before above = record { child = child; at = at; above = (let h = before r child (omega arith) at in omega (arith, h, ne)); below = above }
 
 -- a key below the second child isn't after a later one
-above_first : (c : Child) (cs : List Child) (j key : ℕ) → AreAscending (lows_of (c ∷ cs)) → ((d : Child) → slice_get cs 0 ≡ Some d → key < d.low) → BeginsBehind (c ∷ cs) (suc j) key → ⊥
+above_first : (c : Child) (cs : List Child) (j key : ℕ) → AreAscending (lows_of (c ∷ cs)) → ((d : Child) → slice_get cs 0 ≡ Some d → key < d.low) → BeginsAfter (c ∷ cs) (suc j) key → ⊥
 above_first c [] j key up below b = none-some b.child b.at
 above_first c (d ∷ cs) zero key up below b = (let e = ap (λ (x : Child). x.low) (same_Some d b.child b.at) in let h = below d refl in omega (arith, e, h, b.above))
 above_first c (d ∷ cs) (suc j) key up below b = (let e = all_get d.low cs j b.child up.1.0 b.at in let h = below d refl in omega (arith, e, h, b.above))
 
 -- two children after which a key begins are one
-pub one_behind : (cs : List Child) (i j key : ℕ) → AreAscending (lows_of cs) → BeginsBehind cs i key → BeginsBehind cs j key → i ≡ j
-one_behind [] i j key up a b = absurd (none-some a.child a.at)
-one_behind (c ∷ cs) zero zero key up a b = refl
-one_behind (c ∷ cs) zero (suc j) key up a b = absurd (above_first c cs j key up a.below b)
-one_behind (c ∷ cs) (suc i) zero key up a b = absurd (above_first c cs i key up b.below a)
-one_behind (c ∷ cs) (suc i) (suc j) key up a b = ap suc (one_behind cs i j key up.1
+pub one_after : (cs : List Child) (i j key : ℕ) → AreAscending (lows_of cs) → BeginsAfter cs i key → BeginsAfter cs j key → i ≡ j
+one_after [] i j key up a b = absurd (none-some a.child a.at)
+one_after (c ∷ cs) zero zero key up a b = refl
+one_after (c ∷ cs) zero (suc j) key up a b = absurd (above_first c cs j key up a.below b)
+one_after (c ∷ cs) (suc i) zero key up a b = absurd (above_first c cs i key up b.below a)
+one_after (c ∷ cs) (suc i) (suc j) key up a b = ap suc (one_after cs i j key up.1
     (record { child = a.child; at = a.at; above = a.above; below = a.below }) (record { child = b.child; at = b.at; above = b.above; below = b.below }))

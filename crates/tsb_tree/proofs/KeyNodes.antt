@@ -11,7 +11,7 @@ use Rattle.tsb_node.specs.Columns.{AreAscending}
 use Rattle.tsb_node.specs.Saying.{key_node_said}
 use Rattle.tsb_node.specs.Views.{PageSays, says_key_node, keys_between}
 use Rattle.tsb_node.proofs.api.Writing.{key_node_can}
-use Rattle.tsb_tree.specs.KeyNodes.{BeginsBehind, IsWide, AreKeyHalves}
+use Rattle.tsb_tree.specs.KeyNodes.{BeginsAfter, IsWide, AreKeyHalves}
 use Rattle.tsb_tree.proofs.Saying.{each_get}
 use Rattle.tsb_tree.proofs.KeyLists.{insert_each, insert_first, insert_rises, drop_each, take_rises, drop_rises, take_below, take_first, drop_first, first_below, rises_next}
 
@@ -34,15 +34,15 @@ key_node_says node b children octets are same is =
     rw (← same, ← are.low, ← are.high) says
 
 -- a node with a child more
-pub wide_put : (node put : KeyNodeSaid) (i : ℕ) (new : Child) → IsWide node → BeginsBehind node.children.items i new.low → IfSome node.bounds.high (λ n. new.low < n) → put.level ≡ node.level → put.bounds.low ≡ node.bounds.low → put.bounds.high ≡ node.bounds.high
+pub wide_put : (node put : KeyNodeSaid) (i : ℕ) (new : Child) → IsWide node → BeginsAfter node.children.items i new.low → IfSome node.bounds.high (λ n. new.low < n) → put.level ≡ node.level → put.bounds.low ≡ node.bounds.low → put.bounds.high ≡ node.bounds.high
     → put.children.items ≡ insert node.children.items (suc i) new → IsWide put
-wide_put node put i new wide behind lt level low high same = record {
+wide_put node put i new wide beyond lt level low high same = record {
   lowest = rw level wide.lowest;
   highest = rw level wide.highest;
   high = rw (high, low) wide.high;
   each = rw (high, same) (insert_each (λ c. IfSome node.bounds.high (λ n. c.low < n)) node.children.items (suc i) new wide.each lt);
-  first = rw (low, same) (insert_first node.bounds.low node.children.items i new behind.child behind.at wide.first);
-  rising = rw same (insert_rises node.children.items i new wide.rising behind);
+  first = rw (low, same) (insert_first node.bounds.low node.children.items i new beyond.child beyond.at wide.first);
+  rising = rw same (insert_rises node.children.items i new wide.rising beyond);
 }
 
 module _ (node front back : KeyNodeSaid) (wide : IsWide node) (halves : AreKeyHalves node front back) where

@@ -21,13 +21,13 @@ use Rattle.tsb_walk.specs.declared.page_place.PagePlace.{PagePlace}
 use Rattle.tsb_walk.specs.Shown.{AreShown, keys_at}
 use Rattle.tsb_walk.specs.PageWays.{IsLower}
 use Rattle.tsb_tree.specs.declared.change.Change.{Change}
-use Rattle.tsb_tree.specs.KeyNodes.{BeginsBehind}
+use Rattle.tsb_tree.specs.KeyNodes.{BeginsAfter}
 use Rattle.tsb_tree.specs.Plans.{Plans, KeepsOwn}
 use Rattle.tsb_tree.specs.Puts.{PutsOne, PutsTwo}
 use Rattle.tsb_tree.specs.Wholes.{keys}
 use Rattle.tsb_tree.proofs.Laying.{put, put_other}
 use Rattle.tsb_tree.proofs.Puts.{puts_one, puts_two}
-use Rattle.tsb_tree.proofs.Telling.{shown-set, get-set_other}
+use Rattle.tsb_tree.proofs.Reporting.{shown-set, get-set_other}
 
 module _ {O Pen Seen : Type 0} (device : Ghosts O Pen Seen) (shelf : Shelf O Pen Seen) (homes : ℕ) (s : Store) (v : Version) (level page : ℕ) (wide : Keys) (children : List Child) (i : ℕ) (child : Child)
     (at : s.nodes page ≡ Some (KeyNode (suc level) wide children)) (at_child : slice_get children i ≡ Some child) (from : child.low ≤ v.key)
@@ -136,8 +136,8 @@ below_next shown key place next lower k lt c at =
     omega (arith, high, is, lt)
 
 -- a new half of the child begins after it
-pub behind_child : (shown : List (List ℕ)) (key : ℕ) (place next : PagePlace) (lower : IsLower shown key place next) (new : ℕ) → next.low < new → new < high_or next.high → BeginsBehind lower.children lower.child.place new
-behind_child shown key place next lower new above below = record {
+pub after_child : (shown : List (List ℕ)) (key : ℕ) (place next : PagePlace) (lower : IsLower shown key place next) (new : ℕ) → next.low < new → new < high_or next.high → BeginsAfter lower.children lower.child.place new
+after_child shown key place next lower new above below = record {
   child = record { low = next.low; page = next.page };
   at = lower.child.at;
   above = above;

@@ -5,7 +5,7 @@ use Rattle.std.proofs.lemmas.Bool.{cases_eq}
 use Rattle.version_model.specs.declared.child.Child.{Child}
 use Rattle.version_model.specs.Versions.{Version}
 use Rattle.version_model.specs.Pages.{Keys, PageNode, KeyNode, Store, StandsIn, IsChildOf, AreChildren, child_keys, low_or}
-use Rattle.version_model.specs.Inserts.{LiesUnder, Splits, Became}
+use Rattle.version_model.specs.Inserts.{LocatedUnder, Splits, Became}
 use Rattle.version_model.proofs.api.Children.{key_stands, KeyStands, disjoint}
 use Rattle.version_model.proofs.api.ChildrenTwo.{front_child, key_node_written, get-take}
 
@@ -85,9 +85,9 @@ module _ (s t : Store) (level page : ℕ) (wide : Keys) (children : List Child) 
       let node : KeyNode (suc level) wide children ≡ KeyNode (suc level) k children = same_Some _ _ (sym at ∙ ks.at) in
       let same_keys : wide ≡ k = cc in
       let grows : s.limit ≤ t.limit = omega (arith, limit) in
-      let same : (p : ℕ) (x : PageNode) (inner : Keys) → p < s.limit → s.nodes p ≡ Some x → LiesUnder level inner x → t.nodes p ≡ Some x = λ p x inner in_limit at_x under. others p in_limit
+      let same : (p : ℕ) (x : PageNode) (inner : Keys) → p < s.limit → s.nodes p ≡ Some x → LocatedUnder level inner x → t.nodes p ≡ Some x = λ p x inner in_limit at_x under. others p in_limit
       (λ e. (let n' : KeyNode (suc level) wide children ≡ x = same_Some (KeyNode (suc level) wide children) x (sym at ∙ ap s.nodes (sym e) ∙ at_x) in
-      let l : LiesUnder level inner (KeyNode (suc level) wide children) = subst (LiesUnder level inner) (sym n') under in omega (arith, l.no_higher))) ∙ at_x in (
+      let l : LocatedUnder level inner (KeyNode (suc level) wide children) = subst (LocatedUnder level inner) (sym n') under in omega (arith, l.no_higher))) ∙ at_x in (
         mid_above k children n mid at_mid some ks.are,
         mid_below k children n mid at_mid some ks.are,
         rw (blocks, next) (key_node_written s.nodes t.nodes s.limit t.limit s.blocks s.next all grows level (front k mid) page (take n children)
@@ -118,7 +118,7 @@ module _ (s m t : Store) (v : Version) (level page : ℕ) (wide : Keys) (old : L
     others = λ all k stands p node in_limit at_node never.
         (let ks : KeyStands s.nodes s.limit s.blocks s.next all level k page old = (key_stands s.nodes s.limit s.blocks s.next all (suc level) k page level wide old at stands).1 in
         let h = ks.are.inside (child_keys k old 0 ks.are.first) ks.are.first (record { place = 0; at = ks.are.at_first; range = refl }) in
-        let not_page : p ≡ page → ⊥ = λ e. never (subst (LiesUnder (suc level) k) (same_Some (KeyNode (suc level) k old) node (sym ks.at ∙ ap s.nodes (sym e) ∙ at_node)) (record { no_higher = omega arith; low = omega arith; nonempty = omega (arith, h.0, h.1, h.2); high = omega arith })) in
+        let not_page : p ≡ page → ⊥ = λ e. never (subst (LocatedUnder (suc level) k) (same_Some (KeyNode (suc level) k old) node (sym ks.at ∙ ap s.nodes (sym e) ∙ at_node)) (record { no_higher = omega arith; low = omega arith; nonempty = omega (arith, h.0, h.1, h.2); high = omega arith })) in
         others p (omega (arith, one.limit_grows, in_limit)) not_page ∙ one.others all k stands p node in_limit at_node never);
   }
 

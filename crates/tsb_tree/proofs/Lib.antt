@@ -7,7 +7,7 @@ pub mod Growing
 pub mod Saying
 pub mod Shaping
 pub mod Shelving
-pub mod Telling
+pub mod Reporting
 pub mod Creating
 pub mod Halving
 pub mod Rooms
@@ -25,7 +25,7 @@ pub mod Insertion
 pub mod Roots
 pub mod Looks
 pub mod Beginning
-pub mod Wanting
+pub mod LackingRoom
 pub mod Needing
 pub mod Outliving
 pub mod Excluding

@@ -22,7 +22,7 @@ module _ {P : Type 0} (pages : Ghosts P) (held : P) (root level : ℕ) where
   at_root place page_is level_is keys_are blocks all v =
       let s = store_of blocks all v in
       record {
-        are_shown = v.tells;
+        are_shown = v.reports;
         stands = subst (λ (p : ℕ). StandsIn s all place.level (keys_at place) p) (sym page_is)
             (subst (λ (k : Keys). StandsIn s all place.level k root) (sym keys_are) (subst (λ (l : ℕ). StandsIn s all l all_keys root) (sym level_is) v.tree.stands));
       }

@@ -29,7 +29,7 @@ use Rattle.tsb_tree.specs.Raises.{RaiseRefusal, RootRefusal}
 use Rattle.tsb_tree.specs.Refusals.{ReadRefusal, LayoutRefusal, of_page}
 use Rattle.tsb_tree.specs.Shapes.{leaf_in_page}
 use Rattle.tsb_tree.specs.Wholes.{column_node, keys_of_whole, leaf_node}
-use Rattle.tsb_tree.specs.inner.Uses.{UsesForLeaf, UsesForHalf, UsesPages, WantsPages}
+use Rattle.tsb_tree.specs.inner.Uses.{UsesForLeaf, UsesForHalf, UsesPages, LacksPages}
 use Rattle.tsb_tree.proofs.Saying.{KeyNodeOf, key_node_of_page}
 
 -- what a column laid as one, or as two, uses
@@ -92,8 +92,8 @@ module _ (shown : List (List ℕ)) (v : Version) (place : PagePlace) (leaf stays
   leaf_uses next unused None uses = (0, split_by_time place leaf stays has filled what uses.0, omega (arith, uses.1))
   leaf_uses next unused (Some new) uses = (2, split_by_key place leaf stays has filled what uses.0, uses.1)
 
-  pub leaf_wants : (homes next : ℕ) → 10821 < octets stays → homes < next + 2 → WantsPages shown v place homes next
-  leaf_wants homes next much few = (2, inr (split_by_key place leaf stays has filled what much), few)
+  pub leaf_lacks : (homes next : ℕ) → 10821 < octets stays → homes < next + 2 → LacksPages shown v place homes next
+  leaf_lacks homes next much few = (2, inr (split_by_key place leaf stays has filled what much), few)
 
 -- a column that takes the version in place
 pub uses_none : (shown : List (List ℕ)) (v : Version) (place : PagePlace) (next unused : ℕ) (o : Option Child) → o ≡ None → unused ≡ next → StaysOne shown v place 0 → UsesPages shown v place next unused o
@@ -111,16 +111,16 @@ few_children shown key place next lower =
 
 -- what is needed below a key node is needed by it
 module _ (shown : List (List ℕ)) (v : Version) (place next : PagePlace) (lower : IsLower shown v.key place next) where
-  two_up : (n : ℕ) → BecomesTwo shown v next n → (length lower.children < 338) ⊎ (338 ≤ length lower.children) → (homes before : ℕ) → homes < before + n → WantsPages shown v place homes before
+  two_up : (n : ℕ) → BecomesTwo shown v next n → (length lower.children < 338) ⊎ (338 ≤ length lower.children) → (homes before : ℕ) → homes < before + n → LacksPages shown v place homes before
   two_up n two (inl room) homes before few = (n, inl (takes_half place next n lower room two), few)
   two_up n two (inr full) homes before few =
       let many : length lower.children ≡ 338 = (let most = few_children shown v.key place next lower in omega (arith, full, most)) in
       (suc n, inr (split_key_node place next n lower many two), omega (arith, few))
 
-  pub wants_up : (homes before : ℕ) → WantsPages shown v next homes before → WantsPages shown v place homes before
-  wants_up homes before wants = elim wants.1 [
-    | inl one ↦ (wants.0, inl (above_one place next wants.0 lower one), wants.2)
-    | inr two ↦ two_up wants.0 two (cases_lt (length lower.children) 338) homes before wants.2
+  pub lacks_up : (homes before : ℕ) → LacksPages shown v next homes before → LacksPages shown v place homes before
+  lacks_up homes before lacks = elim lacks.1 [
+    | inl one ↦ (lacks.0, inl (above_one place next lacks.0 lower one), lacks.2)
+    | inr two ↦ two_up lacks.0 two (cases_lt (length lower.children) 338) homes before lacks.2
   ]
 
   -- a key node that takes the new half of its child
@@ -142,9 +142,9 @@ module _ (shown : List (List ℕ)) (v : Version) (place next : PagePlace) (lower
   uses_up before change (Err e) kept half uses = tt
 
   -- a key node that is split, where no page is left for its new half
-  pub wants_half : (homes before unused : ℕ) (o : Option Child) → IsSome o → UsesPages shown v next before unused o → length lower.children ≡ 338 → homes ≤ unused → WantsPages shown v place homes before
-  wants_half homes before unused None some uses many few = absurd (false≢true some)
-  wants_half homes before unused (Some new) some uses many few = (suc uses.0, inr (split_key_node place next uses.0 lower many uses.1), omega (arith, uses.2, few))
+  pub lacks_half : (homes before unused : ℕ) (o : Option Child) → IsSome o → UsesPages shown v next before unused o → length lower.children ≡ 338 → homes ≤ unused → LacksPages shown v place homes before
+  lacks_half homes before unused None some uses many few = absurd (false≢true some)
+  lacks_half homes before unused (Some new) some uses many few = (suc uses.0, inr (split_key_node place next uses.0 lower many uses.1), omega (arith, uses.2, few))
 
 -- a node that becomes two leads to a leaf without room
 pub two_leads : (shown : List (List ℕ)) (v : Version) (place : PagePlace) (n : ℕ) → BecomesTwo shown v place n → LeadsToFullLeaf shown v place
@@ -166,12 +166,12 @@ one_needed shown v place next unused None none uses = uses
 one_needed shown v place next unused (Some new) none uses = absurd (cc)
 
 -- what a root needs its tree does
-pub tree_wants : (shown : List (List ℕ)) (v : Version) (root level homes next : ℕ) → AtRoot (λ place. WantsPages shown v place homes next) root level → (n : ℕ) × AtRoot (λ place. NeedsPages shown v place n) root level × (homes < next + n)
-tree_wants shown v root level homes next at =
-    let wants = at.4 in
-    elim wants.1 [
-      | inl one ↦ (wants.0, (at.0, at.1, at.2, at.3, same_root at.0 wants.0 one), wants.2)
-      | inr two ↦ (suc wants.0, (at.0, at.1, at.2, at.3, new_root at.0 wants.0 two), (let few = wants.2 in omega (arith, few)))
+pub tree_lacks : (shown : List (List ℕ)) (v : Version) (root level homes next : ℕ) → AtRoot (λ place. LacksPages shown v place homes next) root level → (n : ℕ) × AtRoot (λ place. NeedsPages shown v place n) root level × (homes < next + n)
+tree_lacks shown v root level homes next at =
+    let lacks = at.4 in
+    elim lacks.1 [
+      | inl one ↦ (lacks.0, (at.0, at.1, at.2, at.3, same_root at.0 lacks.0 one), lacks.2)
+      | inr two ↦ (suc lacks.0, (at.0, at.1, at.2, at.3, new_root at.0 lacks.0 two), (let few = lacks.2 in omega (arith, few)))
     ]
 
 -- reading needs no pages
@@ -222,8 +222,8 @@ module _ (shown : List (List ℕ)) (v : Version) (root level next unused : ℕ) 
     pub tree_grown_uses : (made : ℕ) → made ≡ unused + 1 → (n : ℕ) × AtRoot (λ place. NeedsPages shown v place n) root level × (made ≡ next + n)
     tree_grown_uses made is = (suc root_two.0, above, (let used = root_two.2 in omega (arith, is, used)))
 
-    pub tree_grown_wants : (homes : ℕ) → homes ≤ unused → (n : ℕ) × AtRoot (λ place. NeedsPages shown v place n) root level × (homes < next + n)
-    tree_grown_wants homes few = (suc root_two.0, above, (let used = root_two.2 in omega (arith, few, used)))
+    pub tree_grown_lacks : (homes : ℕ) → homes ≤ unused → (n : ℕ) × AtRoot (λ place. NeedsPages shown v place n) root level × (homes < next + n)
+    tree_grown_lacks homes few = (suc root_two.0, above, (let used = root_two.2 in omega (arith, few, used)))
 
 pub page_never_once : (e : PageError) (refusal : AppendError) → of_page e ≡ errors.Once refusal → ⊥
 page_never_once pages.Fault refusal is = cc

@@ -20,7 +20,7 @@ use Rattle.tsb_tree.specs.Shelves.{TakesOn}
 use Rattle.tsb_tree.specs.Wholes.{IsAt, AreHalves, column_node, leaf_node}
 use Rattle.tsb_tree.proofs.Laying.{written, apart, IsAt-written, IsAt-first, others_written}
 use Rattle.tsb_tree.proofs.Splitting.{Splits-column_one, Splits-column_two}
-use Rattle.tsb_tree.proofs.Telling.{shown-set, get-set_other}
+use Rattle.tsb_tree.proofs.Reporting.{shown-set, get-set_other}
 
 -- a column's pages, laid over others
 pub whole_shown : (page current : ℕ) (w : Whole) (old new : List Image) (shown : List (List ℕ)) (nodes : ℕ → Option PageNode) → LaysWhole page current w old new → page < length (laid old shown) → current < length (laid old shown)

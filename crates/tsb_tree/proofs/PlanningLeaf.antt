@@ -7,7 +7,7 @@ use Rattle.once_store.specs.Shelves.{next_of}
 use Rattle.tsb_node.specs.Views.{PageSays}
 use Rattle.version_model.specs.Versions.{Version, IsAbove, Adds}
 use Rattle.version_model.specs.Pages.{Keys, PageNode, CurrentLeaf, ColumnNode, ColumnStands, Store, StandsIn, column, current_range}
-use Rattle.version_model.specs.Inserts.{LiesUnder, Splits, KeepsOthers}
+use Rattle.version_model.specs.Inserts.{LocatedUnder, Splits, KeepsOthers}
 use Rattle.version_model.proofs.api.Pushed.{Adds-push}
 use Rattle.version_model.proofs.api.Shown.{Shows-adds}
 use Rattle.version_model.proofs.api.Standing.{column_of}
@@ -17,7 +17,7 @@ use Rattle.tsb_tree.specs.Layouts.{LaysLeaf}
 use Rattle.tsb_tree.specs.Plans.{Plans}
 use Rattle.tsb_tree.proofs.Laying.{put, put_same, put_other}
 use Rattle.tsb_tree.proofs.Taking.{past_later}
-use Rattle.tsb_tree.proofs.Telling.{shown-set, get-set_other}
+use Rattle.tsb_tree.proofs.Reporting.{shown-set, get-set_other}
 
 module _ (s : Store) (v : Version) (old : List Version) (k : Keys) (page : ℕ) (c : ColumnStands s.nodes s.limit s.blocks s.next old k page) where
   -- what the leaf says then
@@ -64,7 +64,7 @@ module _ (s : Store) (v : Version) (old : List Version) (k : Keys) (page : ℕ) 
       let e_keys : k' ≡ k = cc in
       let low : k'.low ≡ k.low = ap (λ (x : Keys). x.low) e_keys in
       let high : k'.high ≡ k.high = ap (λ (x : Keys). x.high) e_keys in
-      let other : p ≡ c.current → ⊥ = λ e. never (subst (LiesUnder 1 k') (same_Some (CurrentLeaf k c.start c.versions) node (sym c.at_current ∙ ap s.nodes (sym e) ∙ at))
+      let other : p ≡ c.current → ⊥ = λ e. never (subst (LocatedUnder 1 k') (same_Some (CurrentLeaf k c.start c.versions) node (sym c.at_current ∙ ap s.nodes (sym e) ∙ at))
       (record { no_higher = omega arith; low = omega arith; nonempty = omega arith; high = omega arith })) in
       put_other c.current more s.nodes p other ∙ at
 

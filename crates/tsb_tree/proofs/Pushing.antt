@@ -36,7 +36,7 @@ abbrev pub can_after : {P O Pen Seen : Type 0} (pages : Ghosts P) (a b : P) (dev
 can_after pages a b device shelf s all place v F reads can = record {
   start = can.start;
   shown = can.shown;
-  is = record { shows = reads.shown can.start can.shown can.is.shows; tells = can.is.tells; limit = can.is.limit ∙ sym reads.next; honest = can.is.honest; says = can.is.says; next = can.is.next };
+  is = record { shows = reads.shown can.start can.shown can.is.shows; reports = can.is.reports; limit = can.is.limit ∙ sym reads.next; honest = can.is.honest; says = can.is.says; next = can.is.next };
   stands = can.stands;
   above = can.above;
   bounded = can.bounded;

@@ -28,24 +28,24 @@ use Rattle.tsb_walk.specs.declared.error.NodeError.TheVariants as walks
 use Rattle.tsb_tree.specs.declared.change.Change.{Change}
 use Rattle.tsb_tree.specs.declared.error.TreeError.{TreeError}
 use Rattle.tsb_tree.specs.declared.error.TreeError.TheVariants as errors
-use Rattle.tsb_tree.specs.KeyNodes.{BeginsBehind}
+use Rattle.tsb_tree.specs.KeyNodes.{BeginsAfter}
 use Rattle.tsb_tree.specs.NoRoom.{LeadsToFullLeaf, in_child}
 use Rattle.tsb_tree.specs.Outlived.{LeadsToOutdated, outdated_below}
 use Rattle.tsb_tree.specs.Plans.{Plans, CanBeLaid}
 use Rattle.tsb_tree.specs.Puts.{PutsChild, PutRefusal}
-use Rattle.tsb_tree.specs.Raises.{HasRoomBehind, RaiseRefusal}
+use Rattle.tsb_tree.specs.Raises.{HasRoomAfter, RaiseRefusal}
 use Rattle.tsb_tree.specs.Refusals.{ReadRefusal, PlanRefusal, BlamesNone, of_node}
 use Rattle.tsb_tree.specs.Shelves.{KeepsShelf}
 use Rattle.tsb_tree.specs.Stores.{IsStore}
 use Rattle.tsb_tree.specs.Takers.{CanTake}
 use Rattle.tsb_tree.proofs.Shelving.{leaves_more}
-use Rattle.tsb_tree.proofs.KeyPlans.{plans_child, plans_put_one, plans_put_two, IsFound, found_lower, below_next, behind_child, below_high}
+use Rattle.tsb_tree.proofs.KeyPlans.{plans_child, plans_put_one, plans_put_two, IsFound, found_lower, below_next, after_child, below_high}
 
 -- reading leaves the store as it is
 pub store_read : {P O Pen Seen : Type 0} (pages : Ghosts P) (a b : P) (F : Type 0) (device : OnceGhosts O Pen Seen) (shelf : Shelf O Pen Seen) (start : Start) (shown : List (List ℕ)) (s : Store) → OnlyReads pages a b F → IsStore pages a device shelf start shown s → IsStore pages b device shelf start shown s
 store_read pages a b F device shelf start shown s reads is = record {
   shows = reads.shown start shown is.shows;
-  tells = is.tells;
+  reports = is.reports;
   limit = is.limit ∙ sym reads.next;
   honest = is.honest;
   says = is.says;
@@ -60,7 +60,7 @@ take_lower pages a b F device shelf s all place next v reads can above lower = r
   start = can.start;
   shown = can.shown;
   is = store_read pages a b F device shelf can.start can.shown s reads can.is;
-  stands = (found_lower can.shown s all v.key place next can.is.tells lower above can.stands).stands;
+  stands = (found_lower can.shown s all v.key place next can.is.reports lower above can.stands).stands;
   above = can.above;
   bounded = can.bounded;
   inside = can.inside;
@@ -115,17 +115,17 @@ module _ {O Pen Seen : Type 0} (device : OnceGhosts O Pen Seen) (shelf : Shelf O
       rw some at (plans.splits.stands all (all ++ v ∷ []) (keys_at next) (record { low = lower.has.low; high = lower.has.high }) later (Adds-push all v) found.stands) in (is.0, is.1)
 
   -- its new half begins among its keys
-  abbrev pub half_room : IsAbove all v.stamp → (new : Child) → change.new ≡ Some new → HasRoomBehind shown place new
+  abbrev pub half_room : IsAbove all v.stamp → (new : Child) → change.new ≡ Some new → HasRoomAfter shown place new
   half_room later new some = record {
     children = lower.children;
     says = lower.says;
     at = lower.child.place;
-    behind = behind_child shown v.key place next lower new.low (became later new some).0 (became later new some).1;
+    beyond = after_child shown v.key place next lower new.low (became later new some).0 (became later new some).1;
     below = omega (arith, (became later new some).1, found.high);
   }
 
   by_half : (o : Option Child) → change.new ≡ o → IsAbove all v.stamp → (next' level' : ℕ) (result : Result Change TreeError) → (change.new ≡ None → result ≡ Ok change)
-      → ((new : Child) (room : HasRoomBehind shown place new) → change.new ≡ Some new → IfOk result (PutsChild place.page place.level (keys_at place) (insert room.children (suc room.at) new) change))
+      → ((new : Child) (room : HasRoomAfter shown place new) → change.new ≡ Some new → IfOk result (PutsChild place.page place.level (keys_at place) (insert room.children (suc room.at) new) change))
       → (IsSome change.new → OnOk result (place.page < homes)) → IfOk result (CanBeLaid homes next' level') → IfOk result (λ made. Plans device shelf homes s v place.level place.page made)
   by_half None none later next' level' result kept puts inside laid = subst (λ (r : Result Change TreeError). IfOk r (λ made. Plans device shelf homes s v place.level place.page made)) (sym (kept none)) (raised_same none)
   by_half (Some new) some later next' level' (Ok made) kept puts inside laid = raised_half new some made (inside (subst (λ (o : Option Child). IsSome o) (sym some) refl)) laid.inside (puts new (half_room later new some) some)
@@ -133,7 +133,7 @@ module _ {O Pen Seen : Type 0} (device : OnceGhosts O Pen Seen) (shelf : Shelf O
 
   -- what is raised is planned
   pub raised : IsAbove all v.stamp → (next' level' : ℕ) (result : Result Change TreeError) → (change.new ≡ None → result ≡ Ok change)
-      → ((new : Child) (room : HasRoomBehind shown place new) → change.new ≡ Some new → IfOk result (PutsChild place.page place.level (keys_at place) (insert room.children (suc room.at) new) change))
+      → ((new : Child) (room : HasRoomAfter shown place new) → change.new ≡ Some new → IfOk result (PutsChild place.page place.level (keys_at place) (insert room.children (suc room.at) new) change))
       → (IsSome change.new → OnOk result (place.page < homes)) → IfOk result (CanBeLaid homes next' level') → IfOk result (λ made. Plans device shelf homes s v place.level place.page made)
   raised = by_half change.new refl
 
@@ -245,18 +245,18 @@ walk_honest walks.NeedsRecovery down is never = tt
 walk_honest walks.OutOfMemory down is never = tt
 
 -- what was read is the node that has room
-pub said_behind : (node : KeyNodeSaid) (shown : List (List ℕ)) (place : PagePlace) (new : Child) (room : HasRoomBehind shown place new) → KeyNode node.level (keys_between node.bounds) node.children.items ≡ KeyNode place.level (keys_at place) room.children → BeginsBehind node.children.items room.at new.low
-said_behind node shown place new room same =
+pub said_after : (node : KeyNodeSaid) (shown : List (List ℕ)) (place : PagePlace) (new : Child) (room : HasRoomAfter shown place new) → KeyNode node.level (keys_between node.bounds) node.children.items ≡ KeyNode place.level (keys_at place) room.children → BeginsAfter node.children.items room.at new.low
+said_after node shown place new room same =
     let children : node.children.items ≡ room.children = cc in
-    subst (λ (cs : List Child). BeginsBehind cs room.at new.low) (sym children) room.behind
+    subst (λ (cs : List Child). BeginsAfter cs room.at new.low) (sym children) room.beyond
 
-pub said_below : (node : KeyNodeSaid) (shown : List (List ℕ)) (place : PagePlace) (new : Child) (room : HasRoomBehind shown place new) → KeyNode node.level (keys_between node.bounds) node.children.items ≡ KeyNode place.level (keys_at place) room.children → IfSome node.bounds.high (λ n. new.low < n)
+pub said_below : (node : KeyNodeSaid) (shown : List (List ℕ)) (place : PagePlace) (new : Child) (room : HasRoomAfter shown place new) → KeyNode node.level (keys_between node.bounds) node.children.items ≡ KeyNode place.level (keys_at place) room.children → IfSome node.bounds.high (λ n. new.low < n)
 said_below node shown place new room same =
     let k : keys_between node.bounds ≡ keys_at place = cc in
     let high : high_or node.bounds.high ≡ high_or place.high = ap (λ (x : Keys). x.high) k in
     below_high node.bounds.high new.low (omega (arith, high, room.below))
 
-pub said_puts : (node : KeyNodeSaid) (shown : List (List ℕ)) (place : PagePlace) (new : Child) (room : HasRoomBehind shown place new) (change made : Change) → KeyNode node.level (keys_between node.bounds) node.children.items ≡ KeyNode place.level (keys_at place) room.children
+pub said_puts : (node : KeyNodeSaid) (shown : List (List ℕ)) (place : PagePlace) (new : Child) (room : HasRoomAfter shown place new) (change made : Change) → KeyNode node.level (keys_between node.bounds) node.children.items ≡ KeyNode place.level (keys_at place) room.children
     → PutsChild place.page node.level (keys_between node.bounds) (insert node.children.items (suc room.at) new) change made → PutsChild place.page place.level (keys_at place) (insert room.children (suc room.at) new) change made
 said_puts node shown place new room change made same puts =
     let children : node.children.items ≡ room.children = cc in
@@ -271,5 +271,5 @@ can_said pages a device shelf s all place v can above =
     let k = key_node_of s.nodes s.limit s.blocks s.next all place.level (keys_at place) place.page above can.stands in
     let level : suc k.level ≡ place.level = omega (arith, k.is) in (
       k.children,
-      subst (λ (m : ℕ). Says can.shown place.page (KeyNode m (keys_at place) k.children)) level (can.is.tells place.page _ k.at),
+      subst (λ (m : ℕ). Says can.shown place.page (KeyNode m (keys_at place) k.children)) level (can.is.reports place.page _ k.at),
     )

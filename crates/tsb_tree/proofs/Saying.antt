@@ -29,7 +29,7 @@ pub record ColumnOf (octets : List ℕ) (k : Keys) (parts : List Part) (start cu
 
 pub column_of : (octets : List ℕ) (node : PageNode) (k : Keys) (parts : List Part) (start current : ℕ) → node ≡ ColumnNode k parts start current → PageSays octets node → ColumnOf octets k parts start current
 column_of octets _ k parts start current e (says_leaf leaf p) = absurd (cc)
-column_of octets _ k parts start current e (says_column column p) = record { column = column; page = p; begins = record { valid = p.valid; last = replicate 32 0; spelled = p.page.spelled }; is = e }
+column_of octets _ k parts start current e (says_column column p) = record { column = column; page = p; begins = record { valid = p.valid; last = replicate 32 0; encoded = p.page.encoded }; is = e }
 column_of octets _ k parts start current e (says_key_node node p) = absurd (cc)
 
 pub record LeafOf (octets : List ℕ) (k : Keys) (start : ℕ) (versions : List Version) : Type 0 where
@@ -51,7 +51,7 @@ pub record KeyNodeOf (octets : List ℕ) (level : ℕ) (k : Keys) (children : Li
 pub key_node_of_page : (octets : List ℕ) (node : PageNode) (level : ℕ) (k : Keys) (children : List Child) → node ≡ KeyNode level k children → PageSays octets node → KeyNodeOf octets level k children
 key_node_of_page octets _ level k children e (says_leaf leaf p) = absurd (cc)
 key_node_of_page octets _ level k children e (says_column column p) = absurd (cc)
-key_node_of_page octets _ level k children e (says_key_node node p) = record { node = node; page = p; begins = record { valid = p.valid; last = replicate 32 0; spelled = p.page.spelled }; is = e }
+key_node_of_page octets _ level k children e (says_key_node node p) = record { node = node; page = p; begins = record { valid = p.valid; last = replicate 32 0; encoded = p.page.encoded }; is = e }
 
 pub each_get : {X : Type 0} (P : X → Type 0) (xs : List X) (i : ℕ) (x : X) → AllByRecursion P xs → slice_get xs i ≡ Some x → P x
 each_get P [] i x all at = absurd (none-some x at)

@@ -6,7 +6,7 @@ use Rattle.version_model.specs.Versions.{Version}
 use Rattle.version_model.specs.Ranges.{high_or}
 use Rattle.version_model.specs.Blocks.{Grows}
 use Rattle.version_model.specs.Pages.{Keys, CurrentLeaf, ColumnNode, KeyNode, Stands, column, key_node, Store, StandsIn}
-use Rattle.version_model.specs.Inserts.{LiesUnder, Splits, KeepsOthers}
+use Rattle.version_model.specs.Inserts.{LocatedUnder, Splits, KeepsOthers}
 use Rattle.tsb_tree.specs.declared.whole.Whole.{Whole}
 use Rattle.tsb_tree.specs.Wholes.{keys, WholeHas, IsAt, Takes, AreHalves, keys_of_whole, column_node, leaf_node}
 
@@ -62,9 +62,9 @@ module _ (s t : Store) (v : Version) (page current : ℕ) (w w' : Whole) (is : I
       let f = found s all 1 k page current w is stands in
       let low : k.low ≡ w.low = ap (λ (x : Keys). x.low) (sym f.same_keys) in
       let high : k.high ≡ high_or w.high = ap (λ (x : Keys). x.high) (sym f.same_keys) in
-      let not_page : p ≡ page → ⊥ = λ e. never (subst (LiesUnder 1 k) (same_Some (column_node w current) node (sym is.at ∙ ap s.nodes (sym e) ∙ at))
+      let not_page : p ≡ page → ⊥ = λ e. never (subst (LocatedUnder 1 k) (same_Some (column_node w current) node (sym is.at ∙ ap s.nodes (sym e) ∙ at))
       (record { no_higher = omega arith; low = omega arith; nonempty = omega arith; high = omega arith })) in
-      let not_current : p ≡ current → ⊥ = λ e. never (subst (LiesUnder 1 k) (same_Some (leaf_node w) node (sym is.at_current ∙ ap s.nodes (sym e) ∙ at))
+      let not_current : p ≡ current → ⊥ = λ e. never (subst (LocatedUnder 1 k) (same_Some (leaf_node w) node (sym is.at_current ∙ ap s.nodes (sym e) ∙ at))
       (record { no_higher = omega arith; low = omega arith; nonempty = omega arith; high = omega arith })) in
       others p in_limit not_page not_current ∙ at
 

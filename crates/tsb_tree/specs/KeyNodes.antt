@@ -7,7 +7,7 @@ use Rattle.tsb_node.specs.Columns.{BeginsAt, AreAscending}
 use Rattle.tsb_node.specs.KeyNodes.{lows_of}
 
 -- a key is among those of the child at a place, above the lowest of them, by the children that there are
-pub record BeginsBehind (children : List Child) (place key : ℕ) : Type 0 where
+pub record BeginsAfter (children : List Child) (place key : ℕ) : Type 0 where
   pub child : Child
   pub at : slice_get children place ≡ Some child
   pub above : child.low < key

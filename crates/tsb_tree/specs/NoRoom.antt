@@ -26,15 +26,15 @@ abbrev pub AtRoot : (PagePlace → Type 0) → ℕ → ℕ → Type 0
 AtRoot fact root level = (place : PagePlace) × (place.page ≡ root) × (place.level ≡ level) × (keys_at place ≡ all_keys) × fact place
 
 -- an error that means a lack of pages, of blocks or of levels
-abbrev pub IsForWant : TreeError → Type 0
-IsForWant errors.StampBack = ⊥
-IsForWant errors.TooHigh = Unit {0}
-IsForWant (errors.BadNode page) = ⊥
-IsForWant (errors.Damaged block) = ⊥
-IsForWant (errors.Pages pages.PagesFull) = Unit {0}
-IsForWant (errors.Pages pages.TooManyImages) = ⊥
-IsForWant (errors.Pages pages.OutOfMemory) = ⊥
-IsForWant (errors.Pages pages.Fault) = ⊥
-IsForWant (errors.Pages pages.NeedsRecovery) = ⊥
-IsForWant (errors.Once refusal) = Unit {0}
-IsForWant errors.OutOfMemory = ⊥
+abbrev pub IsForRoom : TreeError → Type 0
+IsForRoom errors.StampBack = ⊥
+IsForRoom errors.TooHigh = Unit {0}
+IsForRoom (errors.BadNode page) = ⊥
+IsForRoom (errors.Damaged block) = ⊥
+IsForRoom (errors.Pages pages.PagesFull) = Unit {0}
+IsForRoom (errors.Pages pages.TooManyImages) = ⊥
+IsForRoom (errors.Pages pages.OutOfMemory) = ⊥
+IsForRoom (errors.Pages pages.Fault) = ⊥
+IsForRoom (errors.Pages pages.NeedsRecovery) = ⊥
+IsForRoom (errors.Once refusal) = Unit {0}
+IsForRoom errors.OutOfMemory = ⊥

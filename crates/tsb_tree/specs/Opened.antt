@@ -31,5 +31,5 @@ pub record ShowsVersions {P : Type 0} (pages : Ghosts P) (held : P) (blocks : �
   pub nodes : ℕ → Option PageNode
   pub limit : ℕ
   pub next : ℕ
-  pub tells : AreShown shown nodes
+  pub reports : AreShown shown nodes
   pub tree : TreeStands (record { nodes = nodes; limit = limit; blocks = blocks; next = next }) all root level

@@ -12,15 +12,15 @@ use Rattle.tsb_walk.specs.Shown.{Says, keys_at}
 use Rattle.tsb_tree.specs.declared.change.Change.{Change}
 use Rattle.tsb_tree.specs.declared.error.TreeError.{TreeError}
 use Rattle.tsb_tree.specs.declared.error.TreeError.TheVariants as errors
-use Rattle.tsb_tree.specs.KeyNodes.{BeginsBehind}
+use Rattle.tsb_tree.specs.KeyNodes.{BeginsAfter}
 
 -- The page says a key node of its level and its keys, and the new half of one of its children begins among that child's keys, above
 -- the lowest of them.
-pub record HasRoomBehind (shown : List (List ℕ)) (place : PagePlace) (new : Child) : Type 0 where
+pub record HasRoomAfter (shown : List (List ℕ)) (place : PagePlace) (new : Child) : Type 0 where
   pub children : List Child
   pub says : Says shown place.page (KeyNode place.level (keys_at place) children)
   pub at : ℕ
-  pub behind : BeginsBehind children at new.low
+  pub beyond : BeginsAfter children at new.low
   pub below : new.low < high_or place.high
 
 -- one image more is laid, by which the next page that was never used says a root of all keys above an old one and its new half

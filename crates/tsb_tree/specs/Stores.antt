@@ -20,7 +20,7 @@ ReadsAlone pages old new result = OnlyReads pages old new (result ≡ Err (error
 -- the store is what the shown pages and the settled blocks say, up to where pages and blocks are in use
 pub record IsStore {P : Type 0} (pages : Ghosts P) (held : P) {O Pen Seen : Type 0} (device : OnceGhosts O Pen Seen) (shelf : Shelf O Pen Seen) (start : Start) (shown : List (List ℕ)) (s : Store) : Type 0 where
   pub shows : pages.shows held start shown
-  pub tells : AreShown shown s.nodes
+  pub reports : AreShown shown s.nodes
   pub limit : s.limit ≡ pages.next held
   pub honest : device.honest (disk_of shelf) (pen_of shelf)
   pub says : ShelfSays device shelf s.blocks

@@ -34,9 +34,9 @@ pub record AreFirst (page : ℕ) (images : List Image) : Type 0 where
 
 -- These pages show a tree of no version, whatever blocks say: its root is a column in this page, its leaf is in the next one, and a version
 -- to come may have any stamp. Nothing is stated of any page but these two.
-pub record TellsFirst (pages : List (List ℕ)) (page : ℕ) : Type 0 where
+pub record ReportsFirst (pages : List (List ℕ)) (page : ℕ) : Type 0 where
   pub nodes : ℕ → Option PageNode
-  pub tells : AreShown pages nodes
+  pub reports : AreShown pages nodes
   pub own : (n : ℕ) → n < page → nodes n ≡ None
   pub has : (blocks : ℕ → Option BlockNode) (next : ℕ) → TreeHas (record { nodes = nodes; limit = page + 2; blocks = blocks; next = next }) [] page 1 0
 
@@ -46,7 +46,7 @@ pub record ShowsTree {P : Type 0} (pages : Ghosts P) (held : P) (start : Start) 
   pub shown : List (List ℕ)
   pub shows : pages.shows held start shown
   pub nodes : ℕ → Option PageNode
-  pub tells : AreShown shown nodes
+  pub reports : AreShown shown nodes
   pub own : (n : ℕ) → n < root → nodes n ≡ None
   pub has : (blocks : ℕ → Option BlockNode) (next : ℕ) → TreeHas (record { nodes = nodes; limit = pages.next held; blocks = blocks; next = next }) [] root level least
 

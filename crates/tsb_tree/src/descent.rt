@@ -15,16 +15,16 @@ ghost use Rattle.tsb_walk.specs.PageWays.{IsLower};
 ghost use Rattle.tsb_walk.specs.Shown.{Says, HasKey, keys_at};
 ghost use Rattle.tsb_tree.specs.KeyNodes.{IsWide};
 ghost use Rattle.tsb_tree.specs.InPlace.{IsInPlace};
-ghost use Rattle.tsb_tree.specs.NoRoom.{IsForWant, LeadsToFullColumn, LeadsToFullLeaf};
+ghost use Rattle.tsb_tree.specs.NoRoom.{IsForRoom, LeadsToFullColumn, LeadsToFullLeaf};
 ghost use Rattle.tsb_tree.specs.Outlived.{LeadsToOutdated};
 ghost use Rattle.tsb_tree.specs.Plans.{CanBeLaid, Plans};
 ghost use Rattle.tsb_tree.specs.Puts.{PutsChild};
-ghost use Rattle.tsb_tree.specs.Raises.{HasRoomBehind, RaiseRefusal};
+ghost use Rattle.tsb_tree.specs.Raises.{HasRoomAfter, RaiseRefusal};
 ghost use Rattle.tsb_tree.specs.Refusals.{IsHonest, PlanRefusal, ReadRefusal};
 ghost use Rattle.tsb_tree.specs.Shelves.{HasNoneBlank, KeepsShelf, SpendsOne};
 ghost use Rattle.tsb_tree.specs.Stores.{ReadsAlone};
 ghost use Rattle.tsb_tree.specs.Takers.{CanTake};
-ghost use Rattle.tsb_tree.specs.inner.Uses.{UsesForHalf, UsesPages, WantsPages};
+ghost use Rattle.tsb_tree.specs.inner.Uses.{UsesForHalf, UsesPages, LacksPages};
 
 use crate::change::Change;
 use crate::error::TreeError;
@@ -83,15 +83,15 @@ fn raise<P: Pages>(
 ) -> Result<Change, TreeError>
     requires distinct { AreDistinct (pages_of change.images.items) }
     ensures kept { change.new ≡ None → result ≡ Ok change }
-    ensures puts { (start : Start) (shown : List (List ℕ)) (new : ChildValue) (room : HasRoomBehind shown place.now new) → P.shows pages.old start shown → change.new ≡ Some new
+    ensures puts { (start : Start) (shown : List (List ℕ)) (new : ChildValue) (room : HasRoomAfter shown place.now new) → P.shows pages.old start shown → change.new ≡ Some new
         → IfOk result (PutsChild place.now.page place.now.level (keys_at place.now) (insert room.children (suc room.at) new) change) }
     ensures uses { (start : Start) (shown : List (List ℕ)) (level : ℕ) (k : Keys) (children : List ChildValue) → P.shows pages.old start shown → Says shown place.now.page (KeyNode level k children)
         → IsSome change.new → IfOk result (λ put. UsesForHalf (length children) change.unused put.unused put.new) }
-    ensures wants_pages { (start : Start) (shown : List (List ℕ)) (level : ℕ) (k : Keys) (children : List ChildValue) → P.shows pages.old start shown → Says shown place.now.page (KeyNode level k children)
+    ensures lacks_pages { (start : Start) (shown : List (List ℕ)) (level : ℕ) (k : Keys) (children : List ChildValue) → P.shows pages.old start shown → Says shown place.now.page (KeyNode level k children)
         → result ≡ Err (TreeError.Pages PageError.PagesFull) → length children ≡ 338 }
     ensures inside { IsSome change.new → OnOk result (place.now.page < P.homes pages.old) }
     ensures laid { (next level : ℕ) → CanBeLaid (P.homes pages.old) next level change → IfOk result (CanBeLaid (P.homes pages.old) next (suc level)) }
-    ensures honest { (start : Start) (shown : List (List ℕ)) → P.shows pages.old start shown → ((new : ChildValue) → change.new ≡ Some new → HasRoomBehind shown place.now new) → IsHonest result }
+    ensures honest { (start : Start) (shown : List (List ℕ)) → P.shows pages.old start shown → ((new : ChildValue) → change.new ≡ Some new → HasRoomAfter shown place.now new) → IsHonest result }
     ensures refused { IfErr result (RaiseRefusal (P.homes pages.old) change.unused (P.down pages.old)) }
     ensures reads { ReadsAlone P.Pages pages.old pages.new result }
 {
@@ -129,10 +129,10 @@ pub fn plan_under<P: Pages, O: OnceDisk + Drop>(
     ensures honest { (s : Store) (all : List Version) → CanTake P.Pages pages.old O.OnceDisk shelf.old s all place.now (version_of entry.now) → IsHonest result }
     ensures uses { (s : Store) (all : List Version) → (can : CanTake P.Pages pages.old O.OnceDisk shelf.old s all place.now (version_of entry.now))
         → IfOk result (λ change. UsesPages can.shown (version_of entry.now) place.now (P.next pages.old) change.unused change.new) }
-    ensures wants_pages { (s : Store) (all : List Version) → (can : CanTake P.Pages pages.old O.OnceDisk shelf.old s all place.now (version_of entry.now))
-        → result ≡ Err (TreeError.Pages PageError.PagesFull) → WantsPages can.shown (version_of entry.now) place.now (P.homes pages.old) (P.next pages.old) }
-    ensures wants { (s : Store) (all : List Version) → (can : CanTake P.Pages pages.old O.OnceDisk shelf.old s all place.now (version_of entry.now))
-        → IfErr result (λ e. IsForWant e → LeadsToFullLeaf can.shown (version_of entry.now) place.now) }
+    ensures lacks_pages { (s : Store) (all : List Version) → (can : CanTake P.Pages pages.old O.OnceDisk shelf.old s all place.now (version_of entry.now))
+        → result ≡ Err (TreeError.Pages PageError.PagesFull) → LacksPages can.shown (version_of entry.now) place.now (P.homes pages.old) (P.next pages.old) }
+    ensures lacks { (s : Store) (all : List Version) → (can : CanTake P.Pages pages.old O.OnceDisk shelf.old s all place.now (version_of entry.now))
+        → IfErr result (λ e. IsForRoom e → LeadsToFullLeaf can.shown (version_of entry.now) place.now) }
     ensures light { (s : Store) (all : List Version) → (can : CanTake P.Pages pages.old O.OnceDisk shelf.old s all place.now (version_of entry.now))
         → IfOk result (λ change. (IsInPlace (P.next pages.old) change × (shelf.new ≡ shelf.old)) ⊎ LeadsToFullLeaf can.shown (version_of entry.now) place.now) }
     ensures burns { (s : Store) (all : List Version) → (can : CanTake P.Pages pages.old O.OnceDisk shelf.old s all place.now (version_of entry.now)) → (shelf.new ≡ shelf.old) ⊎ LeadsToOutdated can.shown (version_of entry.now) place.now }

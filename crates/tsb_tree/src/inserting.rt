@@ -11,7 +11,7 @@ ghost use Rattle.version_model.specs.Versions.{Version};
 ghost use Rattle.tsb_tree.specs.Inserted.{PlansTree, TakenIn};
 ghost use Rattle.tsb_tree.specs.InPlace.{IsInPlace, TakesInPlace};
 ghost use Rattle.tsb_tree.specs.Needs.{NeedsLevel, NeedsPages};
-ghost use Rattle.tsb_tree.specs.NoRoom.{AtRoot, IsForWant, LeadsToFullColumn, LeadsToFullLeaf};
+ghost use Rattle.tsb_tree.specs.NoRoom.{AtRoot, IsForRoom, LeadsToFullColumn, LeadsToFullLeaf};
 ghost use Rattle.tsb_tree.specs.Outlived.{LeadsToOutdated};
 ghost use Rattle.tsb_tree.specs.Raises.{TreeCanBeLaid};
 ghost use Rattle.tsb_tree.specs.Refusals.{IsHonest, InsertRefusal};
@@ -32,9 +32,9 @@ use tsb_walk::PagePlace;
 use version_model::{Entry, Stamp};
 
 // The stamp right after another one.
-fn stamp_behind(stamp: Stamp) -> Stamp
+fn stamp_after(stamp: Stamp) -> Stamp
     requires end { stamp + 1 < 2 ^ 128 }
-    ensures behind { result ≡ stamp + 1 }
+    ensures beyond { result ≡ stamp + 1 }
 {
     let time = stamp.time();
     match stamp.order().checked_add(1) {
@@ -61,9 +61,9 @@ fn planned<P: Pages, O: OnceDisk + Drop>(
     ensures honest { (start : Start) (shown : List (List ℕ)) (all : List Version) → TreeShown P.Pages pages.old O.OnceDisk shelf.old start shown all place.root place.level place.least → place.least ≤ entry.now.stamp → IsHonest result }
     ensures high { (start : Start) (shown : List (List ℕ)) (all : List Version) → TreeShown P.Pages pages.old O.OnceDisk shelf.old start shown all place.root place.level place.least → place.least ≤ entry.now.stamp
         → result ≡ Err TreeError.TooHigh → AtRoot (NeedsLevel shown (version_of entry.now)) place.root place.level }
-    ensures wants { (start : Start) (shown : List (List ℕ)) (all : List Version) → TreeShown P.Pages pages.old O.OnceDisk shelf.old start shown all place.root place.level place.least → place.least ≤ entry.now.stamp
-        → IfErr result (λ e. IsForWant e → AtRoot (LeadsToFullLeaf shown (version_of entry.now)) place.root place.level) }
-    ensures wants_pages { (start : Start) (shown : List (List ℕ)) (all : List Version) → TreeShown P.Pages pages.old O.OnceDisk shelf.old start shown all place.root place.level place.least → place.least ≤ entry.now.stamp
+    ensures lacks { (start : Start) (shown : List (List ℕ)) (all : List Version) → TreeShown P.Pages pages.old O.OnceDisk shelf.old start shown all place.root place.level place.least → place.least ≤ entry.now.stamp
+        → IfErr result (λ e. IsForRoom e → AtRoot (LeadsToFullLeaf shown (version_of entry.now)) place.root place.level) }
+    ensures lacks_pages { (start : Start) (shown : List (List ℕ)) (all : List Version) → TreeShown P.Pages pages.old O.OnceDisk shelf.old start shown all place.root place.level place.least → place.least ≤ entry.now.stamp
         → result ≡ Err (TreeError.Pages PageError.PagesFull) → (n : ℕ) × AtRoot (λ root. NeedsPages shown (version_of entry.now) root n) place.root place.level × (P.homes pages.old < P.next pages.old + n) }
     ensures once { (start : Start) (shown : List (List ℕ)) (all : List Version) → TreeShown P.Pages pages.old O.OnceDisk shelf.old start shown all place.root place.level place.least → place.least ≤ entry.now.stamp
         → (refusal : AppendError) → result ≡ Err (TreeError.Once refusal) → AtRoot (LeadsToOutdated shown (version_of entry.now)) place.root place.level }
@@ -94,7 +94,7 @@ fn planned<P: Pages, O: OnceDisk + Drop>(
     let root = PagePlace::root(place.root, place.level);
     let change = plan_under(pages, shelf, alloc, &root, entry)?;
     let stamp = entry.stamp;
-    let least = stamp_behind(stamp);
+    let least = stamp_after(stamp);
     let half = change.new;
     let Some(new) = half else {
         let same = TreePlace { least, ..place };
@@ -141,9 +141,9 @@ pub fn insert<P: Pages, O: OnceDisk + Drop>(
     ensures honest { (start : Start) (shown : List (List ℕ)) (all : List Version) → TreeShown P.Pages pages.old O.OnceDisk shelf.old start shown all place.root place.level place.least → IsHonest result }
     ensures high { (start : Start) (shown : List (List ℕ)) (all : List Version) → TreeShown P.Pages pages.old O.OnceDisk shelf.old start shown all place.root place.level place.least
         → result ≡ Err TreeError.TooHigh → AtRoot (NeedsLevel shown (version_of entry.now)) place.root place.level }
-    ensures wants { (start : Start) (shown : List (List ℕ)) (all : List Version) → TreeShown P.Pages pages.old O.OnceDisk shelf.old start shown all place.root place.level place.least
-        → IfErr result (λ e. IsForWant e → AtRoot (LeadsToFullLeaf shown (version_of entry.now)) place.root place.level) }
-    ensures wants_pages { (start : Start) (shown : List (List ℕ)) (all : List Version) → TreeShown P.Pages pages.old O.OnceDisk shelf.old start shown all place.root place.level place.least
+    ensures lacks { (start : Start) (shown : List (List ℕ)) (all : List Version) → TreeShown P.Pages pages.old O.OnceDisk shelf.old start shown all place.root place.level place.least
+        → IfErr result (λ e. IsForRoom e → AtRoot (LeadsToFullLeaf shown (version_of entry.now)) place.root place.level) }
+    ensures lacks_pages { (start : Start) (shown : List (List ℕ)) (all : List Version) → TreeShown P.Pages pages.old O.OnceDisk shelf.old start shown all place.root place.level place.least
         → result ≡ Err (TreeError.Pages PageError.PagesFull) → (n : ℕ) × AtRoot (λ root. NeedsPages shown (version_of entry.now) root n) place.root place.level × (P.homes pages.old < P.next pages.old + n) }
     ensures once { (start : Start) (shown : List (List ℕ)) (all : List Version) → TreeShown P.Pages pages.old O.OnceDisk shelf.old start shown all place.root place.level place.least
         → (refusal : AppendError) → result ≡ Err (TreeError.Once refusal) → AtRoot (LeadsToOutdated shown (version_of entry.now)) place.root place.level }

@@ -5,7 +5,7 @@ ghost use Rattle.version_model.specs.Pages.{KeyNode};
 ghost use Rattle.tsb_node.specs.Columns.{AreAscending};
 ghost use Rattle.tsb_node.specs.KeyNodes.{lows_of};
 ghost use Rattle.tsb_node.specs.Views.{PageSays, keys_between};
-ghost use Rattle.tsb_tree.specs.KeyNodes.{BeginsBehind, IsWide, AreKeyHalves};
+ghost use Rattle.tsb_tree.specs.KeyNodes.{BeginsAfter, IsWide, AreKeyHalves};
 
 use disk_models::Page;
 use route_model::Key;
@@ -39,11 +39,11 @@ fn is_below(key: Key, high: Option<Key>) -> bool
 
 /// After which child of a node a new one goes that begins at a key. None where the key isn't among the keys of a child, above the lowest of
 /// them.
-pub fn place_behind(node: &KeyNodeSaid, key: Key) -> Option<usize>
+pub fn place_after(node: &KeyNodeSaid, key: Key) -> Option<usize>
     requires rising { AreAscending (lows_of node.now.children.items) }
-    ensures behind { IfSome result (λ place. BeginsBehind node.now.children.items place key) }
+    ensures beyond { IfSome result (λ place. BeginsAfter node.now.children.items place key) }
     ensures below { OnSome result (IfSome node.now.bounds.high (λ n. key < n)) }
-    ensures none { IfNone result ((place : ℕ) → BeginsBehind node.now.children.items place key → IfSome node.now.bounds.high (λ n. key < n) → ⊥) }
+    ensures none { IfNone result ((place : ℕ) → BeginsAfter node.now.children.items place key → IfSome node.now.bounds.high (λ n. key < n) → ⊥) }
 {
     let above = place_above(&node.children, key);
     if above == 0 {
@@ -85,9 +85,9 @@ pub fn key_halves(node: KeyNodeSaid) -> Result<(KeyNodeSaid, KeyNodeSaid), Alloc
     let level = node.level;
     let bounds = node.bounds;
     let mut children = node.children;
-    let behind = children.split_off(169)?;
-    let low = behind[0].low;
-    key_fits(behind[1].low);
+    let beyond = children.split_off(169)?;
+    let low = beyond[0].low;
+    key_fits(beyond[1].low);
     let front = KeyNodeSaid {
         level,
         bounds: bounds_between(bounds.low, Some(low)),
@@ -96,7 +96,7 @@ pub fn key_halves(node: KeyNodeSaid) -> Result<(KeyNodeSaid, KeyNodeSaid), Alloc
     let back = KeyNodeSaid {
         level,
         bounds: bounds_between(low, bounds.high),
-        children: behind,
+        children: beyond,
     };
     Ok((front, back))
 }

@@ -9,7 +9,7 @@ ghost use Rattle.version_model.specs.Sizes.{entry_octets};
 ghost use Rattle.version_model.specs.Versions.{Version};
 ghost use Rattle.tsb_walk.specs.Shown.{HasKey};
 ghost use Rattle.tsb_tree.specs.InPlace.{IsInPlace};
-ghost use Rattle.tsb_tree.specs.NoRoom.{IsForWant, LeadsToFullColumn, LeadsToFullLeaf};
+ghost use Rattle.tsb_tree.specs.NoRoom.{IsForRoom, LeadsToFullColumn, LeadsToFullLeaf};
 ghost use Rattle.tsb_tree.specs.Outlived.{IsOutdated, LeadsToOutdated};
 ghost use Rattle.tsb_tree.specs.Plans.{CanBeLaid, Plans};
 ghost use Rattle.tsb_tree.specs.Read.{IsFilled, IsLeafOf};
@@ -17,7 +17,7 @@ ghost use Rattle.tsb_tree.specs.Refusals.{IsHonest, PlanRefusal};
 ghost use Rattle.tsb_tree.specs.Shelves.{HasNoneBlank, KeepsShelf, SpendsOne};
 ghost use Rattle.tsb_tree.specs.Stores.{ReadsAlone};
 ghost use Rattle.tsb_tree.specs.Takers.{CanTake};
-ghost use Rattle.tsb_tree.specs.inner.Uses.{UsesPages, WantsPages};
+ghost use Rattle.tsb_tree.specs.inner.Uses.{UsesPages, LacksPages};
 
 use crate::change::Change;
 use crate::current_leaf::{LeafImage, current_leaf};
@@ -52,8 +52,8 @@ fn plan_splits<P: Pages, O: OnceDisk + Drop>(
         → IsFilled place.now leaf.now.image (version_of entry.now) → IsHonest result }
     ensures uses { (start : Start) (shown : List (List ℕ)) → P.shows pages.old start shown → slice_get shown leaf.now.page ≡ Some leaf.now.image → IsFilled place.now leaf.now.image (version_of entry.now)
         → IfOk result (λ change. UsesPages shown (version_of entry.now) place.now (P.next pages.old) change.unused change.new) }
-    ensures wants_pages { (start : Start) (shown : List (List ℕ)) → P.shows pages.old start shown → slice_get shown leaf.now.page ≡ Some leaf.now.image → IsFilled place.now leaf.now.image (version_of entry.now)
-        → result ≡ Err (TreeError.Pages PageError.PagesFull) → WantsPages shown (version_of entry.now) place.now (P.homes pages.old) (P.next pages.old) }
+    ensures lacks_pages { (start : Start) (shown : List (List ℕ)) → P.shows pages.old start shown → slice_get shown leaf.now.page ≡ Some leaf.now.image → IsFilled place.now leaf.now.image (version_of entry.now)
+        → result ≡ Err (TreeError.Pages PageError.PagesFull) → LacksPages shown (version_of entry.now) place.now (P.homes pages.old) (P.next pages.old) }
     ensures burns { (shelf.new ≡ shelf.old) ⊎ IsOutdated place.now leaf.now.image (version_of entry.now) }
     ensures once { (refusal : AppendError) → result ≡ Err (TreeError.Once refusal) → IsOutdated place.now leaf.now.image (version_of entry.now) }
     ensures none_left { O.honest (disk_of shelf.old) (pen_of shelf.old) → HasNoneBlank O.OnceDisk shelf.old → IsOutdated place.now leaf.now.image (version_of entry.now) → IsErr result }
@@ -92,10 +92,10 @@ pub fn plan_column<P: Pages, O: OnceDisk + Drop>(
     ensures honest { (s : Store) (all : List Version) → CanTake P.Pages pages.old O.OnceDisk shelf.old s all place.now (version_of entry.now) → IsHonest result }
     ensures uses { (s : Store) (all : List Version) → (can : CanTake P.Pages pages.old O.OnceDisk shelf.old s all place.now (version_of entry.now))
         → IfOk result (λ change. UsesPages can.shown (version_of entry.now) place.now (P.next pages.old) change.unused change.new) }
-    ensures wants_pages { (s : Store) (all : List Version) → (can : CanTake P.Pages pages.old O.OnceDisk shelf.old s all place.now (version_of entry.now))
-        → result ≡ Err (TreeError.Pages PageError.PagesFull) → WantsPages can.shown (version_of entry.now) place.now (P.homes pages.old) (P.next pages.old) }
-    ensures wants { (s : Store) (all : List Version) → (can : CanTake P.Pages pages.old O.OnceDisk shelf.old s all place.now (version_of entry.now))
-        → IfErr result (λ e. IsForWant e → LeadsToFullLeaf can.shown (version_of entry.now) place.now) }
+    ensures lacks_pages { (s : Store) (all : List Version) → (can : CanTake P.Pages pages.old O.OnceDisk shelf.old s all place.now (version_of entry.now))
+        → result ≡ Err (TreeError.Pages PageError.PagesFull) → LacksPages can.shown (version_of entry.now) place.now (P.homes pages.old) (P.next pages.old) }
+    ensures lacks { (s : Store) (all : List Version) → (can : CanTake P.Pages pages.old O.OnceDisk shelf.old s all place.now (version_of entry.now))
+        → IfErr result (λ e. IsForRoom e → LeadsToFullLeaf can.shown (version_of entry.now) place.now) }
     ensures light { (s : Store) (all : List Version) → (can : CanTake P.Pages pages.old O.OnceDisk shelf.old s all place.now (version_of entry.now))
         → IfOk result (λ change. (IsInPlace (P.next pages.old) change × (shelf.new ≡ shelf.old)) ⊎ LeadsToFullLeaf can.shown (version_of entry.now) place.now) }
     ensures burns { (s : Store) (all : List Version) → (can : CanTake P.Pages pages.old O.OnceDisk shelf.old s all place.now (version_of entry.now)) → (shelf.new ≡ shelf.old) ⊎ LeadsToOutdated can.shown (version_of entry.now) place.now }

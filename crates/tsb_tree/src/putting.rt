@@ -5,7 +5,7 @@ ghost use Rattle.page_journal.specs.Layout.{pages_of};
 ghost use Rattle.page_journal.specs.Recovers.{AreDistinct};
 ghost use Rattle.version_model.specs.Pages.{KeyNode};
 ghost use Rattle.tsb_node.specs.Views.{keys_between};
-ghost use Rattle.tsb_tree.specs.KeyNodes.{BeginsBehind, IsWide};
+ghost use Rattle.tsb_tree.specs.KeyNodes.{BeginsAfter, IsWide};
 ghost use Rattle.tsb_tree.specs.Plans.{CanBeLaid};
 ghost use Rattle.tsb_tree.specs.Puts.{PutsOne, PutsTwo, PutsChild, PutRefusal};
 ghost use Rattle.tsb_tree.specs.Refusals.{IsHonest};
@@ -13,7 +13,7 @@ ghost use Rattle.tsb_tree.specs.inner.Uses.{UsesForHalf};
 
 use crate::change::{Change, lay_image};
 use crate::error::TreeError;
-use crate::key_nodes::{key_halves, key_node_page, place_behind};
+use crate::key_nodes::{key_halves, key_node_page, place_after};
 use page_tx::PageError;
 use std::alloc::{AllocError, Global};
 use tsb_node::KeyNodeSaid;
@@ -106,15 +106,15 @@ pub fn put_half(
     requires wide { IsWide node }
     requires few { length node.children.items ≤ 338 }
     requires distinct { AreDistinct (pages_of change.images.items) }
-    ensures puts { (place : ℕ) → BeginsBehind node.children.items place new.low
+    ensures puts { (place : ℕ) → BeginsAfter node.children.items place new.low
         → IfOk result (PutsChild page node.level (keys_between node.bounds) (insert node.children.items (suc place) new) change) }
     ensures laid { IfOk result (λ put. (next level : ℕ) → page < homes → CanBeLaid homes next level change → CanBeLaid homes next (suc level) put) }
     ensures uses { IfOk result (λ put. UsesForHalf (length node.children.items) change.unused put.unused put.new) }
-    ensures wants_pages { result ≡ Err (TreeError.Pages PageError.PagesFull) → length node.children.items ≡ 338 }
+    ensures lacks_pages { result ≡ Err (TreeError.Pages PageError.PagesFull) → length node.children.items ≡ 338 }
     ensures refused { IfErr result (PutRefusal homes change.unused) }
-    ensures honest { (place : ℕ) → BeginsBehind node.children.items place new.low → IfSome node.bounds.high (λ n. new.low < n) → IsHonest result }
+    ensures honest { (place : ℕ) → BeginsAfter node.children.items place new.low → IfSome node.bounds.high (λ n. new.low < n) → IsHonest result }
 {
-    let Some(place) = place_behind(&node, new.low) else {
+    let Some(place) = place_after(&node, new.low) else {
         return Err(TreeError::BadNode(page));
     };
     let node = with_child(node, place, new)?;

@@ -57,7 +57,7 @@ fn lay_out(
     ensures laid { IfOk result (λ change. LaysOut page current unused.next whole change.images.items change.unused change.new) }
     ensures inside { IfOk result (λ change. change.unused ≤ unused.homes) }
     ensures uses { IfOk result (λ change. UsesForLeaf (octets whole.leaf) unused.next change.unused change.new) }
-    ensures wants_pages { result ≡ Err (TreeError.Pages PageError.PagesFull) → 10821 < octets whole.leaf }
+    ensures lacks_pages { result ≡ Err (TreeError.Pages PageError.PagesFull) → 10821 < octets whole.leaf }
     ensures honest { ((v : Version) → Has whole.leaf v → v.key + 1 < key_end) → IsHonest result }
     ensures refused { IfErr result (LayoutRefusal unused.homes unused.next) }
 {
@@ -97,7 +97,7 @@ pub fn split_column<O: OnceDisk + Drop>(
     ensures inside { IfOk result (λ change. change.unused ≤ unused.homes) }
     ensures honest { IsAbove whole.leaf entry.now.stamp → whole.start < entry.now.stamp → ((v : Version) → Has whole.leaf v → v.key + 1 < key_end) → entry.now.key + 1 < key_end → IsHonest result }
     ensures uses { IfOk result (λ change. (stays : List Version) × IsWhatStays (whole.leaf ++ version_of entry.now ∷ []) entry.now.stamp stays × UsesForLeaf (octets stays) unused.next change.unused change.new) }
-    ensures wants_pages { result ≡ Err (TreeError.Pages PageError.PagesFull) → (stays : List Version) × IsWhatStays (whole.leaf ++ version_of entry.now ∷ []) entry.now.stamp stays × (10821 < octets stays) × (unused.homes < unused.next + 2) }
+    ensures lacks_pages { result ≡ Err (TreeError.Pages PageError.PagesFull) → (stays : List Version) × IsWhatStays (whole.leaf ++ version_of entry.now ∷ []) entry.now.stamp stays × (10821 < octets stays) × (unused.homes < unused.next + 2) }
     ensures burns { (shelf.new ≡ shelf.old) ⊎ HasOutlived whole.leaf (version_of entry.now) }
     ensures once { (refusal : AppendError) → result ≡ Err (TreeError.Once refusal) → HasOutlived whole.leaf (version_of entry.now) }
     ensures none_left { O.honest (disk_of shelf.old) (pen_of shelf.old) → HasNoneBlank O.OnceDisk shelf.old → HasOutlived whole.leaf (version_of entry.now) → IsErr result }

@@ -4,7 +4,7 @@ ghost use Rattle.page_journal.specs.Recovers.{laid};
 ghost use Rattle.page_tx.specs.Start.{Start};
 ghost use Rattle.tsb_tree.specs.Refusals.{CreateRefusal};
 ghost use Rattle.tsb_tree.specs.Stores.{ReadsAlone};
-ghost use Rattle.tsb_tree.specs.Trees.{AreFirst, ShowsTree, TellsFirst};
+ghost use Rattle.tsb_tree.specs.Trees.{AreFirst, ShowsTree, ReportsFirst};
 
 use crate::change::lay_image;
 use crate::error::TreeError;
@@ -37,7 +37,7 @@ pub fn first_key() -> Key
 pub fn first_images(alloc: Global, page: u64) -> Result<Vec<(u64, Page)>, AllocError>
     requires below { page + 1 < 2 ^ 64 }
     ensures images { IfOk result (λ images. AreFirst page images.items) }
-    ensures tree { IfOk result (λ images. (shown : List (List ℕ)) → page + 2 ≤ length shown → TellsFirst (laid images.items shown) page) }
+    ensures tree { IfOk result (λ images. (shown : List (List ℕ)) → page + 2 ≤ length shown → ReportsFirst (laid images.items shown) page) }
 {
     let whole = Whole {
         low: first_key(),

@@ -17,7 +17,7 @@ use Rattle.tsb_node.specs.Views.{BlockSays, says_old_leaf, says_old_column}
 use Rattle.tsb_node.proofs.api.Blocks.{leaf_begins, leaf_whole, column_begins, column_made, column_whole, one_column}
 use Rattle.tsb_walk.specs.Ways.{IsLeafFor, IsColumnFor, IsFit, LeadsTo}
 use Rattle.tsb_walk.specs.inner.Steps.{IsLeafOf, IsEndOf}
-use Rattle.tsb_walk.proofs.Spots.{LiesIn, one_place}
+use Rattle.tsb_walk.proofs.Spots.{LocatedIn, one_place}
 
 pub record SaidLeaf (octets : List ℕ) (wide : Range) (versions : List Version) : Type 0 where
   pub leaf : LeafNode
@@ -116,8 +116,8 @@ fit_column place octets key stamp read is kind (inl leaf) = absurd (let k : Leaf
 fit_column place octets key stamp read is kind (inr next) = (let of = column_of place octets next.1.parts next.1.column in (of.column, of.end, of.of, is of.column of.end of.of))
 
 -- the stamp lies in the part to which a column leads
-pub leads_lies : (place : Place) (octets : List ℕ) (key stamp : ℕ) (next : Place) (leads : LeadsTo place octets key stamp next) → LiesIn leads.parts (end_or place.bounds.end) stamp leads.part.place next.part
-leads_lies place octets key stamp next leads =
+pub leads_located : (place : Place) (octets : List ℕ) (key stamp : ℕ) (next : Place) (leads : LeadsTo place octets key stamp next) → LocatedIn leads.parts (end_or place.bounds.end) stamp leads.part.place next.part
+leads_located place octets key stamp next leads =
     let s : next.part.start ≡ next.bounds.start = ap (λ (r : Range). r.start) leads.part.range in
     let e : start_or (end_or place.bounds.end) (slice_get leads.parts (suc leads.part.place)) ≡ end_or next.bounds.end = ap (λ (r : Range). r.end) leads.part.range in
     let from : next.bounds.start ≤ stamp = leads.point.start in
@@ -141,9 +141,9 @@ module _ (place : Place) (octets : List ℕ) (column : ColumnInBlock) (end : ℕ
       let leads = next.1 in
       let other = column_of place octets leads.parts leads.column in
       let same : column.parts ≡ leads.parts = ap (λ (c : ColumnInBlock). c.parts) (one_column column other.column octets of.begins other.of.begins) ∙ other.same in
-      let here : LiesIn column.parts end stamp is.place found.part = record { at = is.at; from = is.start; before = subst (λ (n : ℕ). stamp < n) is.to_end is.before } in
-      let there : LiesIn leads.parts end stamp leads.part.place next.0.part = subst (λ (n : ℕ). LiesIn leads.parts n stamp leads.part.place next.0.part) end_is (leads_lies place octets key stamp next.0 leads) in
-      let here' : LiesIn leads.parts end stamp is.place found.part = subst (λ (ps : List Part). LiesIn ps end stamp is.place found.part) same here in
+      let here : LocatedIn column.parts end stamp is.place found.part = record { at = is.at; from = is.start; before = subst (λ (n : ℕ). stamp < n) is.to_end is.before } in
+      let there : LocatedIn leads.parts end stamp leads.part.place next.0.part = subst (λ (n : ℕ). LocatedIn leads.parts n stamp leads.part.place next.0.part) end_is (leads_located place octets key stamp next.0 leads) in
+      let here' : LocatedIn leads.parts end stamp is.place found.part = subst (λ (ps : List Part). LocatedIn ps end stamp is.place found.part) same here in
       let one = one_place leads.parts end stamp is.place leads.part.place found.part next.0.part (column_rises place octets leads.parts leads.column) here' there in
       let at : slice_get leads.parts is.place ≡ Some next.0.part = subst (λ (n : ℕ). slice_get leads.parts n ≡ Some next.0.part) (sym one) there.at in
       let part : found.part ≡ next.0.part = same_Some found.part next.0.part (sym here'.at ∙ at) in

@@ -48,10 +48,10 @@ pub none_gathered : (key from : ℕ) (all : List Version) (entries : List Entry)
 none_gathered key from all entries empty first = ap versions_of empty ∙ sym (none_first key all) ∙ ap (λ (n : ℕ). filter (is_of key 0 n) all) (sym first)
 
 -- the next part after those that are gathered
-pub gathered : (all : List Version) (key from : ℕ) (told : Option ℕ) (old more new : List Entry) → IsRising all → new ≡ old ++ more → versions_of old ≡ filter (is_of key 0 from) all → IsPart all key from (versions_of more) told
-    → versions_of new ≡ filter (is_of key 0 (end_or told)) all
-gathered all key from told old more new rising is so_far part =
+pub gathered : (all : List Version) (key from : ℕ) (reported : Option ℕ) (old more new : List Entry) → IsRising all → new ≡ old ++ more → versions_of old ≡ filter (is_of key 0 from) all → IsPart all key from (versions_of more) reported
+    → versions_of new ≡ filter (is_of key 0 (end_or reported)) all
+gathered all key from reported old more new rising is so_far part =
     let apart : versions_of new ≡ versions_of old ++ versions_of more = ap versions_of is ∙ map-append version_of old more in
-    let told_both : versions_of old ++ versions_of more ≡ filter (is_of key 0 from) all ++ filter (is_of key from (end_or told)) all = λ i. so_far i ++ part.are i in
-    let high : from ≤ end_or told = omega (arith, part.above) in
-    apart ∙ told_both ∙ joined key 0 from (end_or told) (omega arith) high all rising
+    let reported_both : versions_of old ++ versions_of more ≡ filter (is_of key 0 from) all ++ filter (is_of key from (end_or reported)) all = λ i. so_far i ++ part.are i in
+    let high : from ≤ end_or reported = omega (arith, part.above) in
+    apart ∙ reported_both ∙ joined key 0 from (end_or reported) (omega arith) high all rising

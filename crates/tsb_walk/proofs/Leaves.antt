@@ -5,7 +5,7 @@ use Rattle.version_model.specs.Ranges.{Range, IsPoint, end_or}
 use Rattle.version_model.specs.Shows.{Shows}
 use Rattle.version_model.specs.Looks.{NoneWithin, IsLive, IsLeastLive, is_of, IsPart}
 use Rattle.version_model.proofs.api.Shown.{answers_shown}
-use Rattle.version_model.proofs.api.LooksShown.{none_shown, told_shown}
+use Rattle.version_model.proofs.api.LooksShown.{none_shown, reported_shown}
 use Rattle.version_model.proofs.api.AsOfs.{AsOf-one}
 use Rattle.tsb_node.specs.Leaves.{LeafNode, BeginsAsLeaf}
 
@@ -36,8 +36,8 @@ pub one_holds : (leaf : LeafNode) (octets : List ℕ) → BeginsAsLeaf leaf octe
 one_holds leaf octets begins key s u v a b = ap (λ (x : Version). x.value) (AsOf-one leaf.versions key s v u begins.valid.rising b a)
 
 -- the versions of a key that a leaf has are all that there are
-pub part_told : (all : List Version) (r : Range) (leaf : LeafNode) (octets : List ℕ) (key from : ℕ) (told : Option ℕ) (part : List Version) → BeginsAsLeaf leaf octets → Shows all r leaf.versions → IsRising all → r.end ≡ end_or told → IsPoint r key from
-    → part ≡ filter (is_of key from (end_or told)) leaf.versions → IsPart all key from part told
-part_told all r leaf octets key from told part begins shows rising end point is =
-    subst (λ (vs : List Version). IsPart all key from vs told) (sym is)
-    (told_shown all r leaf.versions shows key from told point rising begins.valid.rising (omega (arith, end, point.end)) (omega (arith, end)))
+pub part_reported : (all : List Version) (r : Range) (leaf : LeafNode) (octets : List ℕ) (key from : ℕ) (reported : Option ℕ) (part : List Version) → BeginsAsLeaf leaf octets → Shows all r leaf.versions → IsRising all → r.end ≡ end_or reported → IsPoint r key from
+    → part ≡ filter (is_of key from (end_or reported)) leaf.versions → IsPart all key from part reported
+part_reported all r leaf octets key from reported part begins shows rising end point is =
+    subst (λ (vs : List Version). IsPart all key from vs reported) (sym is)
+    (reported_shown all r leaf.versions shows key from reported point rising begins.valid.rising (omega (arith, end, point.end)) (omega (arith, end)))

@@ -11,7 +11,7 @@ use Rattle.version_model.specs.Looks.{IsPart, IsReached, is_of, reached_to}
 use Rattle.version_model.specs.Entries.{versions_of}
 use Rattle.version_model.specs.Pages.{Keys, PageNode, CurrentLeaf, ColumnNode, KeyNode, Store, StandsIn, PastStands, IsChildOf, current_range}
 use Rattle.version_model.proofs.api.Shown.{answers_shown}
-use Rattle.version_model.proofs.api.LooksShown.{next_shown, told_shown}
+use Rattle.version_model.proofs.api.LooksShown.{next_shown, reported_shown}
 use Rattle.version_model.proofs.api.Standing.{column_of, key_node_of}
 use Rattle.tsb_node.specs.Views.{PageSays, says_leaf, says_column, says_key_node}
 use Rattle.tsb_node.proofs.api.Pages.{one_said}
@@ -130,13 +130,13 @@ module _ (shown : List (List ℕ)) (s : Store) (all : List Version) where
         next_shown all (current_range (keys_at at.column) column_here.start) column_here.versions column_here.shows stamp key (reached_as reached) l.point (within_high reached _ border) (is column_here.versions l.says)
 
     pub parted_here : (leaf : Current) → at.spot ≡ InLeaf leaf → stamp < stamp_end → IsRising all → (part : KeyVersions)
-        → ((versions : List Version) → Says shown leaf.page (CurrentLeaf (keys_at at.column) leaf.start versions) → versions_of part.entries.items ≡ filter (is_of key stamp stamp_end) versions) → part.told ≡ None
-        → IsPart all key stamp (versions_of part.entries.items) part.told
-    parted_here leaf e fits rising part is told =
+        → ((versions : List Version) → Says shown leaf.page (CurrentLeaf (keys_at at.column) leaf.start versions) → versions_of part.entries.items ≡ filter (is_of key stamp stamp_end) versions) → part.reported ≡ None
+        → IsPart all key stamp (versions_of part.entries.items) part.reported
+    parted_here leaf e fits rising part is reported =
         let l = leaf_here leaf e fits in
-        let all_told = told_shown all (current_range (keys_at at.column) column_here.start) column_here.versions column_here.shows key stamp None l.point rising
+        let all_reported = reported_shown all (current_range (keys_at at.column) column_here.start) column_here.versions column_here.shows key stamp None l.point rising
         (rising_in column_here.leaf_says.octets _ column_here.leaf_says.says (keys_at at.column) column_here.start column_here.versions refl) fits (omega arith) in
-        subst (λ (t : Option ℕ). IsPart all key stamp (versions_of part.entries.items) t) (sym told) (subst (λ (vs : List Version). IsPart all key stamp vs None) (sym (is column_here.versions l.says)) all_told)
+        subst (λ (t : Option ℕ). IsPart all key stamp (versions_of part.entries.items) t) (sym reported) (subst (λ (vs : List Version). IsPart all key stamp vs None) (sym (is column_here.versions l.says)) all_reported)
 
     pub descended_here : (leaf : Current) → at.spot ≡ InLeaf leaf → stamp < stamp_end → (found : Option Found)
         → ((versions : List Version) → Says shown leaf.page (CurrentLeaf (keys_at at.column) leaf.start versions) → Answers versions key stamp (found_as found)) → Answers all key stamp (found_as found)

@@ -30,13 +30,13 @@ next_from (p ∷ rest) end rising zero (suc j) q lt at = first_from rest end ris
 next_from (p ∷ rest) end rising (suc i) (suc j) q lt at = next_from rest end rising.1 i j q (omega (arith, lt)) at
 
 -- the stamp lies in the part at a place
-pub record LiesIn (parts : List Part) (end stamp place : ℕ) (part : Part) : Type 0 where
+pub record LocatedIn (parts : List Part) (end stamp place : ℕ) (part : Part) : Type 0 where
   pub at : slice_get parts place ≡ Some part
   pub from : part.start ≤ stamp
   pub before : stamp < start_or end (slice_get parts (suc place))
 
 -- it lies in one part alone
-pub one_place : (parts : List Part) (end stamp i j : ℕ) (p q : Part) → AreAscending (starts_of parts) → LiesIn parts end stamp i p → LiesIn parts end stamp j q → i ≡ j
+pub one_place : (parts : List Part) (end stamp i j : ℕ) (p q : Part) → AreAscending (starts_of parts) → LocatedIn parts end stamp i p → LocatedIn parts end stamp j q → i ≡ j
 one_place parts end stamp i j p q rising a b = elim (cases_order i j) [
   | inl same ↦ same
   | inr apart ↦ elim apart [
@@ -48,17 +48,17 @@ one_place parts end stamp i j p q rising a b = elim (cases_order i j) [
 pub record Spot (parts : List Part) (end stamp : ℕ) : Type 0 where
   pub place : ℕ
   pub part : Part
-  pub lies : LiesIn parts end stamp place part
+  pub located : LocatedIn parts end stamp place part
 
 -- it lies in one of them
 pub spot_in : (parts : List Part) (end stamp : ℕ) (first : Part) → slice_get parts 0 ≡ Some first → first.start ≤ stamp → stamp < end → Spot parts end stamp
 spot_in [] end stamp first at low high = absurd (none_at 0 first at)
 spot_in (p ∷ []) end stamp first at low high =
     (let same = ap (λ (x : Part). x.start) (same_Some p first at) in
-    record { place = 0; part = p; lies = record { at = refl; from = omega (arith, same, low); before = high } })
+    record { place = 0; part = p; located = record { at = refl; from = omega (arith, same, low); before = high } })
 spot_in (p ∷ q ∷ rest) end stamp first at low high = elim (cases_lt stamp q.start) [
   | inl lt ↦ (let same = ap (λ (x : Part). x.start) (same_Some p first at) in
-      record { place = 0; part = p; lies = record { at = refl; from = omega (arith, same, low); before = lt } })
+      record { place = 0; part = p; located = record { at = refl; from = omega (arith, same, low); before = lt } })
   | inr le ↦ (let s = spot_in (q ∷ rest) end stamp q refl le high in
-      record { place = suc s.place; part = s.part; lies = record { at = s.lies.at; from = s.lies.from; before = s.lies.before } })
+      record { place = suc s.place; part = s.part; located = record { at = s.located.at; from = s.located.from; before = s.located.before } })
 ]

@@ -55,9 +55,9 @@ leads_on place octets wide parts key stamp says suits point =
       record {
         parts = parts;
         column = record { wide = wide; kind = suits.0; says = says; wider = suits.1 };
-        part = record { place = spot.place; at = spot.lies.at; range = refl };
-        lower = are.lower spot.place spot.part spot.lies.at;
-        point = record { low = point.low; high = point.high; start = spot.lies.from; end = spot.lies.before };
+        part = record { place = spot.place; at = spot.located.at; range = refl };
+        lower = are.lower spot.place spot.part spot.located.at;
+        point = record { low = point.low; high = point.high; start = spot.located.from; end = spot.located.before };
       },
     )
 

@@ -29,7 +29,7 @@ IsLooked blocks all key stamp (looked.InBlock place) = GoesOnIn blocks all key s
 
 -- what is returned about the key's versions from the stamp on is true of these versions; or they are to be looked for in the place that is returned
 abbrev pub IsParted : (ℕ → Option BlockNode) → List Version → ℕ → ℕ → Parted → Type 0
-IsParted blocks all key stamp (parted.Here part) = IsPart all key stamp (versions_of part.entries.items) part.told
+IsParted blocks all key stamp (parted.Here part) = IsPart all key stamp (versions_of part.entries.items) part.reported
 IsParted blocks all key stamp (parted.InBlock place) = GoesOnIn blocks all key stamp place
 
 -- what is returned about the key as of the stamp is true of these versions; or it is to be looked for in the place that is returned
@@ -44,8 +44,8 @@ GoesOnFrom key (Past high) = key < high
 GoesOnFrom key End = Unit {0}
 
 -- versions are returned up to a stamp above the one where the look began
-abbrev pub TellsFrom : ℕ → KeyVersions → Type 0
-TellsFrom stamp part = stamp < end_or part.told
+abbrev pub ReportsFrom : ℕ → KeyVersions → Type 0
+ReportsFrom stamp part = stamp < end_or part.reported
 
 -- if a look returns how far it has come, it goes on from this key
 abbrev pub LooksOn : ℕ → Looked → Type 0
@@ -83,6 +83,6 @@ DescendsAt key stamp (descended.Here found) = Unit {0}
 DescendsAt key stamp (descended.InBlock place) = IsPoint (range_of place.bounds) key stamp
 
 -- if a look returns versions, they are all that there are from its stamp on
-abbrev pub TellsAll : Parted → Type 0
-TellsAll (parted.Here part) = part.told ≡ None
-TellsAll (parted.InBlock place) = Unit {0}
+abbrev pub ReportsAll : Parted → Type 0
+ReportsAll (parted.Here part) = part.reported ≡ None
+ReportsAll (parted.InBlock place) = Unit {0}

@@ -10,7 +10,7 @@ ghost use Rattle.tsb_walk.specs.Answers.{found_as, reached_as};
 ghost use Rattle.tsb_walk.specs.BlockWays.{AreKnownTo, IsBadBlock};
 ghost use Rattle.tsb_walk.specs.Inside.{KeepsInside};
 ghost use Rattle.tsb_walk.specs.Knowing.{ReadsWell, StandsKnown};
-ghost use Rattle.tsb_walk.specs.Looked.{GoesOnFrom, TellsFrom};
+ghost use Rattle.tsb_walk.specs.Looked.{GoesOnFrom, ReportsFrom};
 
 use crate::looks::{Found, KeyVersions, Reached, found_in, part_in, reached_in};
 use crate::walk::leaf_place;
@@ -83,11 +83,11 @@ pub fn hist_part<O: OnceDisk + Drop>(
     from: Stamp,
 ) -> Result<KeyVersions, BlockError>
     requires point { IsPoint (range_of place.now.bounds) key from }
-    ensures part { (all : List Version) → IsRising all → StandsKnown O.OnceDisk reader.old seen.old all place.now → IfOk result (λ part. IsPart all key from (versions_of part.entries.items) part.told) }
+    ensures part { (all : List Version) → IsRising all → StandsKnown O.OnceDisk reader.old seen.old all place.now → IfOk result (λ part. IsPart all key from (versions_of part.entries.items) part.reported) }
     ensures reads { (all : List Version) → StandsKnown O.OnceDisk reader.old seen.old all place.now → ReadsWell O.OnceDisk reader.new seen.new }
     ensures never { (all : List Version) → StandsKnown O.OnceDisk reader.old seen.old all place.now → (block : ℕ) → result ≡ Err (BlockError.Damaged block) → ⊥ }
     ensures damaged { ReadsWell O.OnceDisk reader.old seen.old → AreKnownTo (O.known seen.old) (O.block_count (reader_disk reader.old)) place.now.part.block → (block : ℕ) → result ≡ Err (BlockError.Damaged block) → IsBadBlock (O.known seen.old) (O.block_count (reader_disk reader.old)) key from place.now block }
-    ensures told { IfOk result (TellsFrom from) }
+    ensures reported { IfOk result (ReportsFrom from) }
     ensures inside { KeepsInside O.OnceDisk reader.old → KeepsInside O.OnceDisk reader.new }
     ensures same { O.honest_seen (reader_disk reader.old) seen.old → O.known seen.new ≡ O.known seen.old }
     ensures disk { reader_disk reader.new ≡ reader_disk reader.old }

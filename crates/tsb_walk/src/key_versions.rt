@@ -10,7 +10,7 @@ ghost use Rattle.version_model.specs.Pages.{Store};
 ghost use Rattle.tsb_walk.specs.AllVersions.{VersionsRefusal};
 ghost use Rattle.tsb_walk.specs.Inside.{KeepsInside};
 ghost use Rattle.tsb_walk.specs.Knowing.{ReadsWell, AreKnown};
-ghost use Rattle.tsb_walk.specs.Looked.{TellsFrom};
+ghost use Rattle.tsb_walk.specs.Looked.{ReportsFrom};
 ghost use Rattle.tsb_walk.specs.Refusals.{OnlyReads};
 ghost use Rattle.tsb_walk.specs.Shown.{StandsShown, HasKey};
 
@@ -41,7 +41,7 @@ fn next_part<P: Pages, O: OnceDisk + Drop>(
     requires level { 1 ≤ root.now.level }
     ensures part { (start : Start) (shown : List (List ℕ)) → P.shows pages.old start shown → (s : Store) (all : List Version) → IsRising all → StandsShown shown s all root.now
         → ReadsWell O.OnceDisk reader.old seen.old → AreKnown (O.known seen.old) (O.block_count (reader_disk reader.old)) s.blocks
-        → IfOk result (λ part. IsPart all key from (versions_of part.entries.items) part.told) }
+        → IfOk result (λ part. IsPart all key from (versions_of part.entries.items) part.reported) }
     ensures reads { (start : Start) (shown : List (List ℕ)) → P.shows pages.old start shown → (s : Store) (all : List Version) → IsRising all → StandsShown shown s all root.now
         → ReadsWell O.OnceDisk reader.old seen.old → AreKnown (O.known seen.old) (O.block_count (reader_disk reader.old)) s.blocks
         → ReadsWell O.OnceDisk reader.new seen.new }
@@ -50,7 +50,7 @@ fn next_part<P: Pages, O: OnceDisk + Drop>(
         → ReadsWell O.OnceDisk reader.old seen.old → AreKnown (O.known seen.old) (O.block_count (reader_disk reader.old)) s.blocks
         → (block : ℕ) → result ≡ Err (NodeError.Damaged block) → ⊥ }
     ensures inside { KeepsInside O.OnceDisk reader.old → KeepsInside O.OnceDisk reader.new }
-    ensures told { IfOk result (TellsFrom from) }
+    ensures reported { IfOk result (ReportsFrom from) }
     ensures refused { IfErr result (VersionsRefusal (P.down pages.old)) }
     ensures same { OnlyReads P.Pages pages.old pages.new (result ≡ Err NodeError.Fault) }
     ensures known { O.honest_seen (reader_disk reader.old) seen.old → O.known seen.new ≡ O.known seen.old }
@@ -111,8 +111,8 @@ pub fn versions<P: Pages, O: OnceDisk + Drop>(
         stamp_fits(from);
         let mut part = next_part(pages, reader, seen, alloc, root, key, from)?;
         all.append(&mut part.entries)?;
-        match part.told {
-            Some(told) => from = told,
+        match part.reported {
+            Some(reported) => from = reported,
             None => return Ok(all),
         }
     }

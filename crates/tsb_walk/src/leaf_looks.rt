@@ -55,7 +55,7 @@ pub fn part_on(
     from: Stamp,
 ) -> Result<KeyVersions, ReadFault>
     ensures part { (versions : List Version) → PageSays page.now (CurrentLeaf (keys_at column.now) start versions) → IfOk result (λ part. versions_of part.entries.items ≡ filter (is_of key from stamp_end) versions) }
-    ensures told { IfOk result (λ part. part.told ≡ None) }
+    ensures reported { IfOk result (λ part. part.reported ≡ None) }
     ensures none { result ≡ Err ReadFault.NotANode → (versions : List Version) → PageSays page.now (CurrentLeaf (keys_at column.now) start versions) → ⊥ }
 {
     if !is_current_leaf(page, column, start) {

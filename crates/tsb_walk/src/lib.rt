@@ -6,22 +6,21 @@
 //!     block: a column       digest, header, part of the stamp      a place in a block of a lower number
 //!     leaf                  header, entries; of a block, digest    the result
 //!
-//! That is all that a look reads of a page; the child and the part are found by halves. Reading pages whole took more than
-//! half of a load. The price is what is known of damage: if a page is the node that it is to be, the result is that node's;
-//! a page that is called bad isn't that node; of other pages only this is known, that the look ends. A damaged octet that a
-//! look doesn't need goes unnoticed; `tsb_check` reads everything.
+//! That is all that a look reads of a page; the child and the part are found by binary search. Reading pages whole took more
+//! than half of a load. So damage may go unnoticed where a look doesn't need the octet: a valid page gives its node's result, a
+//! page that is reported bad isn't a valid one, and of others only termination is proved. `tsb_check` reads everything.
 //!
-//! What pages do is stated twice: if the root stands (`next`, `part`, `descended`, `blames`), and by the octets alone
-//! (`bad`, `led`, `point`). Without the second, a look that skips a level or loses its key would be proved where trees
-//! stand. Of blocks too: if the place stands no block is called damaged (`never`); and by what is known of blocks alone,
-//! one that is called damaged isn't what its place asks (`damaged`).
+//! Results are stated twice: assuming a valid tree below the root (`next`, `part`, `descended`, `blames`), and for arbitrary
+//! octets (`bad`, `led`, `point`). Without the second, a look that skips a level or loses its key could be proved, since it
+//! does so on damaged trees alone. Blocks too: at a valid place no block is reported damaged (`never`); and for arbitrary
+//! blocks one that is reported damaged isn't what its place asks (`damaged`).
 //!
-//! The page that is reported is the one whose octets aren't what the way asks, never the one that leads to it. A page that
-//! doesn't exist is bad. The current leaf is read only if the stamp lies in it. Levels fall along the way through pages,
-//! and numbers along the way through blocks, so each look ends, whatever the octets are.
+//! The page that is reported is the faulty page itself, never its parent. A page that doesn't exist is bad. The current leaf
+//! is read only if the stamp is in its range. Levels fall from page to page, and numbers fall from block to block, so each
+//! look ends, whatever the octets are.
 //!
 //! A look keeps nothing of the pool, so writers may go on at once; a place in the past stays true, since blocks don't
-//! change. A place may stand by any map of blocks that the reader knows (`StandsKnown`), so what a tree states of its
+//! change. A place is valid by any map of blocks that the reader knows (`StandsKnown`), so what a tree states of its
 //! settled blocks serves each reader that knows those, or more.
 #![tactic(auto)]
 

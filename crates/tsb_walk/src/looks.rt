@@ -34,12 +34,12 @@ pub enum Reached {
     End,
 }
 
-/// The versions of a key from a stamp on, ends included, in the order of their stamps: all before the stamp `told`,
+/// The versions of a key from a stamp on, ends included, in the order of their stamps: all before the stamp `reported`,
 /// or all that there are if it is None.
 #[derive(Debug, Drop)]
 pub struct KeyVersions {
     pub entries: Vec<Entry>,
-    pub told: Option<Stamp>,
+    pub reported: Option<Stamp>,
 }
 
 /// What a look for the next key returns if it begins at current pages: how far it has come, or the place in the past where
@@ -168,15 +168,15 @@ pub fn part_in(
 ) -> Result<KeyVersions, ReadFault>
     requires size { length octets.now ≡ 16384 }
     ensures part { IfOk result (λ part. (all : List Version) (r : Range) (leaf : LeafNode) → BeginsAsLeaf leaf octets.now → Shows all r leaf.versions → IsRising all → r.end ≡ end_or end.now → IsPoint r key from
-        → IsPart all key from (versions_of part.entries.items) part.told) }
+        → IsPart all key from (versions_of part.entries.items) part.reported) }
     ensures just { IfOk result (λ part. (leaf : LeafNode) → BeginsAsLeaf leaf octets.now → versions_of part.entries.items ≡ filter (is_of key from (end_or end.now)) leaf.versions) }
-    ensures told { IfOk result (λ part. part.told ≡ end.now) }
+    ensures reported { IfOk result (λ part. part.reported ≡ end.now) }
     ensures leaf { (leaf : LeafNode) → BeginsAsLeaf leaf octets.now → result ≡ Err ReadFault.NotANode → ⊥ }
 {
     match part(alloc, octets, key, from, *end) {
         Ok(entries) => Ok(KeyVersions {
             entries,
-            told: *end,
+            reported: *end,
         }),
         Err(fault) => Err(fault),
     }

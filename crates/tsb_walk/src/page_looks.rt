@@ -9,7 +9,7 @@ ghost use Rattle.version_model.specs.Entries.{versions_of};
 ghost use Rattle.version_model.specs.Pages.{Store, CurrentLeaf};
 ghost use Rattle.tsb_walk.specs.Answers.{found_as, reached_as};
 ghost use Rattle.tsb_walk.specs.Borders.{ReachesTo};
-ghost use Rattle.tsb_walk.specs.Looked.{IsLooked, IsParted, IsDescended, GoesOnFrom, LooksOn, LooksAt, LooksBelow, PartsAt, PartsBelow, DescendsAt, DescendsBelow, TellsAll};
+ghost use Rattle.tsb_walk.specs.Looked.{IsLooked, IsParted, IsDescended, GoesOnFrom, LooksOn, LooksAt, LooksBelow, PartsAt, PartsBelow, DescendsAt, DescendsBelow, ReportsAll};
 ghost use Rattle.tsb_walk.specs.Shown.{Says, StandsShown, keys_at, HasKey};
 ghost use Rattle.tsb_walk.specs.PageWays.{IsNoColumn, IsNoLeaf};
 ghost use Rattle.tsb_walk.specs.PageLooks.{IsBadLook};
@@ -131,7 +131,7 @@ fn part_here<P: Pages>(
 ) -> Result<KeyVersions, NodeError>
     requires has { HasKey column.now key }
     ensures part { (start : Start) (shown : List (List ℕ)) → P.shows pages.old start shown → (versions : List Version) → Says shown current.now.page (CurrentLeaf (keys_at column.now) current.now.start versions) → IfOk result (λ part. versions_of part.entries.items ≡ filter (is_of key from stamp_end) versions) }
-    ensures told { IfOk result (λ part. part.told ≡ None) }
+    ensures reported { IfOk result (λ part. part.reported ≡ None) }
     ensures bad { (start : Start) (shown : List (List ℕ)) → P.shows pages.old start shown → (page : ℕ) → result ≡ Err (NodeError.BadNode page) → (current.now.page ≡ page) × IsNoLeaf shown column.now current.now.start page }
     ensures refused { IfErr result (LookRefusal (P.down pages.old)) }
     ensures same { OnlyReads P.Pages pages.old pages.new (result ≡ Err NodeError.Fault) }
@@ -225,7 +225,7 @@ pub fn part<P: Pages>(
     ensures blames { (start : Start) (shown : List (List ℕ)) → P.shows pages.old start shown → (s : Store) (all : List Version) → StandsShown shown s all root.now → (page : ℕ) → result ≡ Err (NodeError.BadNode page) → ⊥ }
     ensures below { (start : Start) (shown : List (List ℕ)) → P.shows pages.old start shown → (s : Store) (all : List Version) → StandsShown shown s all root.now → IfOk result (PartsBelow s.next) }
     ensures point { IfOk result (PartsAt key from) }
-    ensures told { IfOk result TellsAll }
+    ensures reported { IfOk result ReportsAll }
     ensures refused { IfErr result (LookRefusal (P.down pages.old)) }
     ensures same { OnlyReads P.Pages pages.old pages.new (result ≡ Err NodeError.Fault) }
 {

@@ -12,7 +12,7 @@ use Rattle.disk_models.proofs.api.Pairs.{now_is_pair}
 use Rattle.route_meaning.specs.History.{History}
 use Rattle.archive_pages.specs.declared.settings.Settings.{Settings}
 use Rattle.disk_archive.specs.declared.archive.Archive.{Archive}
-use Rattle.disk_archive.specs.Archives.{Carries, IsHonest, erase_of, erase_state, once_state, pen_in}
+use Rattle.disk_archive.specs.Archives.{Represents, IsHonest, erase_of, erase_state, once_state, pen_in}
 use Rattle.archive_uses.specs.Use.Use.{closed, cut, lost, found, opened}
 use Rattle.archive_uses.specs.Calls.{Admits, IsCut, Keeps, Steps}
 use Rattle.archive_uses.specs.Uses.{Leads, Uses}
@@ -50,7 +50,7 @@ loses_uses erase once e o pen f p new l = (fallen erase once o l.left, ((l.now, 
 
 -- What a crash leaves of both disks that were taken out after a call is left inside the call.
 pub cut_left : {E O Pen Seen : Type 0} (erase : EraseGhosts E) (once : OnceGhosts O Pen Seen) → ((d : E) → IsSound (erase.model d)) → (a z : Archive E O Pen Seen erase once) (e : E) (pen : Pen) (left : Left) → Keeps a z → IsHonest a → IsSomewhere a
-    → ((h : History) → Carries a h → (erase_state a).clock ≤ (erase_state z).clock) → e ≡ erase_of z → pen ≡ pen_in z → LeftNow (erase.model e) (once.model pen) left → IsCut a z left
+    → ((h : History) → Represents a h → (erase_state a).clock ≤ (erase_state z).clock) → e ≡ erase_of z → pen ≡ pen_in z → LeftNow (erase.model e) (once.model pen) left → IsCut a z left
 cut_left {E} {O} {Pen} erase once sound a z e pen left keeps honest is later same_erase same_pen now =
     let clock : (erase_state a).clock ≤ (erase_state z).clock = ⊎_elim
     (λ up. later up.0 up.1)

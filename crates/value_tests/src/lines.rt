@@ -1,4 +1,4 @@
-//! Lines of streams, and what is left behind them.
+//! Lines of streams, and what is left after them.
 
 use crate::be;
 use crate::readers::{Broken, Slow};
@@ -9,38 +9,40 @@ use std::process::Abort;
 
 /// The lines of a stream until one isn't read: each between angle brackets, then `.` for the end, `!` for a line that is too
 /// long or `?` for a failure.
-fn push_lines<R: Read>(rt: &impl Abort, lines: &mut LineReader<R>, told: &mut Vec<u8>) {
+fn push_lines<R: Read>(rt: &impl Abort, lines: &mut LineReader<R>, reported: &mut Vec<u8>) {
     for _ in 0..100 {
         let mark = match lines.read_line() {
             Ok(Found::Line) => {
-                told.push(b'<').expect(rt, "memory");
-                told.extend_from_slice(lines.line()).expect(rt, "memory");
-                told.push(b'>').expect(rt, "memory");
+                reported.push(b'<').expect(rt, "memory");
+                reported
+                    .extend_from_slice(lines.line())
+                    .expect(rt, "memory");
+                reported.push(b'>').expect(rt, "memory");
                 continue;
             }
             Ok(Found::End) => b'.',
             Err(LineError::TooLong) => b'!',
             Err(LineError::Failed(_)) => b'?',
         };
-        told.push(mark).expect(rt, "memory");
+        reported.push(mark).expect(rt, "memory");
         break;
     }
 }
 
-/// The lines of a stream, and what it gives behind them.
-fn told_of<R: Read + Drop>(rt: &impl Abort, alloc: Global, reader: R) -> Vec<u8> {
-    let mut told = Vec::new(alloc);
+/// The lines of a stream, and what it gives after them.
+fn reported_of<R: Read + Drop>(rt: &impl Abort, alloc: Global, reader: R) -> Vec<u8> {
+    let mut reported = Vec::new(alloc);
     let mut lines = LineReader::new(reader);
-    push_lines(rt, &mut lines, &mut told);
-    lines.read_to_end(&mut told).expect(rt, "a stream");
-    told
+    push_lines(rt, &mut lines, &mut reported);
+    lines.read_to_end(&mut reported).expect(rt, "a stream");
+    reported
 }
 
 /// Whether a stream has these lines, at once and octet by octet.
-fn has_lines(rt: &impl Abort, alloc: Global, stream: &[u8], wanted: &[u8]) -> bool {
-    let at_once = told_of(rt, alloc, stream);
-    let slowly = told_of(rt, alloc, Slow::new(stream));
-    at_once.as_slice() == wanted && slowly.as_slice() == wanted
+fn has_lines(rt: &impl Abort, alloc: Global, stream: &[u8], expected: &[u8]) -> bool {
+    let at_once = reported_of(rt, alloc, stream);
+    let slowly = reported_of(rt, alloc, Slow::new(stream));
+    at_once.as_slice() == expected && slowly.as_slice() == expected
 }
 
 /// A line ends in LF, or in CR and LF; any other octet stands in it, and what has no end is no line.
@@ -61,20 +63,20 @@ const STREAMS: [(&[u8], &[u8]); 9] = [
 
 #[test]
 fn lines_end_in_line_feeds(rt: HostRuntime) {
-    for (stream, wanted) in STREAMS {
+    for (stream, expected) in STREAMS {
         be(
             &rt,
-            has_lines(&rt, rt.alloc(), stream, wanted),
+            has_lines(&rt, rt.alloc(), stream, expected),
             "lines end in line feeds",
         );
     }
 }
 
-/// So many octets, then these.
-fn long(rt: &impl Abort, alloc: Global, count: usize, behind: &[u8]) -> Vec<u8> {
+/// This many octets, then these.
+fn long(rt: &impl Abort, alloc: Global, count: usize, beyond: &[u8]) -> Vec<u8> {
     let mut octets = Vec::new(alloc);
     octets.resize(count, b'a').expect(rt, "memory");
-    octets.extend_from_slice(behind).expect(rt, "memory");
+    octets.extend_from_slice(beyond).expect(rt, "memory");
     octets
 }
 
@@ -103,64 +105,64 @@ const LONG: [(usize, &[u8], Result<usize, u8>); 7] = [
 #[test]
 fn lines_have_a_limit(rt: HostRuntime) {
     be(&rt, LIMIT == 4096, "lines have a limit");
-    for (count, behind, wanted) in LONG {
-        let stream = long(&rt, rt.alloc(), count, behind);
+    for (count, beyond, expected) in LONG {
+        let stream = long(&rt, rt.alloc(), count, beyond);
         be(
             &rt,
-            first_len(stream.as_slice()) == wanted,
+            first_len(stream.as_slice()) == expected,
             "octets at once",
         );
         be(
             &rt,
-            first_len(Slow::new(&stream)) == wanted,
+            first_len(Slow::new(&stream)) == expected,
             "octets slowly",
         );
     }
 }
 
-/// What stands behind a line that was read, and what stands behind that.
-fn behind_first<R: Read + Drop>(rt: &impl Abort, alloc: Global, reader: R) -> Vec<u8> {
+/// What stands after a line that was read, and what stands after that.
+fn after_first<R: Read + Drop>(rt: &impl Abort, alloc: Global, reader: R) -> Vec<u8> {
     let mut lines = LineReader::new(reader);
     let _ = lines.read_line();
-    let mut behind = Vec::new(alloc);
-    lines.read_to_end(&mut behind).expect(rt, "a stream");
-    behind
+    let mut beyond = Vec::new(alloc);
+    lines.read_to_end(&mut beyond).expect(rt, "a stream");
+    beyond
 }
 
 #[test]
-fn octets_behind_a_line_are_left(rt: HostRuntime) {
+fn octets_after_a_line_are_left(rt: HostRuntime) {
     let octets = long(&rt, rt.alloc(), 9000, b"\nend\n");
     let mut stream = Vec::from_slice(rt.alloc(), b"feed 0 1\n").expect(&rt, "memory");
     stream.extend_from_slice(&octets).expect(&rt, "memory");
-    let at_once = behind_first(&rt, rt.alloc(), stream.as_slice());
+    let at_once = after_first(&rt, rt.alloc(), stream.as_slice());
     be(
         &rt,
         at_once.as_slice() == octets.as_slice(),
-        "octets behind a line are left",
+        "octets after a line are left",
     );
-    let slowly = behind_first(&rt, rt.alloc(), Slow::new(&stream));
+    let slowly = after_first(&rt, rt.alloc(), Slow::new(&stream));
     be(
         &rt,
         slowly.as_slice() == octets.as_slice(),
-        "octets behind a line are left",
+        "octets after a line are left",
     );
 }
 
-/// The lines of a stream that fails once, read on behind the failure.
-fn told_of_broken(rt: &impl Abort, alloc: Global, before: &[u8], after: &[u8]) -> Vec<u8> {
-    let mut told = Vec::new(alloc);
+/// The lines of a stream that fails once, read on after the failure.
+fn reported_of_broken(rt: &impl Abort, alloc: Global, before: &[u8], after: &[u8]) -> Vec<u8> {
+    let mut reported = Vec::new(alloc);
     let mut lines = LineReader::new(Broken::new(before, after));
-    push_lines(rt, &mut lines, &mut told);
-    push_lines(rt, &mut lines, &mut told);
-    told
+    push_lines(rt, &mut lines, &mut reported);
+    push_lines(rt, &mut lines, &mut reported);
+    reported
 }
 
 #[test]
 fn a_failed_read_loses_nothing(rt: HostRuntime) {
-    let told = told_of_broken(&rt, rt.alloc(), b"quit\nma", b"rk 0 1\n");
+    let reported = reported_of_broken(&rt, rt.alloc(), b"quit\nma", b"rk 0 1\n");
     be(
         &rt,
-        told.as_slice() == b"<quit>?<mark 0 1>.".as_slice(),
+        reported.as_slice() == b"<quit>?<mark 0 1>.".as_slice(),
         "a failed read loses nothing",
     );
 }

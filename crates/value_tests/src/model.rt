@@ -1,4 +1,4 @@
-//! Values from outside: worked examples, and octets that are no spelling by kind of fault.
+//! Values from outside: worked examples, and octets that encode nothing by kind of fault.
 
 mod admissions;
 mod keys;

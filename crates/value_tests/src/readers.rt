@@ -3,7 +3,7 @@
 use std::io;
 use std::io::{Error, ErrorKind, Read};
 
-/// A reader of these octets, one at a time, each behind an interruption.
+/// A reader of these octets, one at a time, each after an interruption.
 #[derive(Drop)]
 pub(crate) struct Slow<'a> {
     octets: &'a [u8],

@@ -19,7 +19,7 @@ level_of (ColumnNode keys parts start current) = 1
 level_of (KeyNode level keys children) = level
 
 -- what a page says is of this level at most, and of keys among these alone
-pub record LiesUnder (level : ℕ) (keys : Keys) (node : PageNode) : Type 0 where
+pub record LocatedUnder (level : ℕ) (keys : Keys) (node : PageNode) : Type 0 where
   pub no_higher : level_of node ≤ level
   pub low : keys.low ≤ (keys_of node).low
   pub nonempty : (keys_of node).low < (keys_of node).high
@@ -27,11 +27,11 @@ pub record LiesUnder (level : ℕ) (keys : Keys) (node : PageNode) : Type 0 wher
 
 -- each page in use says what it said, but for those that lie under the level and the keys
 abbrev pub KeepsOthers : (ℕ → Option PageNode) → (ℕ → Option PageNode) → ℕ → ℕ → Keys → Type 0
-KeepsOthers nodes nodes' limit level keys = (page : ℕ) (node : PageNode) → page < limit → nodes page ≡ Some node → (LiesUnder level keys node → ⊥) → nodes' page ≡ Some node
+KeepsOthers nodes nodes' limit level keys = (page : ℕ) (node : PageNode) → page < limit → nodes page ≡ Some node → (LocatedUnder level keys node → ⊥) → nodes' page ≡ Some node
 
 -- each page in use that lies under the level and the keys says what it said
 abbrev pub KeepsUnder : (ℕ → Option PageNode) → (ℕ → Option PageNode) → ℕ → ℕ → Keys → Type 0
-KeepsUnder nodes nodes' limit level keys = (page : ℕ) (node : PageNode) → page < limit → nodes page ≡ Some node → LiesUnder level keys node → nodes' page ≡ Some node
+KeepsUnder nodes nodes' limit level keys = (page : ℕ) (node : PageNode) → page < limit → nodes page ≡ Some node → LocatedUnder level keys node → nodes' page ≡ Some node
 
 -- what a node has become: itself, or two, of which the new one has the keys from its lowest on
 abbrev pub Became : Store → List Version → ℕ → Keys → ℕ → Option Child → Type 0

@@ -40,6 +40,6 @@ abbrev pub is_of : ℕ → ℕ → ℕ → Version → Bool
 is_of key from to v = nat_eq v.key key && (nat_le from v.stamp && nat_lt v.stamp to)
 
 -- exactly the versions of the key from a stamp on and before the greater one that is returned, in their order; where none is returned, all from that stamp on
-pub record IsPart (all : List Version) (key from : ℕ) (versions : List Version) (told : Option ℕ) : Type 0 where
-  pub above : from < end_or told
-  pub are : versions ≡ filter (is_of key from (end_or told)) all
+pub record IsPart (all : List Version) (key from : ℕ) (versions : List Version) (reported : Option ℕ) : Type 0 where
+  pub above : from < end_or reported
+  pub are : versions ≡ filter (is_of key from (end_or reported)) all

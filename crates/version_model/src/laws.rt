@@ -26,8 +26,8 @@ pub fn leaves_answer_as_all_do()
         → filter (is_of key from r.end) leaf ≡ filter (is_of key from r.end) all }
     ensures next { (all leaf : List Version) (r : Range) (s from : ℕ) (reached : Reached) → Shows all r leaf → IsPoint r from s → reached_to reached ≤ r.high
         → IsReached leaf s from reached → IsReached all s from reached }
-    ensures told { (all leaf : List Version) (r : Range) (key from : ℕ) (told : Option ℕ) → Shows all r leaf → IsRising all → IsRising leaf → IsPoint r key from
-        → from < end_or told → end_or told ≤ r.end → IsPart all key from (filter (is_of key from (end_or told)) leaf) told }
+    ensures reported { (all leaf : List Version) (r : Range) (key from : ℕ) (reported : Option ℕ) → Shows all r leaf → IsRising all → IsRising leaf → IsPoint r key from
+        → from < end_or reported → end_or reported ≤ r.end → IsPart all key from (filter (is_of key from (end_or reported)) leaf) reported }
 {}
 
 /// What a leaf shows is shown by both sides of a time split, by both sides of a key split, and of fewer keys and an
@@ -59,8 +59,8 @@ pub fn answers_stay()
     ensures none { (all new : List Version) (s at from to : ℕ) → AddsLater all s new → at ≤ s → NoneWithin all at from to → NoneWithin new at from to }
     ensures one { (all new : List Version) (s : ℕ) (v : Version) → Adds all v new → s < v.stamp → AddsLater all s new }
     ensures next { (all new : List Version) (s at from : ℕ) (reached : Reached) → AddsLater all s new → at ≤ s → IsReached all at from reached → IsReached new at from reached }
-    ensures part { (all new versions : List Version) (s key from : ℕ) (told : Option ℕ) → AddsLater all s new → IsRising all → IsRising new → end_or told ≤ s + 1
-        → IsPart all key from versions told → IsPart new key from versions told }
+    ensures part { (all new versions : List Version) (s key from : ℕ) (reported : Option ℕ) → AddsLater all s new → IsRising all → IsRising new → end_or reported ≤ s + 1
+        → IsPart all key from versions reported → IsPart new key from versions reported }
 {}
 
 /// The versions of a key from a stamp on up to a second one, and those from there on, are together those from the first stamp on.
@@ -68,8 +68,8 @@ pub fn answers_stay()
 pub fn parts_follow_one_another()
     ensures joined { (all : List Version) (key from to end : ℕ) → IsRising all → from ≤ to → to ≤ end
         → filter (is_of key from to) all ++ filter (is_of key to end) all ≡ filter (is_of key from end) all }
-    ensures next { (all versions more : List Version) (key from to : ℕ) (told : Option ℕ) → IsRising all → IsPart all key from versions (Some to) → IsPart all key to more told
-        → IsPart all key from (versions ++ more) told }
+    ensures next { (all versions more : List Version) (key from to : ℕ) (reported : Option ℕ) → IsRising all → IsPart all key from versions (Some to) → IsPart all key to more reported
+        → IsPart all key from (versions ++ more) reported }
     ensures whole { (all versions : List Version) (key : ℕ) → ((v : Version) → Has all v → v.stamp < stamp_end) → IsPart all key 0 versions None
         → versions ≡ filter (λ v. nat_eq v.key key) all }
 {}

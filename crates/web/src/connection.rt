@@ -8,7 +8,7 @@ use crate::answering::answer_target;
 use crate::answers::Answer;
 use crate::buffer::Buffer;
 use crate::fault::Fault;
-use crate::head::{head_of, wants_body};
+use crate::head::{head_of, lacks_body};
 use crate::writing::write_answer;
 use board::{Named, Pass};
 use query_threads::{Gate, OnDisk, Reader, Shared, Store};
@@ -66,7 +66,7 @@ fn answer_first<A: Store, N: Named + OnDisk<A::Disk>, G: Gate + Drop, W: Write, 
     ensures reader { IsSome N.disk → Among reader.new pass.new.past.blocks }
     ensures since { Since pass.old pass.new }
 {
-    let has_body = wants_body(octets);
+    let has_body = lacks_body(octets);
     let head = match head_of(octets) {
         Ok(Some(head)) => head,
         Ok(None) => return Next::More,

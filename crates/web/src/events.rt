@@ -48,10 +48,10 @@ fn name_of(letter: &str) -> &'static str {
 
 /// The object of an event, whose line has this letter, and this text after it.
 pub(crate) fn event_text(alloc: Global, letter: &str, text: &str) -> Result<String, AllocError> {
-    let (time, behind) = cut(text, '|');
+    let (time, beyond) = cut(text, '|');
     let seconds = number_of(time);
     let date = date_of(alloc, seconds)?;
-    let route = match route_of(alloc, letter, behind) {
+    let route = match route_of(alloc, letter, beyond) {
         Ok(route) => route,
         Err(why) => return Err(why),
     };

@@ -79,7 +79,7 @@ fn fields_of(octets: &[u8], spans: &[HeaderSpan], count: usize) -> Fields {
 
 /// Whether the answer to the request at the front of the octets has a body: one to HEAD has none, also where its head is refused. Empty lines
 /// before a request are passed over.
-pub(crate) fn wants_body(octets: &[u8]) -> bool {
+pub(crate) fn lacks_body(octets: &[u8]) -> bool {
     for (place, octet) in octets.iter().enumerate() {
         if !matches!(*octet, b'\r' | b'\n') {
             return !part_after(octets, place).starts_with(b"HEAD ");

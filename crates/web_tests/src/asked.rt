@@ -9,7 +9,7 @@ pub(crate) struct Conversation {
     pub(crate) parts: [&'static str; 3],
 }
 
-/// Connections to one archive, one after another, each of which ends as its client or a request wants it.
+/// Connections to one archive, one after another, each of which ends as its client or a request asks.
 pub(crate) const CONVERSATIONS: [Conversation; 33] = [
     Conversation {
         sent: b"GET /api/info HTTP/1.1\r\nHost: x\r\n\r\n",

@@ -29,7 +29,7 @@ fn is_right(it: &Conversation, received: &[u8]) -> bool {
     count_of(text, "HTTP/1.1 ") == it.answers && count_of(text, it.each) == it.answers
 }
 
-/// Whether a connection receives what it should where its octets come so many at a time.
+/// Whether a connection receives what it should where its octets come this many at a time.
 fn is_so<B: Named>(
     rt: &impl Wait,
     alloc: Global,

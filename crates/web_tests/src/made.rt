@@ -76,8 +76,8 @@ pub(crate) fn give<B: Named>(
 ) -> Option<()> {
     let all = records(alloc)?;
     let mut rest = all.as_slice();
-    let mut told = Output::new(Vec::new(alloc));
-    if feed(rt, alloc, stage, pass, 0, 1000, &mut rest, &mut told) != End::Well {
+    let mut reported = Output::new(Vec::new(alloc));
+    if feed(rt, alloc, stage, pass, 0, 1000, &mut rest, &mut reported) != End::Well {
         return None;
     }
     set_mark(rt, stage, pass, 0, Mark::new(SETTLED)?).ok()

@@ -36,8 +36,8 @@ pub(crate) fn count_of(text: &str, part: &str) -> usize {
 
 /// The target of the rest.
 fn next_in(body: &str) -> Option<&str> {
-    let (_, behind) = body.split_once("\"next\":\"")?;
-    let (next, _) = behind.split_once('"')?;
+    let (_, beyond) = body.split_once("\"next\":\"")?;
+    let (next, _) = beyond.split_once('"')?;
     Some(next)
 }
 
@@ -135,7 +135,7 @@ pub(crate) fn answers_awaited<B: Named>(
     Some(text.contains("Connection: close") && count_of(text, "HTTP/1.1 ") == 1)
 }
 
-/// How a connection ends whose client is lost after its request, or takes only so many octets.
+/// How a connection ends whose client is lost after its request, or takes only this many octets.
 pub(crate) fn ending_of<B: Named>(
     rt: &impl Wait,
     alloc: Global,

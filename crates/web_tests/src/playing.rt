@@ -11,7 +11,7 @@ use std::sync::Wait;
 use std::sync::atomic::AtomicU64;
 use web::{Ending, Others, serve_web};
 
-/// A client that sends these octets, at most so many at a time, and then ends the connection or is lost.
+/// A client that sends these octets, at most this many at a time, and then ends the connection or is lost.
 #[derive(Drop)]
 pub(crate) struct Client<'a> {
     pub(crate) octets: &'a [u8],
@@ -46,7 +46,7 @@ impl Read for Client<'_> {
     }
 }
 
-/// What a client takes: at most so many octets in all, and then writes fail.
+/// What a client takes: at most this many octets in all, and then writes fail.
 #[derive(Drop)]
 struct Taken<'a> {
     octets: &'a mut Vec<u8>,
@@ -74,7 +74,7 @@ pub(crate) struct Played {
     pub(crate) ending: Ending,
 }
 
-/// Plays a connection whose client takes at most so many octets.
+/// Plays a connection whose client takes at most this many octets.
 pub(crate) fn play<B: Named>(
     rt: &impl Wait,
     alloc: Global,

@@ -4,16 +4,16 @@ use Rattle.disk_models.specs.Once.{OnceState, Grows}
 use Rattle.disk_models.specs.Left.{Left, HasSettled}
 use Rattle.disk_models.specs.declared.once.OnceDisk.{Ghosts}
 use Rattle.once_store.specs.declared.shelf.Shelf.{Shelf}
-use Rattle.once_store.specs.Shelves.{AllTried, AreTriedBelow, IsFirstBlank, Spends, HasPassed, IsBehindBlank, disk_of, pen_of, next_of}
+use Rattle.once_store.specs.Shelves.{AllTried, AreTriedBelow, IsFirstBlank, Spends, HasPassed, IsAfterBlank, disk_of, pen_of, next_of}
 use Rattle.version_model.specs.Blocks.{BlockNode, Grows as BlocksGrow}
 use Rattle.worm_migration.specs.declared.error.MigrationError.{MigrationError}
 use Rattle.worm_migration.specs.declared.error.MigrationError.TheVariants.{Fault, OnceFull, OutOfMemory}
 use Rattle.worm_migration.specs.Settled.{HasSettledAs, ShelfSays, with_block}
 
 -- the number of the block that a result names, or the error
-abbrev pub told : {A : Type 0} → (A → ℕ) → Result A MigrationError → Result ℕ MigrationError
-told number (Ok answer) = Ok (number answer)
-told number (Err refusal) = Err refusal
+abbrev pub reported : {A : Type 0} → (A → ℕ) → Result A MigrationError → Result ℕ MigrationError
+reported number (Ok answer) = Ok (number answer)
+reported number (Err refusal) = Err refusal
 
 -- The disk, of `count` blocks, where the shelf's next number has gone from one to another. The returned number was that of the first blank
 -- block (blank). At most one block is spent, nothing else is burnt (spends), what was settled stays so (grows), and tried blocks stay
@@ -29,7 +29,7 @@ pub record PutsBlock (count from to : ℕ) (old new : OnceState) (result : Resul
   pub full : IsErrOf result OnceFull → AllTried old from count
   pub none_left : AllTried old from count → IsErr result
   pub same : IsErrOf result OnceFull → new ≡ old
-  pub failed : IsErrOf result Fault → HasPassed from to old new ⊎ IsBehindBlank old count from to
+  pub failed : IsErrOf result Fault → HasPassed from to old new ⊎ IsAfterBlank old count from to
   pub earlier : (left : Left) → HasSettled new left → HasSettled old left
 
 -- The shelf, of every disk. A returned block is the last one below the next number, which never falls nor leaves the disk. Running out of

@@ -8,7 +8,7 @@ ghost use Rattle.version_model.specs.Pages.{PastStands};
 ghost use Rattle.tsb_node.specs.Views.{keys_between};
 ghost use Rattle.worm_migration.specs.Columns.{AreWholePast, column_part, old_column};
 ghost use Rattle.worm_migration.specs.Settled.{ShelfSays, with_block};
-ghost use Rattle.worm_migration.specs.Shelves.{KeepsShelf, SettlesAs, told};
+ghost use Rattle.worm_migration.specs.Shelves.{KeepsShelf, SettlesAs, reported};
 
 use crate::error::MigrationError;
 use crate::settling::settle;
@@ -28,7 +28,7 @@ pub fn migrate_column<O: OnceDisk + Drop>(
     at: Stamp,
 ) -> Result<Part, MigrationError>
     requires past { AreWholePast bounds.now parts.now at }
-    ensures shelf { KeepsShelf O.OnceDisk shelf.old shelf.new (told (λ part. part.block) result) }
+    ensures shelf { KeepsShelf O.OnceDisk shelf.old shelf.new (reported (λ part. part.block) result) }
     ensures part { IfOk result (λ part. part ≡ column_part part.block) }
     ensures settled { O.honest (disk_of shelf.old) (pen_of shelf.old)
         → IfOk result (λ part. SettlesAs O.OnceDisk shelf.old shelf.new part.block (old_column (keys_between bounds.now) at parts.now)) }

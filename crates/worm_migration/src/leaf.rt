@@ -13,7 +13,7 @@ ghost use Rattle.tsb_node.specs.Leaves.{CanBeLeaf, IsLeafPage, LeafNode};
 ghost use Rattle.tsb_node.specs.Views.{keys_between};
 ghost use Rattle.worm_migration.specs.Columns.{ColumnHas, leaf_part, old_leaf};
 ghost use Rattle.worm_migration.specs.Settled.{ShelfSays, with_block};
-ghost use Rattle.worm_migration.specs.Shelves.{KeepsShelf, SettlesAs, told};
+ghost use Rattle.worm_migration.specs.Shelves.{KeepsShelf, SettlesAs, reported};
 
 use crate::error::MigrationError;
 use crate::settling::settle;
@@ -91,7 +91,7 @@ pub fn migrate_leaf<O: OnceDisk + Drop>(
     requires current { bounds.now.end ≡ None }
     requires forward { bounds.now.start < at }
     requires end { at + 1 < 256 ^ 16 }
-    ensures shelf { KeepsShelf O.OnceDisk shelf.old shelf.new (told (λ migrated. migrated.block) result) }
+    ensures shelf { KeepsShelf O.OnceDisk shelf.old shelf.new (reported (λ migrated. migrated.block) result) }
     ensures settled { O.honest (disk_of shelf.old) (pen_of shelf.old)
         → IfOk result (λ migrated. SettlesAs O.OnceDisk shelf.old shelf.new migrated.block (old_leaf (keys_between bounds.now) bounds.now.start at leaf.now)) }
     ensures newer { IfOk result (λ migrated. IsFrom leaf.now at migrated.newer) }

@@ -1,4 +1,4 @@
--- What is created carries the empty history.
+-- What is created represents the empty history.
 use Rattle.std.proofs.Common.{◌≡◌, ◌<◌, ◌≤◌, ℕ, zero, suc, ◌+◌, ◌*◌, ◌^◌, List, [], length, map, replicate, refl, sym, ◌∙◌, ap, subst, arith, Some}
 use Rattle.std.specs.List.{slice_get}
 use Rattle.std.proofs.Math.Nat.{mul-le-mul_right}
@@ -13,7 +13,7 @@ use Rattle.archive_head.specs.declared.lane.Lane.{Lane}
 use Rattle.archive_head.specs.Head.{Contents}
 use Rattle.archive_pages.specs.declared.settings.Settings.{Settings}
 use Rattle.archive_pages.specs.Places.{AreSettings, tree_low}
-use Rattle.archive_pages.specs.Carried.{TreeOn, Bears}
+use Rattle.archive_pages.specs.Represented.{TreeOn, HeadRepresents}
 use Rattle.archive_pages.proofs.Lanes.{ring_before_tree, lane_as}
 
 abbrev nothing : Intake
@@ -35,9 +35,9 @@ each_same zero c x y e = cc
 each_same (suc n) zero x y e = cc
 each_same (suc n) (suc c) x y e = each_same n c x y e
 
-pub bears_created : (Tree : TreeOn) (s : Settings) (settled : ℕ → List ℕ → Type 0) (head : Contents) (pages : List (List ℕ)) → head.applied ≡ 0 → head.last ≡ 0 → head.begun ≡ 0 → head.lanes ≡ replicate s.collectors no_lane → AreSettings s → tree_low s ≤ length pages
-    → Tree pages settled (tree_low s) head.root head.fresh head.block 0 [] → Bears Tree s settled head pages (empty s.collectors)
-bears_created Tree s settled head pages order last begun lanes some room tree = record {
+pub head_represents_created : (Tree : TreeOn) (s : Settings) (settled : ℕ → List ℕ → Type 0) (head : Contents) (pages : List (List ℕ)) → head.applied ≡ 0 → head.last ≡ 0 → head.begun ≡ 0 → head.lanes ≡ replicate s.collectors no_lane → AreSettings s → tree_low s ≤ length pages
+    → Tree pages settled (tree_low s) head.root head.fresh head.block 0 [] → HeadRepresents Tree s settled head pages (empty s.collectors)
+head_represents_created Tree s settled head pages order last begun lanes some room tree = record {
   right = right_empty s.collectors;
   number = length-replicate s.collectors nothing;
   lanes_number = ap length lanes ∙ length-replicate s.collectors no_lane;

@@ -1,4 +1,4 @@
--- The pages after a batch that was given carry the history of then.
+-- The pages after a batch that was given represent the history of then.
 use Rattle.std.proofs.Common.{◌≡◌, ℕ, ◌+◌, List, [], ◌++◌, length, sym, ap, subst, Some}
 use Rattle.std.specs.List.{AllByRecursion, slice_get}
 use Rattle.route_model.specs.Admission.{Admitted, IsAdmission}
@@ -13,16 +13,16 @@ use Rattle.archive_head.specs.Head.{Contents}
 use Rattle.intake.specs.Ring.{octets_for, Gains, Holds, Stands}
 use Rattle.archive_pages.specs.declared.settings.Settings.{Settings}
 use Rattle.archive_pages.specs.Places.{ring_of}
-use Rattle.archive_pages.specs.Carried.{TreeOn, IsFramed, Bears}
+use Rattle.archive_pages.specs.Represented.{TreeOn, IsFramed, HeadRepresents}
 use Rattle.archive_pages.specs.Changes.{with_lane, lane_given}
 use Rattle.archive_pages.specs.Batches.{Kept, IsKeptOf, HasLane, lane_with}
-use Rattle.archive_pages.proofs.api.Bearing.{bears_given}
+use Rattle.archive_pages.proofs.api.Representing.{head_represents_given}
 
--- Pages are shown that carry the history with this head.
+-- Pages are shown that represent the history with this head.
 pub record Shows (Tree : TreeOn) (s : Settings) (settled : ℕ → List ℕ → Type 0) (shows : List (List ℕ) → Type 0) (head : Contents) (h : History) : Type 0 where
   pub pages : List (List ℕ)
   pub shown : shows pages
-  pub bears : Bears Tree s settled head pages h
+  pub head_represents : HeadRepresents Tree s settled head pages h
 
 -- what the head keeps then is what the history says
 pub lane_is_given : (lane : Lane) (before : ℕ) (batch : List Admitted) (kept : Kept) → IsKeptOf before batch kept → lane_with lane kept ≡ lane_given lane before batch (lane.used + octets_for kept.timely)
@@ -34,7 +34,7 @@ lane_is_given lane before batch kept is =
 
 -- Where the collector's ring gained what is kept of a batch, and no page of another owner changed, the history was given the batch.
 pub shows_given : (Tree : TreeOn) (s : Settings) (settled : ℕ → List ℕ → Type 0) → IsFramed Tree settled → (shows : List (List ℕ) → Type 0) (head : Contents) (old : List (List ℕ)) (h : History) (c : ℕ) (batch : List Admitted) (kept : Kept) (lane : Lane) (i : Intake)
-    → Bears Tree s settled head old h → AllByRecursion IsAdmission batch → HasLane head c lane → slice_get h.intakes c ≡ Some i → IsKeptOf i.mark batch kept
+    → HeadRepresents Tree s settled head old h → AllByRecursion IsAdmission batch → HasLane head c lane → slice_get h.intakes c ≡ Some i → IsKeptOf i.mark batch kept
     → ((waits : List Admitted) → Holds old (ring_of s c lane) waits → Gains shows old (ring_of s c (lane_with lane kept)) (waits ++ kept.timely))
     → Shows Tree s settled shows (with_lane head c (lane_with lane kept)) (given h c batch)
 shows_given Tree s settled framed shows head old h c batch kept lane i b valid at here is gains =
@@ -46,6 +46,6 @@ shows_given Tree s settled framed shows head old h c batch kept lane i b valid a
     record {
       pages = gained.pages;
       shown = gained.shown;
-      bears = subst (λ (l : Lane). Bears Tree s settled (with_lane head c l) gained.pages (given h c batch)) (sym same)
-          (bears_given Tree s settled framed head old gained.pages h c batch lane i used b (right_given h c batch valid b.right) at here (record { count = gained.changes.count; below = gained.changes.below; above = gained.changes.above }) stands);
+      head_represents = subst (λ (l : Lane). HeadRepresents Tree s settled (with_lane head c l) gained.pages (given h c batch)) (sym same)
+          (head_represents_given Tree s settled framed head old gained.pages h c batch lane i used b (right_given h c batch valid b.right) at here (record { count = gained.changes.count; below = gained.changes.below; above = gained.changes.above }) stands);
     }

@@ -1,4 +1,4 @@
--- The pages after an applied change carry the history of then.
+-- The pages after an applied change represent the history of then.
 use Rattle.std.proofs.Common.{◌≡◌, ◌<◌, ◌≤◌, ℕ, zero, suc, ◌+◌, List, [], ◌∷◌, ◌++◌, length, drop, refl, sym, ◌∙◌, ap, subst, arith, Some, length-set, length-append}
 use Rattle.std.specs.List.{slice_get, slice_set, flat_map}
 use Rattle.std.proofs.lemmas.Bool.{eq-eqb, ne_eqb}
@@ -14,16 +14,16 @@ use Rattle.intake.specs.Ring.{entry, Holds}
 use Rattle.intake.proofs.api.Leaving.{holds_popped, is_ring_popped}
 use Rattle.archive_pages.specs.declared.settings.Settings.{Settings}
 use Rattle.archive_pages.specs.Places.{SamePages, ring_low, ring_of}
-use Rattle.archive_pages.specs.Carried.{TreeOn, LaneStands, Bears, last_time}
+use Rattle.archive_pages.specs.Represented.{TreeOn, LaneStands, HeadRepresents, last_time}
 use Rattle.archive_pages.specs.Changes.{next_change, head_moved, lane_popped, Takes}
 use Rattle.archive_pages.proofs.Lanes.{lanes_changed, lane_framed, ring_before_tree}
 use Rattle.archive_pages.proofs.Timing.{timed_part, timed_whole, versions_more, last_time-append}
 
 moved_with : (Tree : TreeOn) (s : Settings) (settled few : ℕ → List ℕ → Type 0) (head : Contents) (some fresh block root : ℕ) (lanes : List Lane) (old new : List (List ℕ)) (h g : History) (next : Placed Admitted)
-    → (b : Bears Tree s few head old h) → IsHistory g → g.intakes ≡ h.intakes → timed (applied g) ≡ timed (applied h) ++ next_change some next
+    → (b : HeadRepresents Tree s few head old h) → IsHistory g → g.intakes ≡ h.intakes → timed (applied g) ≡ timed (applied h) ++ next_change some next
     → Takes Tree s settled head (head_moved head some next g.some fresh block root lanes) some next b.versions old new → length lanes ≡ length head.lanes
     → ((k : ℕ) (l : Lane) (j : Intake) → slice_get lanes k ≡ Some l → slice_get g.intakes k ≡ Some j → LaneStands s new k l j (part k (waiting g)))
-    → Bears Tree s settled (head_moved head some next g.some fresh block root lanes) new g
+    → HeadRepresents Tree s settled (head_moved head some next g.some fresh block root lanes) new g
 moved_with Tree s settled few head some fresh block root lanes old new h g next b right is changes t len stand =
     record {
       right = right;
@@ -39,15 +39,15 @@ moved_with Tree s settled few head some fresh block root lanes old new h g next 
     }
 
 -- Other changes of the admission follow.
-pub bears_part : (Tree : TreeOn) (s : Settings) (settled few : ℕ → List ℕ → Type 0) (head : Contents) (fresh block root : ℕ) (old new : List (List ℕ)) (h : History) (next : Placed Admitted) (later : List (Placed Admitted))
-    → (b : Bears Tree s few head old h) → IsHistory (moved h h.whole (suc h.some)) → waiting h ≡ next ∷ later
+pub head_represents_part : (Tree : TreeOn) (s : Settings) (settled few : ℕ → List ℕ → Type 0) (head : Contents) (fresh block root : ℕ) (old new : List (List ℕ)) (h : History) (next : Placed Admitted) (later : List (Placed Admitted))
+    → (b : HeadRepresents Tree s few head old h) → IsHistory (moved h h.whole (suc h.some)) → waiting h ≡ next ∷ later
     → Takes Tree s settled head (head_moved head h.some next (suc h.some) fresh block root head.lanes) h.some next b.versions old new
-    → Bears Tree s settled (head_moved head h.some next (suc h.some) fresh block root head.lanes) new (moved h h.whole (suc h.some))
-bears_part Tree s settled few head fresh block root old new h next later b right here t =
+    → HeadRepresents Tree s settled (head_moved head h.some next (suc h.some) fresh block root head.lanes) new (moved h h.whole (suc h.some))
+head_represents_part Tree s settled few head fresh block root old new h next later b right here t =
     moved_with Tree s settled few head h.some fresh block root head.lanes old new h (moved h h.whole (suc h.some)) next b right refl (timed_part h next later here) t refl
     (λ k l j at there.
     let n = b.lanes_number in
-    let behind = ring_before_tree s k (let w = slice_get_within head.lanes k l at in omega arith) in
+    let beyond = ring_before_tree s k (let w = slice_get_within head.lanes k l at in omega arith) in
     lane_framed s old new k l j (part k (waiting h)) t.changes.count (λ i ge lt. t.changes.below i (omega arith)) (b.lanes k l j at there))
 
 drop_next : {X : Type 0} (n : ℕ) (xs : List X) (x : X) (later : List X) → drop n xs ≡ x ∷ later → drop (suc n) xs ≡ later
@@ -62,18 +62,18 @@ changed_none zero (i ∷ is) = refl
 changed_none (suc c) (i ∷ is) = ap (λ (l : List Intake). i ∷ l) (changed_none c is)
 
 -- It was the last change of the admission, which leaves its ring.
-pub bears_whole : (Tree : TreeOn) (s : Settings) (settled few : ℕ → List ℕ → Type 0) (head : Contents) (fresh block root : ℕ) (old new : List (List ℕ)) (h : History) (next : Placed Admitted) (later : List (Placed Admitted)) (lane : Lane) (i : Intake)
-    → (b : Bears Tree s few head old h) → IsHistory (moved h (suc h.whole) 0) → waiting h ≡ next ∷ later → length next.item.changes ≤ suc h.some
+pub head_represents_whole : (Tree : TreeOn) (s : Settings) (settled few : ℕ → List ℕ → Type 0) (head : Contents) (fresh block root : ℕ) (old new : List (List ℕ)) (h : History) (next : Placed Admitted) (later : List (Placed Admitted)) (lane : Lane) (i : Intake)
+    → (b : HeadRepresents Tree s few head old h) → IsHistory (moved h (suc h.whole) 0) → waiting h ≡ next ∷ later → length next.item.changes ≤ suc h.some
     → slice_get head.lanes next.collector ≡ Some lane → slice_get h.intakes next.collector ≡ Some i
     → Takes Tree s settled head (head_moved head h.some next 0 fresh block root (slice_set head.lanes next.collector (lane_popped s next.collector lane next.item))) h.some next b.versions old new
-    → Bears Tree s settled (head_moved head h.some next 0 fresh block root (slice_set head.lanes next.collector (lane_popped s next.collector lane next.item))) new (moved h (suc h.whole) 0)
-bears_whole Tree s settled few head fresh block root old new h next later lane i b right here le at there t =
+    → HeadRepresents Tree s settled (head_moved head h.some next 0 fresh block root (slice_set head.lanes next.collector (lane_popped s next.collector lane next.item))) new (moved h (suc h.whole) 0)
+head_represents_whole Tree s settled few head fresh block root old new h next later lane i b right here le at there t =
     let c = next.collector in
     let lane' = lane_popped s next.collector lane next.item in
     let g = moved h (suc h.whole) 0 in
     let waits : waiting g ≡ later = drop_next h.whole (all_of h) next later here in
     let n = b.lanes_number in
-    let own = lane_framed s old new c lane i (part c (waiting h)) t.changes.count (behind c (let w = slice_get_within head.lanes c lane at in omega arith)) (b.lanes c lane i at there) in
+    let own = lane_framed s old new c lane i (part c (waiting h)) t.changes.count (beyond c (let w = slice_get_within head.lanes c lane at in omega arith)) (b.lanes c lane i at there) in
     let first : part c (waiting h) ≡ next.item ∷ part c later = ap (part c) here ∙ rw (eq-eqb c c refl) refl in
     let held = subst (Holds new (ring_of s c lane)) first own.holds in
     let fits : length (entry next.item) ≤ lane.used = (let size = held.size in let both = length-append (entry next.item) (flat_map entry (part c later)) in omega arith) in
@@ -83,8 +83,8 @@ bears_whole Tree s settled few head fresh block root old new h next later lane i
     (lanes_changed s old new h g c (λ j. j) head.lanes lane' i (sym (changed_none c h.intakes)) there (slice_get_within head.lanes c lane at) b.lanes
     (record { offered = own.offered; admitted = own.admitted; mark = own.mark; place = place; holds = subst (λ l. Holds new (ring_of s c lane') (part c l)) (sym waits) holds })
     t.changes.count
-    (λ k ne lt. behind k (omega arith))
+    (λ k ne lt. beyond k (omega arith))
     (λ k j ne had. ap (part k) waits ∙ sym (ap (part k) here ∙ rw (ne_eqb c k (λ e. ne (sym e))) refl)))
   where
-    behind : (k : ℕ) → k < s.collectors → SamePages (ring_low s k) (ring_low s k + s.ring) old new
-    behind k lt m ge below = let r = ring_before_tree s k lt in t.changes.below m (omega arith)
+    beyond : (k : ℕ) → k < s.collectors → SamePages (ring_low s k) (ring_low s k + s.ring) old new
+    beyond k lt m ge below = let r = ring_before_tree s k lt in t.changes.below m (omega arith)

@@ -1,4 +1,4 @@
--- The pages after an applied change, and the head that passed over it, carry the history that applied the change.
+-- The pages after an applied change, and the head that passed over it, represent the history that applied the change.
 use Rattle.std.proofs.Common.{◌≡◌, ◌<◌, ◌≤◌, ℕ, zero, suc, List, [], ◌∷◌, length, refl, sym, ◌∙◌, ap, subst, inl, inr, arith, Some}
 use Rattle.std.specs.List.{slice_get, slice_set}
 use Rattle.std.proofs.lemmas.Bool.{cases_lt}
@@ -12,16 +12,16 @@ use Rattle.interleaving_core.proofs.api.Right.{part_moved, whole_moved}
 use Rattle.archive_head.specs.declared.lane.Lane.{Lane}
 use Rattle.archive_head.specs.Head.{Contents}
 use Rattle.archive_pages.specs.declared.settings.Settings.{Settings}
-use Rattle.archive_pages.specs.Carried.{TreeOn, Bears}
+use Rattle.archive_pages.specs.Represented.{TreeOn, HeadRepresents}
 use Rattle.archive_pages.specs.Changes.{head_moved, lane_popped, Takes}
 use Rattle.archive_pages.specs.Batches.{HasLane}
-use Rattle.archive_pages.proofs.api.Moving.{bears_part, bears_whole}
+use Rattle.archive_pages.proofs.api.Moving.{head_represents_part, head_represents_whole}
 
--- A step of the history was made, and the pages carry the history after it.
+-- A step of the history was made, and the pages represent the history after it.
 pub record Steps (Tree : TreeOn) (s : Settings) (settled : ℕ → List ℕ → Type 0) (head : Contents) (pages : List (List ℕ)) (h : History) : Type 0 where
   pub after : History
   pub applies : Applies h after
-  pub bears : Bears Tree s settled head pages after
+  pub head_represents : HeadRepresents Tree s settled head pages after
 
 -- The head passed over the next change of an admission: with this change the admission stays, or leaves its ring.
 pub record Passes (s : Settings) (head after : Contents) (next : Placed Admitted) (fresh block root : ℕ) : Type 0 where
@@ -35,7 +35,7 @@ got (x ∷ xs) zero lt = (x, refl)
 got (x ∷ xs) (suc c) lt = got xs c (omega arith)
 
 pub steps_passed : (Tree : TreeOn) (s : Settings) (settled few : ℕ → List ℕ → Type 0) (head after : Contents) (fresh block root : ℕ) (old new : List (List ℕ)) (h : History) (next : Placed Admitted) (later : List (Placed Admitted)) (lane : Lane)
-    → (b : Bears Tree s few head old h) → waiting h ≡ next ∷ later → IsBelowMarks h (time_of next) → HasLane head next.collector lane → Passes s head after next fresh block root
+    → (b : HeadRepresents Tree s few head old h) → waiting h ≡ next ∷ later → IsBelowMarks h (time_of next) → HasLane head next.collector lane → Passes s head after next fresh block root
     → Takes Tree s settled head after head.begun next b.versions old new → Steps Tree s settled after new h
 steps_passed Tree s settled few head after fresh block root old new h next later lane b here below at passes takes =
     let n = next.item.changes in
@@ -50,7 +50,7 @@ steps_passed Tree s settled few head after fresh block root old new h next later
           record {
             after = moved h h.whole (suc h.some);
             applies = record { next = next; later = later; here = here; below = below; part = λ more. refl; whole = λ le. absurd (omega arith) };
-            bears = subst (λ (x : Contents). Bears Tree s settled x new (moved h h.whole (suc h.some))) (sym is) (bears_part Tree s settled few head fresh block root old new h next later b right here took);
+            head_represents = subst (λ (x : Contents). HeadRepresents Tree s settled x new (moved h h.whole (suc h.some))) (sym is) (head_represents_part Tree s settled few head fresh block root old new h next later b right here took);
           }
       | inr ge ↦
           let lanes = slice_set head.lanes next.collector (lane_popped s next.collector lane next.item) in
@@ -61,6 +61,6 @@ steps_passed Tree s settled few head after fresh block root old new h next later
           record {
             after = moved h (suc h.whole) 0;
             applies = record { next = next; later = later; here = here; below = below; part = λ lt. absurd (omega arith); whole = λ le. refl };
-            bears = subst (λ (x : Contents). Bears Tree s settled x new (moved h (suc h.whole) 0)) (sym is) (bears_whole Tree s settled few head fresh block root old new h next later lane own.0 b right here (omega arith) at own.1 took);
+            head_represents = subst (λ (x : Contents). HeadRepresents Tree s settled x new (moved h (suc h.whole) 0)) (sym is) (head_represents_whole Tree s settled few head fresh block root old new h next later lane own.0 b right here (omega arith) at own.1 took);
           }
     ]

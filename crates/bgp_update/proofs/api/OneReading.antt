@@ -14,7 +14,7 @@ use Rattle.route_model.proofs.api.Sequences.{sequence_one}
 use Rattle.bgp_update.specs.declared.attribute.PathAttribute.{PathAttribute}
 use Rattle.bgp_update.specs.declared.reading.PathAttributes.{PathAttributes}
 use Rattle.bgp_update.specs.AttributeFields.{IsAttributeField, AreListed, value_of}
-use Rattle.route_model.specs.Spelling.{origin_octet}
+use Rattle.route_model.specs.Encoding.{origin_octet}
 use Rattle.route_model.specs.declared.attribute.Attribute.{Attribute}
 use Rattle.bgp_update.specs.Values.{Optionally, IsOrigin, IsNumber, IsFour, IsFlag, IsAggregator, as4_path, as4_aggregator, counted_aggregator}
 use Rattle.bgp_update.specs.Paths.{IsPath}

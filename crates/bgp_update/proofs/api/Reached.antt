@@ -15,28 +15,28 @@ use Rattle.route_model.specs.declared.wire.Family.{Family}
 use Rattle.route_model.proofs.api.Sequences.{same_fronts, sequence_one}
 use Rattle.route_model.proofs.api.PrefixFields.{prefixes_free}
 use Rattle.bgp_update.specs.declared.reach.Reach.{Reach}
-use Rattle.bgp_update.specs.NextHops.{IsHop, family_at, IsBehind, IsReachOf, IsReach, IsReached, AreReached, AreOf, AreUnreached, IsShort, IsEntryHop, IsEntryReach, hop_of}
+use Rattle.bgp_update.specs.NextHops.{IsHop, family_at, IsAfter, IsReachOf, IsReach, IsReached, AreReached, AreOf, AreUnreached, IsShort, IsEntryHop, IsEntryReach, hop_of}
 
 some_one : {A : Type 0} (x y : A) → Some x ≡ Some y → x ≡ y
 some_one x y e = cc
 
 -- a value whose octets after AFI and SAFI are no next hop and prefixes
-pub no_reach : (value behind : List ℕ) (family : Family) → Some family ≡ family_at value → behind ≡ drop 3 value
-    → ((hop : NextHop) (nlri : List ℕ) → IsBehind family behind hop nlri → ⊥) → (r : Option Reach) → IsReach value r → ⊥
-no_reach value behind family e b none None q = let both : Some family ≡ None = e ∙ q.1 in absurd cc
-no_reach value behind family e b none (Some reach) q =
+pub no_reach : (value beyond : List ℕ) (family : Family) → Some family ≡ family_at value → beyond ≡ drop 3 value
+    → ((hop : NextHop) (nlri : List ℕ) → IsAfter family beyond hop nlri → ⊥) → (r : Option Reach) → IsReach value r → ⊥
+no_reach value beyond family e b none None q = let both : Some family ≡ None = e ∙ q.1 in absurd cc
+no_reach value beyond family e b none (Some reach) q =
     let same : reach.family ≡ family = some_one reach.family family (sym q.family ∙ sym e) in
     none reach.next_hop reach.nlri
-    (subst (λ (t : List ℕ). IsBehind family t reach.next_hop reach.nlri) (sym b)
-    (subst (λ (f : Family). IsBehind f (drop 3 value) reach.next_hop reach.nlri) same q.behind))
+    (subst (λ (t : List ℕ). IsAfter family t reach.next_hop reach.nlri) (sym b)
+    (subst (λ (f : Family). IsAfter f (drop 3 value) reach.next_hop reach.nlri) same q.beyond))
 
 -- reading the prefixes after AFI and SAFI is reading MP_UNREACH_NLRI
-pub unreached_exactly : {X : Type 0} (view : X → List IpPrefix) (value behind : List ℕ) (family : Family) (result : Result X ReadFault) → 3 ≤ length value
-    → Some family ≡ family_at value → behind ≡ drop 3 value → Exactly view (Sequence (IsPrefixField family) behind) result → Exactly view (AreUnreached (Some value)) result
-unreached_exactly view value behind family (Ok x) room e b reads =
+pub unreached_exactly : {X : Type 0} (view : X → List IpPrefix) (value beyond : List ℕ) (family : Family) (result : Result X ReadFault) → 3 ≤ length value
+    → Some family ≡ family_at value → beyond ≡ drop 3 value → Exactly view (Sequence (IsPrefixField family) beyond) result → Exactly view (AreUnreached (Some value)) result
+unreached_exactly view value beyond family (Ok x) room e b reads =
     (room, subst (λ (f : Option Family). AreOf f (drop 3 value) (view x)) e (subst (λ (t : List ℕ). Sequence (IsPrefixField family) t (view x)) b reads))
-unreached_exactly view value behind family (Err faults.OutOfMemory) room e b none = tt
-unreached_exactly view value behind family (Err faults.Malformed) room e b none = λ v q.
+unreached_exactly view value beyond family (Err faults.OutOfMemory) room e b none = tt
+unreached_exactly view value beyond family (Err faults.Malformed) room e b none = λ v q.
     none v (subst (λ (t : List ℕ). Sequence (IsPrefixField family) t v) (sym b) (subst (λ (f : Option Family). AreOf f (drop 3 value) v) (sym e) q.1))
 
 -- ---- one reach
@@ -58,8 +58,8 @@ heads x y xs ys e = cc
 tails : (x y : ℕ) (xs ys : List ℕ) → (x ∷ xs) ≡ y ∷ ys → xs ≡ ys
 tails x y xs ys e = cc
 
-behind_one : (family : Family) (behind : List ℕ) (a b : NextHop) (x y : List ℕ) → IsBehind family behind a x → IsBehind family behind b y → (a ≡ b) × (x ≡ y)
-behind_one family behind a b x y p q =
+after_one : (family : Family) (beyond : List ℕ) (a b : NextHop) (x y : List ℕ) → IsAfter family beyond a x → IsAfter family beyond b y → (a ≡ b) × (x ≡ y)
+after_one family beyond a b x y p q =
     let whole : (length p.octets ∷ p.octets ++ (p.reserved ∷ x)) ≡ length q.octets ∷ q.octets ++ (q.reserved ∷ y) = sym p.parts ∙ q.parts in
     let size = heads _ _ _ _ whole in
     let fronts = same_fronts p.octets q.octets (p.reserved ∷ x) (q.reserved ∷ y) size (tails _ _ _ _ whole) in
@@ -71,8 +71,8 @@ made f h n = record { family = f; next_hop = h; nlri = n }
 some_reach : (value : List ℕ) (x y : Reach) → IsReachOf value x → IsReachOf value y → x ≡ y
 some_reach value x y p q =
     let family : x.family ≡ y.family = some_one x.family y.family (sym p.family ∙ q.family) in
-    let both = behind_one y.family (drop 3 value) x.next_hop y.next_hop x.nlri y.nlri
-    (subst (λ (f : Family). IsBehind f (drop 3 value) x.next_hop x.nlri) family p.behind) q.behind in
+    let both = after_one y.family (drop 3 value) x.next_hop y.next_hop x.nlri y.nlri
+    (subst (λ (f : Family). IsAfter f (drop 3 value) x.next_hop x.nlri) family p.beyond) q.beyond in
     ap (λ (f : Family). made f x.next_hop x.nlri) family ∙ ap (λ (h : NextHop). made y.family h x.nlri) both.0 ∙ ap (λ (n : List ℕ). made y.family y.next_hop n) both.1
 
 pub reach_one : (value : List ℕ) (x y : Option Reach) → IsReach value x → IsReach value y → x ≡ y

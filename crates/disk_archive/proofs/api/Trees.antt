@@ -3,8 +3,8 @@ use Rattle.std.proofs.Common.{◌≡◌, ℕ, zero, suc, List, [], ◌∷◌, le
 use Rattle.std.specs.List.{slice_get}
 use Rattle.std.proofs.lemmas.Bool.{cases_lt}
 use Rattle.intake.specs.Ring.{page_at}
-use Rattle.archive_pages.specs.Carried.{IsFramed, IsGrowing}
-use Rattle.disk_archive.specs.Trees.{TreeLies}
+use Rattle.archive_pages.specs.Represented.{IsFramed, IsGrowing}
+use Rattle.disk_archive.specs.Trees.{TreeLocated}
 
 same_page : (old new : List (List ℕ)) (n : ℕ) (octets : List ℕ) → length new ≡ length old → page_at new n ≡ page_at old n → slice_get old n ≡ Some octets → slice_get new n ≡ Some octets
 same_page [] new n octets len e at = cc
@@ -15,7 +15,7 @@ same_page (o ∷ old) (p ∷ new) (suc n) octets len e at = same_page old new n 
 pub not_own : {X : Type 0} (x : X) → None ≡ Some x → ⊥
 not_own x e = cc
 
-pub tree_framed : (count : ℕ) (settled : ℕ → List ℕ → Type 0) → IsFramed (TreeLies count) settled
+pub tree_framed : (count : ℕ) (settled : ℕ → List ℕ → Type 0) → IsFramed (TreeLocated count) settled
 tree_framed count settled low root fresh block next_stamp versions old new len same t = record {
   level = t.level;
   store = t.store;
@@ -30,7 +30,7 @@ tree_framed count settled low root fresh block next_stamp versions old new len s
   has = t.has;
 }
 
-pub tree_grows : (count : ℕ) → IsGrowing (TreeLies count)
+pub tree_grows : (count : ℕ) → IsGrowing (TreeLocated count)
 tree_grows count few many more low root fresh block next_stamp versions pages t = record {
   level = t.level;
   store = t.store;

@@ -9,7 +9,7 @@ use Rattle.route_meaning.specs.Merged.{Placed, placed}
 use Rattle.route_meaning.specs.History.{History, IsBelowMarks, waiting}
 use Rattle.sequencer.specs.Lanes.{Waiting}
 use Rattle.sequencer.specs.First.{IsNext}
-use Rattle.sequencer.specs.Ahead.{behind}
+use Rattle.sequencer.specs.Ahead.{beyond}
 use Rattle.interleaving_core.specs.Steps.{moved}
 use Rattle.version_model.specs.Versions.{Version}
 use Rattle.route_history.specs.Kept.{AreVersions}
@@ -19,7 +19,7 @@ use Rattle.archive_head.specs.Head.{Contents}
 use Rattle.archive_head.specs.declared.lane.Lane.{Lane}
 use Rattle.archive_pages.specs.declared.settings.Settings.{Settings}
 use Rattle.archive_pages.specs.Places.{ChangesFrom, tree_low}
-use Rattle.archive_pages.specs.Carried.{Bears, last_time}
+use Rattle.archive_pages.specs.Represented.{HeadRepresents, last_time}
 use Rattle.archive_pages.specs.Changes.{next_change}
 use Rattle.archive_pages.specs.Batches.{CanPop, HasLane}
 use Rattle.disk_archive.specs.declared.apply_error.ApplyError.{ApplyError}
@@ -33,7 +33,7 @@ use Rattle.disk_archive.specs.declared.planning_changes.Plan.{Plan}
 use Rattle.disk_archive.specs.declared.planning_changes.Application.{Application}
 use Rattle.disk_archive.specs.Lacks.{NeedsBlock, LacksLevel, LacksPages}
 use Rattle.disk_archive.specs.Mirrors.{Mirrors}
-use Rattle.disk_archive.specs.Trees.{TreeLies}
+use Rattle.disk_archive.specs.Trees.{TreeLocated}
 use Rattle.disk_archive.specs.Moves.{Moves}
 use Rattle.disk_archive.specs.inner.Planning.{Planned}
 
@@ -113,7 +113,7 @@ pub record TreeTakes (count : ℕ) (settled : ℕ → List ℕ → Type 0) (show
   pub pages : List (List ℕ)
   pub shown : shows pages
   pub changes : ChangesFrom low old pages
-  pub tree : TreeLies count pages settled low root fresh block next_stamp versions
+  pub tree : TreeLocated count pages settled low root fresh block next_stamp versions
 
 -- Pages are shown on which the tree lies there and took the version of the next change, where the admission has one.
 pub record TakesNext (count : ℕ) (s : Settings) (settled : ℕ → List ℕ → Type 0) (shows : List (List ℕ) → Type 0) (head : Contents) (next : Placed Admitted) (root fresh block : ℕ) (before : List Version) (old : List (List ℕ)) : Type 0 where
@@ -121,7 +121,7 @@ pub record TakesNext (count : ℕ) (s : Settings) (settled : ℕ → List ℕ �
   pub versions : AreVersions head.applied (next_change head.begun next) more
   pub takes : TreeTakes count settled shows (tree_low s) root fresh block (stamp_of (last_time head.last (next_change head.begun next)) (head.applied + length (next_change head.begun next))) (before ++ more) old
 
--- The history moves on: pages are shown that carry it then, and `whole` says whether the first admission that waited is wholly applied.
+-- The history moves on: pages are shown that represent it then, and `whole` says whether the first admission that waited is wholly applied.
 -- Until then no other one is begun.
 pub record MovesOn (count : ℕ) (s : Settings) (settled : ℕ → List ℕ → Type 0) (shows : List (List ℕ) → Type 0) (head : Contents) (whole : Bool) (h : History) : Type 0 where
   pub after : History
@@ -130,7 +130,7 @@ pub record MovesOn (count : ℕ) (s : Settings) (settled : ℕ → List ℕ → 
   pub leaves : whole ≡ true → after ≡ moved h (suc h.whole) 0
   pub pages : List (List ℕ)
   pub shown : shows pages
-  pub bears : Bears (TreeLies count) s settled head pages after
+  pub head_represents : HeadRepresents (TreeLocated count) s settled head pages after
 
 -- ---- several changes
 
@@ -153,15 +153,15 @@ pub record IsPlan (s : Settings) (homes unused block : ℕ) (waits : List Waitin
   pub blocks : plan.head.block ≤ block
   pub lanes : length plan.head.lanes ≡ length waits
   pub count : length plan.ahead ≡ length waits
-  pub hand : plan.whole ≡ false → IsAtHand s plan.head (behind plan.ahead waits) plan.front
+  pub hand : plan.whole ≡ false → IsAtHand s plan.head (beyond plan.ahead waits) plan.front
 
--- Pages are shown that carry the history with the head of what is planned. The lanes, after what it passes over, are those of the history,
+-- Pages are shown that represent the history with the head of what is planned. The lanes, after what it passes over, are those of the history,
 -- and the admission at hand is the first that waits, where it isn't wholly applied.
 pub record Reached (count : ℕ) (s : Settings) (settled : ℕ → List ℕ → Type 0) (shows : List (List ℕ) → Type 0) (lanes : List Waiting) (plan : Plan) (h : History) : Type 0 where
   pub pages : List (List ℕ)
   pub shown : shows pages
-  pub bears : Bears (TreeLies count) s settled plan.head pages h
-  pub mirrors : Mirrors (behind plan.ahead lanes) h
+  pub head_represents : HeadRepresents (TreeLocated count) s settled plan.head pages h
+  pub mirrors : Mirrors (beyond plan.ahead lanes) h
   pub first : plan.whole ≡ false → IsFirst h plan.front
 
 -- the same of a history to which this one moves
@@ -176,9 +176,9 @@ pub record Reaches (count : ℕ) (s : Settings) (settled : ℕ → List ℕ → 
   pub is : (after ≡ h) ⊎ Moves h after
   pub reached : Reached count s settled shows lanes plan after
 
--- The history moves on: pages are shown that carry it then, with the head on its page, and the lanes after what is passed over are its own.
+-- The history moves on: pages are shown that represent it then, with the head on its page, and the lanes after what is passed over are its own.
 pub record PlansMove (count : ℕ) (s : Settings) (settled : ℕ → List ℕ → Type 0) (shows : List (List ℕ) → Type 0) (lanes : List Waiting) (plan : Application) (h : History) : Type 0 where
   pub after : History
   pub moves : Moves h after
   pub planned : Planned count s settled shows plan.head after
-  pub mirrors : Mirrors (behind plan.ahead lanes) after
+  pub mirrors : Mirrors (beyond plan.ahead lanes) after

@@ -15,7 +15,7 @@ use Rattle.tsb_walk.specs.Knowing.{ReadsWell}
 use Rattle.version_model.specs.Versions.{Version}
 use Rattle.disk_archive.specs.declared.ask_error.AskError.{AskError}
 use Rattle.disk_archive.specs.declared.ask_error.AskError.TheVariants as asks
-use Rattle.disk_archive.specs.Trees.{TreeLies}
+use Rattle.disk_archive.specs.Trees.{TreeLocated}
 
 -- a refusal of a look, as it is reported for a question
 abbrev pub ask_of_node : NodeError → AskError
@@ -58,6 +58,6 @@ pub record HasTree {P : Type 0} (pages : Ghosts P) (held : P) {O Pen Seen : Type
   pub low : ℕ
   pub stamp : ℕ
   pub versions : List Version
-  pub lies : TreeLies (device.block_count (reader_disk reader)) shown (known_in (device.known seen)) low root fresh block stamp versions
+  pub located : TreeLocated (device.block_count (reader_disk reader)) shown (known_in (device.known seen)) low root fresh block stamp versions
   pub timely : IsRising time_of ps
   pub kept : Kept ps versions

@@ -35,9 +35,9 @@ disk_left (Ok tx) = disk_of (journal_of (pool_of tx))
 disk_left (Err refused) = refused.disk
 
 -- the result without what it hands out
-abbrev pub told : {E X : Type 0} {erase : EraseGhosts E} → Result (Tx E erase) (Handed E X) → Result (Unit {0}) X
-told (Ok tx) = Ok tt
-told (Err refused) = Err refused.error
+abbrev pub reported : {E X : Type 0} {erase : EraseGhosts E} → Result (Tx E erase) (Handed E X) → Result (Unit {0}) X
+reported (Ok tx) = Ok tt
+reported (Err refused) = Err refused.error
 
 -- whatever a crash now leaves on the disk means these pages
 abbrev pub Means : ℕ → List ℕ → DiskState → List (List ℕ) → Type 0

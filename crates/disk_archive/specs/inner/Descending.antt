@@ -14,7 +14,7 @@ use Rattle.disk_archive.specs.declared.descending.Descent.{Descent}
 use Rattle.disk_archive.specs.declared.descending.Descent.TheVariants.{Done, Again, Historical}
 use Rattle.disk_archive.specs.declared.errand.Errand.TheVariants as errands
 use Rattle.disk_archive.specs.Descents.{is_known}
-use Rattle.disk_archive.specs.Trees.{TreeLies}
+use Rattle.disk_archive.specs.Trees.{TreeLocated}
 
 -- a turn of a question of a moment, as one of any question
 abbrev pub of_rows : RowsTurn → Descent
@@ -39,5 +39,5 @@ pub record HasPages {P : Type 0} (pages : Ghosts P) (held : P) (count : ℕ) (kn
   pub fresh : ℕ
   pub stamp : ℕ
   pub versions : List Version
-  pub lies : TreeLies count shown (is_known known) low root fresh block stamp versions
+  pub located : TreeLocated count shown (is_known known) low root fresh block stamp versions
   pub kept : Kept (applied h) versions

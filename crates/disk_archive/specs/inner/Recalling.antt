@@ -30,11 +30,11 @@ pub record IsUnknown (lanes : List Waiting) (c : ℕ) : Type 0 where
   pub times : slice_get (waiting_times lanes) c ≡ Some []
 
 -- Of as many collectors as the head has, the first ones have the marks that the head gives, and nothing is known of the others.
-pub record KnowsMarks (told : List Lane) (lanes : List Waiting) (known : ℕ) : Type 0 where
-  pub count : length lanes ≡ length told
-  pub marks : (c : ℕ) (lane : Lane) → c < known → slice_get told c ≡ Some lane → slice_get (marks lanes) c ≡ Some lane.mark
-  pub others : (c : ℕ) → known ≤ c → c < length told → IsUnknown lanes c
+pub record KnowsMarks (reported : List Lane) (lanes : List Waiting) (known : ℕ) : Type 0 where
+  pub count : length lanes ≡ length reported
+  pub marks : (c : ℕ) (lane : Lane) → c < known → slice_get reported c ≡ Some lane → slice_get (marks lanes) c ≡ Some lane.mark
+  pub others : (c : ℕ) → known ≤ c → c < length reported → IsUnknown lanes c
 
 -- of the first collectors these times wait, where their rings hold admissions
 abbrev pub KnowsTimes : Settings → List Lane → List (List ℕ) → List Waiting → ℕ → Type 0
-KnowsTimes s told shown lanes known = (c : ℕ) (lane : Lane) (waits : List Admitted) → c < known → slice_get told c ≡ Some lane → Holds shown (ring_of s c lane) waits → slice_get (waiting_times lanes) c ≡ Some (map time_of waits)
+KnowsTimes s reported shown lanes known = (c : ℕ) (lane : Lane) (waits : List Admitted) → c < known → slice_get reported c ≡ Some lane → Holds shown (ring_of s c lane) waits → slice_get (waiting_times lanes) c ≡ Some (map time_of waits)

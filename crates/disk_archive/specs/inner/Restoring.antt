@@ -20,10 +20,10 @@ of_opening (journals.BadNode page) = openings.BadSlot page
 of_opening journals.OutOfMemory = openings.OutOfMemory
 
 -- The disk named these home pages and this note, and these pages are looked at.
-pub record Restores {E : Type 0} (device : Ghosts E) (looks : Looks E device) (count : ℕ) (told : List ℕ) (pages : List (List ℕ)) : Type 0 where
+pub record Restores {E : Type 0} (device : Ghosts E) (looks : Looks E device) (count : ℕ) (reported : List ℕ) (pages : List (List ℕ)) : Type 0 where
   pub homes : home_pages (journal_of looks.pool) ≡ count
-  pub note : note_of (journal_of looks.pool) ≡ told
-  pub looked : LooksAt device looks (record { note = told; pages = pages; clock = (device.model (disk_of (journal_of looks.pool))).clock }) pages
+  pub note : note_of (journal_of looks.pool) ≡ reported
+  pub looked : LooksAt device looks (record { note = reported; pages = pages; clock = (device.model (disk_of (journal_of looks.pool))).clock }) pages
 
 -- the disk that is looked at, or the one that is handed back
 abbrev pub disk_restored : {E : Type 0} {device : Ghosts E} → Result (Restored E device) (Handed E OpenError) → E

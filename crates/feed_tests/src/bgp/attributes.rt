@@ -77,7 +77,7 @@ fn attributes_of_four_octets_are_no_fault(rt: HostRuntime) {
 }
 
 #[test]
-fn optional_attributes_are_told(rt: HostRuntime) {
+fn optional_attributes_are_reported(rt: HostRuntime) {
     let all = joined(
         &rt,
         rt.alloc(),
@@ -95,7 +95,7 @@ fn optional_attributes_are_told(rt: HostRuntime) {
             AsWidth::Two,
             "00 0001 0202 0000FDE9 0000FDEA 04C0000201 0F 00000064 000000C8 0000FDE9C0000202 0000",
         ),
-        "optional attributes are told",
+        "optional attributes are reported",
     );
 }
 

@@ -1,6 +1,6 @@
 //! The routes of RIB entries.
 
-use super::{is_spelled, joined};
+use super::{is_encoded, joined};
 use crate::{be, octets};
 use bgp_update::{MessageFault, entry_route, read_attributes};
 use route_model::wire::{AsWidth, Family};
@@ -20,7 +20,7 @@ fn gives(rt: &impl Abort, alloc: Global, family: Family, attributes: &str, route
     let bytes = octets(rt, alloc, attributes);
     let read = read_attributes(alloc, &bytes, AsWidth::Four).expect(rt, "attributes");
     match entry_route(alloc, read, family) {
-        Ok(found) => is_spelled(rt, alloc, &found, route),
+        Ok(found) => is_encoded(rt, alloc, &found, route),
         Err(_) => panic!(rt; "no route"),
     }
 }

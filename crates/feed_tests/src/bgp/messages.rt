@@ -1,6 +1,6 @@
 //! Whole messages.
 
-use super::{PLAIN, PLAIN_ROUTE, fault_of, gives, has_route, joined, message, told, update};
+use super::{PLAIN, PLAIN_ROUTE, fault_of, gives, has_route, joined, message, reported, update};
 use crate::{be, octets};
 use bgp_update::{Announcement, Message, MessageFault, Update, read_message};
 use route_model::wire::AsWidth;
@@ -12,9 +12,9 @@ use std::process::Abort;
 const REACH: &str = "800E1A 0002 01 10 20010DB8000000000000000000000001 05 20 20010DB8";
 
 /// Whether this prefix stands at the place.
-fn stands(prefixes: &[Prefix], place: usize, wanted: Prefix) -> bool {
+fn stands(prefixes: &[Prefix], place: usize, expected: Prefix) -> bool {
     match prefixes.get(place) {
-        Some(found) => *found == wanted,
+        Some(found) => *found == expected,
         None => false,
     }
 }
@@ -36,9 +36,9 @@ fn has_one(announced: &Option<Announcement>, length: u8) -> bool {
 }
 
 /// Whether two prefixes are announced, the second of which is this one.
-fn has_second(announced: &Option<Announcement>, wanted: Prefix) -> bool {
+fn has_second(announced: &Option<Announcement>, expected: Prefix) -> bool {
     match announced {
-        Some(it) => it.prefixes.len() == 2 && stands(&it.prefixes, 1, wanted),
+        Some(it) => it.prefixes.len() == 2 && stands(&it.prefixes, 1, expected),
         None => false,
     }
 }
@@ -50,7 +50,7 @@ fn an_announced_prefix_has_the_route_of_the_attributes(rt: HostRuntime) {
         gives(&rt, rt.alloc(), PLAIN, AsWidth::Two, PLAIN_ROUTE),
         "the route of one prefix",
     );
-    let update = told(&rt, rt.alloc(), PLAIN, "080A 090AFF", AsWidth::Two);
+    let update = reported(&rt, rt.alloc(), PLAIN, "080A 090AFF", AsWidth::Two);
     let second = Prefix::containing(Address::V4([10, 128, 0, 0]), 9);
     be(&rt, has_second(&update.announced, second), "two prefixes");
     be(
@@ -72,7 +72,7 @@ fn ipv6_by_mp_reach(rt: HostRuntime) {
         rt.alloc(),
         &["40010100 40020A02020000FDE90000FDEA", REACH],
     );
-    let update = told(&rt, rt.alloc(), &attributes, "", AsWidth::Four);
+    let update = reported(&rt, rt.alloc(), &attributes, "", AsWidth::Four);
     be(&rt, has_one(&update.reachable, 32), "the prefix");
     be(&rt, update.announced.is_none(), "nothing else");
     be(
@@ -85,7 +85,7 @@ fn ipv6_by_mp_reach(rt: HostRuntime) {
 #[test]
 fn nlri_and_mp_reach_have_their_own_next_hops(rt: HostRuntime) {
     let attributes = joined(&rt, rt.alloc(), &[PLAIN, REACH]);
-    let update = told(&rt, rt.alloc(), &attributes, "080A", AsWidth::Two);
+    let update = reported(&rt, rt.alloc(), &attributes, "080A", AsWidth::Two);
     be(
         &rt,
         has_route(&rt, rt.alloc(), &update.announced, PLAIN_ROUTE),
@@ -104,13 +104,13 @@ fn nlri_and_mp_reach_have_their_own_next_hops(rt: HostRuntime) {
 }
 
 /// An UPDATE whose octets after the header are encoded so.
-fn update_behind(rt: &impl Abort, alloc: Global, behind: &str) -> Vec<u8> {
-    message(rt, alloc, 2, &octets(rt, alloc, behind))
+fn update_after(rt: &impl Abort, alloc: Global, beyond: &str) -> Vec<u8> {
+    message(rt, alloc, 2, &octets(rt, alloc, beyond))
 }
 
 /// What it says.
-fn told_behind(rt: &impl Abort, alloc: Global, behind: &str) -> Update {
-    match read_message(alloc, &update_behind(rt, alloc, behind), AsWidth::Two) {
+fn reported_after(rt: &impl Abort, alloc: Global, beyond: &str) -> Update {
+    match read_message(alloc, &update_after(rt, alloc, beyond), AsWidth::Two) {
         Ok(Message::Update(update)) => update,
         _ => panic!(rt; "no update"),
     }
@@ -118,13 +118,13 @@ fn told_behind(rt: &impl Abort, alloc: Global, behind: &str) -> Update {
 
 #[test]
 fn withdrawn_prefixes_of_both_kinds(rt: HostRuntime) {
-    let short = update_behind(&rt, rt.alloc(), "0004 18C63364 000A 800F07 0002 01 1020 01");
+    let short = update_after(&rt, rt.alloc(), "0004 18C63364 000A 800F07 0002 01 1020 01");
     be(
         &rt,
         fault_of(rt.alloc(), &short, AsWidth::Two) == Some(MessageFault::Malformed),
         "16 bits in 2 octets are 3",
     );
-    let update = told_behind(&rt, rt.alloc(), "0004 18C63364 0009 800F06 0002 01 1020 01");
+    let update = reported_after(&rt, rt.alloc(), "0004 18C63364 0009 800F06 0002 01 1020 01");
     let lost = Prefix::containing(Address::V4([198, 51, 100, 0]), 24);
     be(
         &rt,
@@ -155,22 +155,22 @@ const OTHERS: [(u8, &[u8], Read); 4] = [
 ];
 
 /// Whether a message of this type with these octets is read so.
-fn is_read_as(rt: &impl Abort, alloc: Global, kind: u8, behind: &[u8], wanted: Read) -> bool {
-    let found = match read_message(alloc, &message(rt, alloc, kind, behind), AsWidth::Two) {
+fn is_read_as(rt: &impl Abort, alloc: Global, kind: u8, beyond: &[u8], expected: Read) -> bool {
+    let found = match read_message(alloc, &message(rt, alloc, kind, beyond), AsWidth::Two) {
         Ok(Message::Notification) => Read::Notification,
         Ok(Message::Other(other)) => Read::Other(other),
         Err(MessageFault::Malformed) => Read::Malformed,
         _ => return false,
     };
-    found == wanted
+    found == expected
 }
 
 #[test]
 fn other_types_are_read_by_their_header(rt: HostRuntime) {
-    for (kind, behind, wanted) in &OTHERS {
+    for (kind, beyond, expected) in &OTHERS {
         be(
             &rt,
-            is_read_as(&rt, rt.alloc(), *kind, behind, *wanted),
+            is_read_as(&rt, rt.alloc(), *kind, beyond, *expected),
             "another type of message",
         );
     }
@@ -249,7 +249,7 @@ const MP_WHOLE: [&str; 6] = [
 /// Whether an UPDATE with this attribute beside others announces a prefix, and none by the attribute.
 fn is_without_prefix(rt: &impl Abort, alloc: Global, text: &str) -> bool {
     let attributes = joined(rt, alloc, &[PLAIN, text]);
-    let update = told(rt, alloc, &attributes, "080A", AsWidth::Two);
+    let update = reported(rt, alloc, &attributes, "080A", AsWidth::Two);
     update.unreachable.is_empty() && update.reachable.is_none() && update.announced.is_some()
 }
 
@@ -260,7 +260,7 @@ fn by_two_hops(rt: &impl Abort, alloc: Global) -> Update {
         alloc,
         &[PLAIN, "800E27 0001 01 20", TWO_HOPS, "00 080B"],
     );
-    told(rt, alloc, &attributes, "", AsWidth::Two)
+    reported(rt, alloc, &attributes, "", AsWidth::Two)
 }
 
 #[test]

@@ -1,6 +1,6 @@
 //! AS paths of both widths.
 
-use super::{fault_of, gives, joined, put, put_count, told, update};
+use super::{fault_of, gives, joined, put, put_count, reported, update};
 use crate::{be, octets};
 use bgp_update::MessageFault;
 use route_model::wire::AsWidth;
@@ -19,7 +19,7 @@ fn has_path(rt: &impl Abort, alloc: Global, own: &str, longer: &str, path: &str)
     gives(rt, alloc, &attributes, AsWidth::Two, &route)
 }
 
-/// AS_PATH, the attributes behind it, and the path of the route.
+/// AS_PATH, the attributes after it, and the path of the route.
 const PATHS: [(&str, &str, &str); 12] = [
     (
         "080203FDE95BA0FDEB",
@@ -174,7 +174,7 @@ fn put_sequence(rt: &impl Abort, path: &mut Vec<u8>, count: u8) {
     }
 }
 
-/// An UPDATE at width four whose AS_PATH has sequences of 255, 255 and so many numbers.
+/// An UPDATE at width four whose AS_PATH has sequences of 255, 255 and this many numbers.
 fn long_path(rt: &impl Abort, alloc: Global, last: u8, nlri: &str) -> Vec<u8> {
     let mut path = Vec::new(alloc);
     put_sequence(rt, &mut path, 255);
@@ -205,7 +205,7 @@ fn a_route_of_3073_octets_is_too_large(rt: HostRuntime) {
     be(&rt, silent == None, "nothing announced");
     be(
         &rt,
-        told(&rt, rt.alloc(), "", "", AsWidth::Two)
+        reported(&rt, rt.alloc(), "", "", AsWidth::Two)
             .announced
             .is_none(),
         "a route of 3073 octets is too large",

@@ -9,7 +9,7 @@ use mrt_records::Item;
 use std::alloc::Global;
 use std::process::Abort;
 
-/// Whether a record of this type and subtype with this body is told as malformed, with both.
+/// Whether a record of this type and subtype with this body is reported as malformed, with both.
 fn is_malformed(rt: &impl Abort, alloc: Global, kind: u16, subtype: u16, body: &[u8]) -> bool {
     let found = item(rt, alloc, &record(rt, alloc, kind, subtype, body));
     match found {
@@ -21,7 +21,7 @@ fn is_malformed(rt: &impl Abort, alloc: Global, kind: u16, subtype: u16, body: &
     }
 }
 
-/// The octets behind a record's header.
+/// The octets after a record's header.
 fn body_of(rt: &impl Abort, alloc: Global, text: &str) -> Vec<u8> {
     let bytes = octets(rt, alloc, text);
     let (_, body) = bytes.split_at_checked(12).expect(rt, "no header");
@@ -108,7 +108,7 @@ const OUT_OF_RANGE: [(u16, u16, &str, &str); 19] = [
     (
         16,
         0,
-        "IPv4 addresses told as IPv6",
+        "IPv4 addresses reported as IPv6",
         "FDE9 FC00 0000 0002 C0000201 C0000202 0006 0001",
     ),
     (
@@ -126,13 +126,13 @@ const OUT_OF_RANGE: [(u16, u16, &str, &str); 19] = [
     (
         16,
         1,
-        "a message that tells too few octets",
+        "a message that claims too few octets",
         "FDE9 FC00 0000 0001 C0000201 C0000202 FFFFFFFFFFFFFFFFFFFFFFFFFFFFFFFF 0012 04",
     ),
     (
         16,
         1,
-        "a message that tells too many octets",
+        "a message that claims too many octets",
         "FDE9 FC00 0000 0001 C0000201 C0000202 FFFFFFFFFFFFFFFFFFFFFFFFFFFFFFFF 0014 04",
     ),
     (13, 1, "a name that runs past the end", "C0000202 0001 0000"),

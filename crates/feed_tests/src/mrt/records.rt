@@ -23,8 +23,8 @@ const MESSAGES: [(&str, AsWidth, usize); 3] = [
     (MESSAGE_ET, AsWidth::Two, 45),
 ];
 
-/// Whether a record is a message of the router, of this width and with so many octets, which are the record's last.
-fn is_message(rt: &impl Abort, alloc: Global, text: &str, wanted: AsWidth, len: usize) -> bool {
+/// Whether a record is a message of the router, of this width and with this many octets, which are the record's last.
+fn is_message(rt: &impl Abort, alloc: Global, text: &str, expected: AsWidth, len: usize) -> bool {
     let bytes = octets(rt, alloc, text);
     match item(rt, alloc, &bytes) {
         Item::Message {
@@ -35,7 +35,7 @@ fn is_message(rt: &impl Abort, alloc: Global, text: &str, wanted: AsWidth, len: 
         } => {
             time.seconds() == 1_704_067_200
                 && peer == ROUTER
-                && width == wanted
+                && width == expected
                 && octets.len() == len
                 && bytes.ends_with(&octets)
         }
@@ -84,7 +84,7 @@ fn a_peer_of_ipv6(rt: HostRuntime) {
     be(&rt, is_of_ipv6(&found), "a peer of ipv6");
 }
 
-/// Records, and the new states that they tell.
+/// Records, and the new states that they report.
 const STATES: [(&str, u16); 3] = [
     (STATE_CHANGE, 1),
     (
@@ -97,11 +97,11 @@ const STATES: [(&str, u16); 3] = [
     ),
 ];
 
-/// Whether a record tells that the session of the router came to this state.
-fn is_state(rt: &impl Abort, alloc: Global, text: &str, wanted: u16) -> bool {
+/// Whether a record reports that the session of the router came to this state.
+fn is_state(rt: &impl Abort, alloc: Global, text: &str, expected: u16) -> bool {
     match item(rt, alloc, &octets(rt, alloc, text)) {
         Item::StateChange { time, peer, state } => {
-            time.seconds() == 1_704_067_200 && peer == ROUTER && state == wanted
+            time.seconds() == 1_704_067_200 && peer == ROUTER && state == expected
         }
         _ => false,
     }
@@ -145,7 +145,7 @@ const PEER_TABLES: [(&str, &[Neighbor]); 3] = [
     ("00000000 0000 0000", &[]),
 ];
 
-/// The peers that a record tells.
+/// The peers that a record lists.
 fn peers_in(rt: &impl Abort, alloc: Global, bytes: &[u8]) -> Vec<Neighbor> {
     match item(rt, alloc, bytes) {
         Item::PeerTable(peers) => peers,
@@ -210,7 +210,7 @@ fn is_entry(entries: &RibEntries, place: usize, peer_index: u16, attributes: &[u
     }
 }
 
-/// Whether the record has one entry, of peer 0, whose attributes are its last octets, so many.
+/// Whether the record has one entry, of peer 0, whose attributes are its last octets, this many.
 fn is_last_entry(entries: &RibEntries, bytes: &[u8], len: usize) -> bool {
     match bytes.len().checked_sub(len) {
         Some(front) => {
@@ -302,7 +302,7 @@ const UNLISTED: [(u16, u16); 9] = [
     (65535, 65535),
 ];
 
-/// Whether a record of this type and subtype is skipped, and told with both.
+/// Whether a record of this type and subtype is skipped, and reported with both.
 fn is_skipped(rt: &impl Abort, alloc: Global, kind: u16, subtype: u16) -> bool {
     let found = item(rt, alloc, &record(rt, alloc, kind, subtype, &[0xFF, 0xFF]));
     match found {

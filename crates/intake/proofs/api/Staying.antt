@@ -24,4 +24,4 @@ holds_same homes ring old new waits r same h =
 pub holds_beside : (homes : ℕ) (one other : Ring) (old new : List (List ℕ)) (waits : List Admitted) → IsRing homes other → (other.low + other.count ≤ one.low) ⊎ (one.low + one.count ≤ other.low) → ChangesOnly one old new → Holds old other waits → Holds new other waits
 holds_beside homes one other old new waits r apart changes h =
     holds_same homes other old new waits r
-    (λ n ge lt. elim apart [ inl before ↦ changes.below n (omega arith) | inr behind ↦ changes.above n (omega arith) ]) h
+    (λ n ge lt. elim apart [ inl before ↦ changes.below n (omega arith) | inr beyond ↦ changes.above n (omega arith) ]) h

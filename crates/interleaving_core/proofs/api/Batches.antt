@@ -15,4 +15,4 @@ lates-map f mark earlier i (x ∷ xs) =
 
 -- the late ones of a batch are those of its times
 pub lates_of : {X : Type 0} (f : X → ℕ) (mark : ℕ) (xs : List X) (times : List ℕ) (late : List Late) → times ≡ map f xs → late ≡ lates (λ t. t) mark [] 0 times → late ≡ lates f mark [] 0 xs
-lates_of f mark xs times late same told = told ∙ (ap (lates (λ t. t) mark [] 0) same ∙ lates-map f mark [] 0 xs)
+lates_of f mark xs times late same reported = reported ∙ (ap (lates (λ t. t) mark [] 0) same ∙ lates-map f mark [] 0 xs)

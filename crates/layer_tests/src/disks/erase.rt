@@ -16,22 +16,22 @@ pub(crate) fn sync(disk: &mut MemErase) -> bool {
 }
 
 /// Whether these octets, at most sixteen, are read from a place on.
-pub(crate) fn reads(disk: &mut MemErase, at: u64, wanted: &[u8]) -> bool {
+pub(crate) fn reads(disk: &mut MemErase, at: u64, expected: &[u8]) -> bool {
     let size = disk.size();
     let mut octets = [1u8; 16];
-    let Some(into) = octets.get_mut(..wanted.len()) else {
+    let Some(into) = octets.get_mut(..expected.len()) else {
         return false;
     };
     at <= size
         && into.len() as u64 <= size - at
         && disk.read(at, &mut *into).is_ok()
-        && *into == *wanted
+        && *into == *expected
 }
 
 /// Whether a crash by this choice leaves these octets from 8 on.
-fn leaves(disk: &MemErase, choice: &[Torn], wanted: &[u8]) -> bool {
+fn leaves(disk: &MemErase, choice: &[Torn], expected: &[u8]) -> bool {
     match disk.crash(choice) {
-        Ok(mut left) => reads(&mut left, 8, wanted),
+        Ok(mut left) => reads(&mut left, 8, expected),
         Err(_) => false,
     }
 }
@@ -121,9 +121,9 @@ const LEFT: [&[u8]; 6] = [
 ];
 
 /// Whether this is left where the n-th is chosen.
-fn leaves_by(alloc: Global, disk: &MemErase, n: usize, wanted: &[u8]) -> bool {
+fn leaves_by(alloc: Global, disk: &MemErase, n: usize, expected: &[u8]) -> bool {
     match choice(alloc, n) {
-        Some(choice) => leaves(disk, &choice, wanted),
+        Some(choice) => leaves(disk, &choice, expected),
         None => false,
     }
 }
@@ -132,10 +132,10 @@ fn leaves_by(alloc: Global, disk: &MemErase, n: usize, wanted: &[u8]) -> bool {
 fn a_crash_tears_what_is_unsynced(rt: HostRuntime) {
     let mut disk = torn_disk(rt.alloc()).expect(&rt, "a disk");
     be(&rt, reads(&mut disk, 8, b"settunsynced"), "before a crash");
-    for (n, wanted) in LEFT.iter().enumerate() {
+    for (n, expected) in LEFT.iter().enumerate() {
         be_at(
             &rt,
-            leaves_by(rt.alloc(), &disk, n, *wanted),
+            leaves_by(rt.alloc(), &disk, n, *expected),
             "torn",
             n as u64,
         );
@@ -245,12 +245,12 @@ fn fails(alloc: Global, n: usize, call: usize, read: &[u8], left: &[u8]) -> Opti
     let mut disk = MemErase::new(alloc, 32);
     disk.set_script(vec![in alloc; failure(n)].ok()?);
     let failed = run(&mut disk);
-    let mut wanted = [false; 5];
-    if let Some(failed) = wanted.get_mut(call) {
+    let mut expected = [false; 5];
+    if let Some(failed) = expected.get_mut(call) {
         *failed = true;
     }
     Some(
-        failed == wanted
+        failed == expected
             && disk.faults() == u64::from(n > 0)
             && reads(&mut disk, 8, read)
             && leaves(&disk, &[], left),

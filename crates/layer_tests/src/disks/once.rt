@@ -242,13 +242,13 @@ fn fails(alloc: Global, n: usize, call: usize, faults: u64, first: u8, last: u8)
     let mut burner = Burner::new(alloc, 4);
     burner.pen.set_script(vec![in alloc; failure(n)].ok()?);
     let failed = run(alloc, &mut burner)?;
-    let mut wanted = [false; 5];
-    if let Some(failed) = wanted.get_mut(call) {
+    let mut expected = [false; 5];
+    if let Some(failed) = expected.get_mut(call) {
         *failed = true;
     }
     burner.pen.set_script(Vec::new(alloc));
     Some(
-        failed == wanted
+        failed == expected
             && burner.reads(alloc, 0, first, last)
             && MemOnce::pen_faults(&burner.pen) == faults,
     )

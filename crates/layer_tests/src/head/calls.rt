@@ -55,7 +55,7 @@ fn a_batch_goes_into_its_collectors_ring(rt: HostRuntime) {
         gives_two(rt.alloc(), &mut tx, &mut head) == Some(true),
         "a batch",
     );
-    let wanted = Lane {
+    let expected = Lane {
         offered: 3,
         admitted: 2,
         mark: Mark::at(Moment::from(TIME)),
@@ -64,7 +64,7 @@ fn a_batch_goes_into_its_collectors_ring(rt: HostRuntime) {
     };
     be(
         &rt,
-        has_lanes(&head, lane(), wanted),
+        has_lanes(&head, lane(), expected),
         "what is kept of the second collector",
     );
     // The second ring begins on page 10: an entry is a length in four octets, and the encoding.

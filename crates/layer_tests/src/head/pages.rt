@@ -138,8 +138,8 @@ fn written(alloc: Global) -> Option<Page> {
 #[test]
 fn each_number_is_written_at_its_place(rt: HostRuntime) {
     let page = written(rt.alloc()).expect(&rt, "a page");
-    let wanted = page_of(rt.alloc(), &NUMBERS).expect(&rt, "a page");
-    be(&rt, page.octets() == wanted.octets(), "each number");
+    let expected = page_of(rt.alloc(), &NUMBERS).expect(&rt, "a page");
+    be(&rt, page.octets() == expected.octets(), "each number");
 }
 
 #[test]
@@ -163,11 +163,11 @@ fn what_has_no_use_is_zero(rt: HostRuntime) {
 #[test]
 fn collectors_that_are_not_asked_for_are_no_zeros(rt: HostRuntime) {
     let page = page_of(rt.alloc(), &NUMBERS).expect(&rt, "a page");
-    for (collectors, wanted) in [(0, false), (1, false), (2, true), (3, true)] {
+    for (collectors, expected) in [(0, false), (1, false), (2, true), (3, true)] {
         let is_head = is_head(rt.alloc(), &page, collectors);
         be_at(
             &rt,
-            is_head == Some(wanted),
+            is_head == Some(expected),
             "collectors",
             collectors as u64,
         );
@@ -185,8 +185,8 @@ const LIMITS: [(usize, u64, bool); 5] = [
 
 #[test]
 fn a_time_and_a_mark_have_their_limits(rt: HostRuntime) {
-    for (place, number, wanted) in &LIMITS {
+    for (place, number, expected) in &LIMITS {
         let stands = stands_with(rt.alloc(), *place, *number);
-        be_at(&rt, stands == Some(*wanted), "a limit", *number);
+        be_at(&rt, stands == Some(*expected), "a limit", *number);
     }
 }

@@ -50,11 +50,11 @@ const SETTINGS: [(u8, u16, bool); 6] = [
 
 #[test]
 fn settings_outside_their_limits_are_none(rt: HostRuntime) {
-    for (n, (collectors, ring, wanted)) in SETTINGS.iter().enumerate() {
+    for (n, (collectors, ring, expected)) in SETTINGS.iter().enumerate() {
         let settings = Settings {
             collectors: *collectors,
             ring: *ring,
         };
-        be_at(&rt, settings.is_within() == *wanted, "settings", n as u64);
+        be_at(&rt, settings.is_within() == *expected, "settings", n as u64);
     }
 }

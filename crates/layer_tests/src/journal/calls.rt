@@ -26,12 +26,12 @@ fn step_of(call: &Call) -> Step {
 }
 
 /// Whether a disk's calls were these, after the first `skipped` ones.
-fn are_steps(disk: &MemErase, skipped: usize, wanted: &[Step]) -> bool {
+fn are_steps(disk: &MemErase, skipped: usize, expected: &[Step]) -> bool {
     let calls = disk.calls().get(skipped..).unwrap_or(&[]);
-    calls.len() == wanted.len()
+    calls.len() == expected.len()
         && calls
             .iter()
-            .zip(wanted.iter())
+            .zip(expected.iter())
             .all(|(call, step)| step_of(call) == *step)
 }
 

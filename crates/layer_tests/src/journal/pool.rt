@@ -79,7 +79,7 @@ pub(super) fn numbered(
 }
 
 /// A refusal of a page, in the list of all.
-fn told(refusal: PageError) -> JournalError {
+fn reported(refusal: PageError) -> JournalError {
     match refusal {
         PageError::Fault => JournalError::Fault,
         PageError::NeedsRecovery => JournalError::NeedsRecovery,
@@ -94,7 +94,7 @@ fn set(alloc: Global, tx: &mut Tx<MemErase>, n: u64, octet: u8) -> Result<(), Jo
         return Err(JournalError::PagesFull);
     }
     let page = filled(alloc, octet)?;
-    tx.set(n, page).map_err(told)
+    tx.set(n, page).map_err(reported)
 }
 
 fn lay(
@@ -108,7 +108,7 @@ fn lay(
         return Err(JournalError::PagesFull);
     }
     let images = numbered(alloc, tx.home_pages(), count, octet)?;
-    tx.lay(images, unused).map_err(told)
+    tx.lay(images, unused).map_err(reported)
 }
 
 fn fetch(tx: &mut Tx<MemErase>, n: u64) -> Result<(), PageError> {
@@ -131,8 +131,8 @@ pub(super) fn play(alloc: Global, tx: &mut Tx<MemErase>, step: Step) -> Result<u
     match step {
         Step::Set(n, octet) => set(alloc, tx, n, octet)?,
         Step::Lay(count, octet, unused) => lay(alloc, tx, count, octet, unused)?,
-        Step::Fetch(n) => fetch(tx, n).map_err(told)?,
-        Step::Fresh => return tx.fresh().map_err(told),
+        Step::Fetch(n) => fetch(tx, n).map_err(reported)?,
+        Step::Fresh => return tx.fresh().map_err(reported),
         Step::Begin(next) => begin(tx, next)?,
         Step::Commit => tx.commit()?,
         Step::Flush => return Ok(u64::from(tx.flush_one()?)),

@@ -179,12 +179,12 @@ fn is_old_none_or_new(alloc: Global, disk: &MemErase, kind: u8) -> Option<bool> 
     let left = disk.crash_as(&torn(alloc, kind).ok()?).ok()?;
     Some(match opened(alloc, left) {
         Ok(mut journal) => {
-            let wanted = if journal.note() == [0; 11] {
+            let expected = if journal.note() == [0; 11] {
                 [20, 21, 22, 23]
             } else {
                 OLD
             };
-            shows(alloc, &mut journal, wanted)
+            shows(alloc, &mut journal, expected)
         }
         Err(error) => error == JournalError::NotAJournal,
     })

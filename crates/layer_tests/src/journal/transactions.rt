@@ -103,12 +103,12 @@ fn stops(alloc: Global, disk: &MemErase, run: &Run, kind: u8) -> Option<u64> {
 fn is_stopped_so(alloc: Global, run: &Run) -> Option<bool> {
     let disk = played(alloc, made(alloc)?, run.before, &mut 0)?;
     for kind in 0..KINDS + 2 {
-        let wanted = match kind {
+        let expected = match kind {
             0 => run.reads,
             1 => run.syncs,
             _ => run.writes,
         };
-        if stops(alloc, &disk, run, kind)? != wanted {
+        if stops(alloc, &disk, run, kind)? != expected {
             return Some(false);
         }
     }

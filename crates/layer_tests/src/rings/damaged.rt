@@ -1,6 +1,6 @@
 //! A ring of which an octet isn't what was put there.
 
-use super::{ONE, PAGE, append, begun, copy_of, ends, front, is_spelled, one, waiting_times};
+use super::{ONE, PAGE, append, begun, copy_of, ends, front, is_encoded, one, waiting_times};
 use crate::{be, be_at};
 use disk_memory::MemErase;
 use intake::{ReadError, Ring};
@@ -48,30 +48,37 @@ fn spoil(alloc: Global, tx: &mut Tx<MemErase>, ring: &Ring, place: u64) -> Optio
 }
 
 /// Whether this is read as the first admission's encoding.
-fn is_first(alloc: Global, tx: &mut Tx<MemErase>, ring: &Ring, wanted: Reading<&[u8]>) -> bool {
+fn is_first(alloc: Global, tx: &mut Tx<MemErase>, ring: &Ring, expected: Reading<&[u8]>) -> bool {
     match front(alloc, tx, ring) {
-        Ok(Some(found)) => match wanted {
-            Ok(spelled) => is_spelled(alloc, found.admission(), spelled),
+        Ok(Some(found)) => match expected {
+            Ok(encoded) => is_encoded(alloc, found.admission(), encoded),
             Err(_) => false,
         },
-        Err(ReadError::BadNode(page)) => wanted.err() == Some(page),
+        Err(ReadError::BadNode(page)) => expected.err() == Some(page),
         _ => false,
     }
 }
 
 /// Whether these two times are read.
-fn are_both(times: &[Moment], wanted: [u32; 2]) -> bool {
-    times.len() == 2 && times[0] == Moment::from(wanted[0]) && times[1] == Moment::from(wanted[1])
+fn are_both(times: &[Moment], expected: [u32; 2]) -> bool {
+    times.len() == 2
+        && times[0] == Moment::from(expected[0])
+        && times[1] == Moment::from(expected[1])
 }
 
 /// Whether these are read as the times.
-fn are_times(alloc: Global, tx: &mut Tx<MemErase>, ring: &Ring, wanted: Reading<[u32; 2]>) -> bool {
+fn are_times(
+    alloc: Global,
+    tx: &mut Tx<MemErase>,
+    ring: &Ring,
+    expected: Reading<[u32; 2]>,
+) -> bool {
     match waiting_times(alloc, tx, ring) {
-        Ok(times) => match wanted {
+        Ok(times) => match expected {
             Ok(two) => are_both(&times, two),
             Err(_) => false,
         },
-        Err(ReadError::BadNode(page)) => wanted.err() == Some(page),
+        Err(ReadError::BadNode(page)) => expected.err() == Some(page),
         Err(_) => false,
     }
 }
@@ -139,19 +146,19 @@ fn is_read_changed(
 }
 
 /// The first encoding where the octet k of its entry is changed, the length's first of all.
-fn spelled_changed(k: usize) -> [u8; 67] {
-    let mut spelled = ONE;
-    if let Some(octet) = spelled.get_mut(k.wrapping_sub(4)) {
+fn encoded_changed(k: usize) -> [u8; 67] {
+    let mut encoded = ONE;
+    if let Some(octet) = encoded.get_mut(k.wrapping_sub(4)) {
         *octet ^= 0x81;
     }
-    spelled
+    encoded
 }
 
 /// Whether what is read is as expected where the octet k of the first entry is changed, which begins on page 4.
 fn is_first_entry_read(alloc: Global, tx: &mut Tx<MemErase>, ring: &Ring, k: usize) -> bool {
-    let spelled = spelled_changed(k);
+    let encoded = encoded_changed(k);
     let first = if k >= 4 && is_free(&FREE, k - 4) {
-        Ok(spelled.as_slice())
+        Ok(encoded.as_slice())
     } else {
         Err(4)
     };
@@ -166,7 +173,7 @@ fn is_second_entry_read(alloc: Global, tx: &mut Tx<MemErase>, ring: &Ring, k: us
 }
 
 #[test]
-fn a_changed_octet_is_told_with_the_page_on_which_its_entry_begins(rt: HostRuntime) {
+fn a_changed_octet_is_reported_with_the_page_on_which_its_entry_begins(rt: HostRuntime) {
     let alloc = rt.alloc();
     let mut tx = begun(alloc).expect(&rt, "a transaction");
     // The first entry begins on the page 4 and ends on the page 5, on which the second begins.
@@ -213,14 +220,14 @@ fn are_seconds(
     alloc: Global,
     tx: &mut Tx<MemErase>,
     ring: &Ring,
-    wanted: Reading<(u32, u32)>,
+    expected: Reading<(u32, u32)>,
 ) -> bool {
     match waiting_times(alloc, tx, ring) {
-        Ok(times) => match wanted {
+        Ok(times) => match expected {
             Ok((other, time)) => are_but(&times, other, time),
             Err(_) => false,
         },
-        Err(ReadError::BadNode(page)) => wanted.err() == Some(page),
+        Err(ReadError::BadNode(page)) => expected.err() == Some(page),
         Err(_) => false,
     }
 }
@@ -253,18 +260,18 @@ fn is_first_of_full(
     alloc: Global,
     tx: &mut Tx<MemErase>,
     ring: &Ring,
-    spelled: &mut [u8],
+    encoded: &mut [u8],
     k: usize,
 ) -> bool {
     if k >= 1024 {
-        return is_first(alloc, tx, ring, Ok(&*spelled));
+        return is_first(alloc, tx, ring, Ok(&*encoded));
     }
     if k < 4 || !is_free(&FREE_OF_ENDS, k - 4) {
         return is_first(alloc, tx, ring, Err(3));
     }
-    flip(spelled, k - 4);
-    let is_read = is_first(alloc, tx, ring, Ok(&*spelled));
-    flip(spelled, k - 4);
+    flip(encoded, k - 4);
+    let is_read = is_first(alloc, tx, ring, Ok(&*encoded));
+    flip(encoded, k - 4);
     is_read
 }
 
@@ -293,30 +300,30 @@ fn is_full_read(
     alloc: Global,
     tx: &mut Tx<MemErase>,
     ring: &Ring,
-    spelled: &mut [u8],
+    encoded: &mut [u8],
     k: u32,
 ) -> bool {
     let place = ring.first.saturating_add(u64::from(k)) % PAGE;
     spoil(alloc, tx, ring, place).is_some()
-        && is_first_of_full(alloc, tx, ring, spelled, k as usize)
+        && is_first_of_full(alloc, tx, ring, encoded, k as usize)
         && are_seconds(alloc, tx, ring, time_changed(k))
         && spoil(alloc, tx, ring, place).is_some()
 }
 
 /// The encoding of the first admission of a full ring.
-fn spelling(alloc: Global) -> Option<Vec<u8>> {
+fn encoding(alloc: Global) -> Option<Vec<u8>> {
     ends(alloc, 0, 328)?.encode(alloc).ok()
 }
 
 #[test]
-fn each_octet_of_a_full_ring_is_read_or_told(rt: HostRuntime) {
+fn each_octet_of_a_full_ring_is_read_or_reported(rt: HostRuntime) {
     let alloc = rt.alloc();
-    let mut spelled = spelling(alloc).expect(&rt, "a spelling");
+    let mut encoded = encoding(alloc).expect(&rt, "a spelling");
     let mut tx = begun(alloc).expect(&rt, "a transaction");
     let ring = full(alloc, &mut tx).expect(&rt, "a ring");
     be(&rt, ring.used == PAGE, "all octets are used");
     for k in 0..16_384u32 {
-        let is_read = is_full_read(alloc, &mut tx, &ring, &mut spelled, k);
+        let is_read = is_full_read(alloc, &mut tx, &ring, &mut encoded, k);
         be_at(&rt, is_read, "an octet", u64::from(k));
     }
 }

@@ -1,6 +1,6 @@
 //! A ring of which a page isn't read, since the disk fails.
 
-use super::{ONE, PAGE, append, begun_failing, front, is_spelled, one, settle};
+use super::{ONE, PAGE, append, begun_failing, front, is_encoded, one, settle};
 use crate::{be, be_at};
 use disk_memory::MemErase;
 use intake::{IntakeError, ReadError, Ring};
@@ -25,7 +25,7 @@ fn leave(tx: &mut Tx<MemErase>) -> Option<()> {
 /// Whether the first admission is the one that was put.
 fn is_one(alloc: Global, tx: &mut Tx<MemErase>, ring: &Ring) -> bool {
     match front(alloc, tx, ring) {
-        Ok(Some(found)) => is_spelled(alloc, found.admission(), &ONE),
+        Ok(Some(found)) => is_encoded(alloc, found.admission(), &ONE),
         _ => false,
     }
 }
@@ -67,13 +67,13 @@ fn append_one(alloc: Global, tx: &mut Tx<MemErase>, ring: &mut Ring) -> Option<O
 
 /// Asks for the first admission, again where that is refused.
 fn look_again(alloc: Global, tx: &mut Tx<MemErase>, ring: &Ring) -> Outcome {
-    let told = match front(alloc, tx, ring) {
+    let reported = match front(alloc, tx, ring) {
         Ok(_) => Outcome::Done,
         Err(ReadError::Pages(PageError::Fault)) => Outcome::Refused,
         Err(_) => Outcome::Wrong,
     };
     if is_one(alloc, tx, ring) {
-        told
+        reported
     } else {
         Outcome::Wrong
     }

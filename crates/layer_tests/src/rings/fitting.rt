@@ -208,7 +208,7 @@ const NO_RINGS: [Ring; 5] = [
 ];
 
 #[test]
-fn numbers_that_are_no_ring_are_told(rt: HostRuntime) {
+fn numbers_that_are_no_ring_are_reported(rt: HostRuntime) {
     let ring = Ring::empty(1, 9);
     be(
         &rt,

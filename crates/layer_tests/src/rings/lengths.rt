@@ -136,7 +136,7 @@ fn is_case(alloc: Global, tx: &mut Tx<MemErase>, case: &Case) -> Option<bool> {
 }
 
 #[test]
-fn a_wrong_length_is_told_with_its_page(rt: HostRuntime) {
+fn a_wrong_length_is_reported_with_its_page(rt: HostRuntime) {
     let mut tx = begun(rt.alloc()).expect(&rt, "a transaction");
     for (n, case) in CASES.iter().enumerate() {
         let is_right = is_case(rt.alloc(), &mut tx, case) == Some(true);
@@ -151,7 +151,7 @@ fn put_many(alloc: Global, tx: &mut Tx<MemErase>, ring: &mut Ring) -> Option<()>
 }
 
 #[test]
-fn a_length_that_no_admission_has_is_told_where_it_stands(rt: HostRuntime) {
+fn a_length_that_no_admission_has_is_reported_where_it_stands(rt: HostRuntime) {
     let alloc = rt.alloc();
     let mut tx = begun(alloc).expect(&rt, "a transaction");
     let mut ring = Ring::empty(1, 9);
@@ -169,7 +169,7 @@ fn a_length_that_no_admission_has_is_told_where_it_stands(rt: HostRuntime) {
 }
 
 #[test]
-fn octets_without_room_for_a_length_or_a_time_are_told(rt: HostRuntime) {
+fn octets_without_room_for_a_length_or_a_time_are_reported(rt: HostRuntime) {
     let mut tx = begun(rt.alloc()).expect(&rt, "a transaction");
     // The used octets begin with the last two of page 4. From four on they begin with a length that is too large.
     for used in 1..12u64 {
@@ -178,24 +178,24 @@ fn octets_without_room_for_a_length_or_a_time_are_told(rt: HostRuntime) {
             used,
             ..Ring::empty(3, 3)
         };
-        let is_told = is_read(rt.alloc(), &mut tx, &ring, Some(4), Times::Damaged(4));
-        be_at(&rt, is_told, "used octets", used);
+        let is_reported = is_read(rt.alloc(), &mut tx, &ring, Some(4), Times::Damaged(4));
+        be_at(&rt, is_reported, "used octets", used);
     }
 }
 
 /// Whether page 5 is damaged for the first admission and page 3 for the times where the first entry has this length.
-fn is_told_later(alloc: Global, tx: &mut Tx<MemErase>, length: u32) -> Option<bool> {
+fn is_reported_later(alloc: Global, tx: &mut Tx<MemErase>, length: u32) -> Option<bool> {
     let ring = laid(alloc, tx, 49_142)?;
     Some(is_read_with(alloc, tx, &ring, length, 5, Times::Damaged(3)))
 }
 
 #[test]
-fn octets_behind_an_entry_without_room_for_a_time_are_told(rt: HostRuntime) {
+fn octets_after_an_entry_without_room_for_a_time_are_reported(rt: HostRuntime) {
     let mut tx = begun(rt.alloc()).expect(&rt, "a transaction");
     // Of 123 used octets 11 to 1 are left after the first entry, which begins with the last ten of page 5. They begin on
     // page 3.
     for length in 108..119u32 {
-        let is_told = is_told_later(rt.alloc(), &mut tx, length) == Some(true);
-        be_at(&rt, is_told, "a length", u64::from(length));
+        let is_reported = is_reported_later(rt.alloc(), &mut tx, length) == Some(true);
+        be_at(&rt, is_reported, "a length", u64::from(length));
     }
 }

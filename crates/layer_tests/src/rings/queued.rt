@@ -1,7 +1,7 @@
 //! A ring beside a plain queue.
 
 use super::{
-    PAGE, SHORTEST, append, begun, ends, free, front, is_rest_untouched, is_same, is_spelled,
+    PAGE, SHORTEST, append, begun, ends, free, front, is_encoded, is_rest_untouched, is_same,
     largest, pop, settle, waiting_times,
 };
 use crate::{be, be_at};
@@ -104,10 +104,10 @@ fn is_popped(
     alloc: Global,
     tx: &mut Tx<MemErase>,
     ring: &mut Ring,
-    wanted: &Admission,
+    expected: &Admission,
 ) -> Option<bool> {
     let found = front(alloc, tx, ring).ok()??;
-    let same = is_same(alloc, found.admission(), wanted);
+    let same = is_same(alloc, found.admission(), expected);
     Some(pop(tx, ring, found.admission()) && same)
 }
 
@@ -323,7 +323,7 @@ fn is_wrapped(alloc: Global, tx: &mut Tx<MemErase>, before: u64) -> Option<bool>
     append(alloc, tx, &mut ring, &batch).ok()?;
     let found = front(alloc, tx, &ring).ok()??;
     Some(
-        is_spelled(alloc, found.admission(), &SHORTEST)
+        is_encoded(alloc, found.admission(), &SHORTEST)
             && pop(tx, &mut ring, found.admission())
             && ring.used == 0
             && ring.first == (PAGE + 18).saturating_sub(before) % PAGE,

@@ -184,9 +184,9 @@ fn next_by_scan(from: u8, stamp: u64) -> Option<Key> {
 fn are_next_keys(alloc: Global, leaf: &Leaf, stamp: u64) -> Option<bool> {
     let newer = newer_side(alloc, leaf, stamp)?;
     for from in 0..KEYS {
-        let wanted = next_by_scan(from, stamp);
-        if leaf.least_live(key_of(from), stamp_of(stamp)) != wanted
-            || newer.least_live(key_of(from), stamp_of(stamp)) != wanted
+        let expected = next_by_scan(from, stamp);
+        if leaf.least_live(key_of(from), stamp_of(stamp)) != expected
+            || newer.least_live(key_of(from), stamp_of(stamp)) != expected
         {
             return Some(false);
         }

@@ -1,7 +1,7 @@
 //! Lookups in nodes built by hand: which child, which part, which versions.
 
+use super::encodings::{COLUMN, COLUMN_BLOCK, KEY_NODE, LEAF_BLOCK, block_of};
 use super::nodes::{LEAF, key_of, page_of};
-use super::spellings::{COLUMN, COLUMN_BLOCK, KEY_NODE, LEAF_BLOCK, block_of};
 use crate::{be, be_at};
 use disk_models::Page;
 use std::alloc::Global;
@@ -207,11 +207,11 @@ const RIGHT: [(usize, &[u8]); 8] = [
 ];
 
 /// Whether a leaf's side, of the bounds of this leaf, is exactly this leaf. `fresh` is written over.
-fn is_side(leaf: &Page, fresh: &mut Page, wanted: &Page) -> bool {
-    let Some(bounds) = read_leaf(wanted) else {
+fn is_side(leaf: &Page, fresh: &mut Page, expected: &Page) -> bool {
+    let Some(bounds) = read_leaf(expected) else {
         return false;
     };
-    copy_side(leaf.octets(), &bounds, fresh).is_ok() && fresh.octets() == wanted.octets()
+    copy_side(leaf.octets(), &bounds, fresh).is_ok() && fresh.octets() == expected.octets()
 }
 
 #[test]
@@ -239,7 +239,7 @@ fn are_bounds(bounds: &Option<Bounds>, end: &Option<Stamp>) -> bool {
 }
 
 #[test]
-fn leaves_by_hand_are_told_by_their_bounds(rt: HostRuntime) {
+fn leaves_by_hand_are_reported_by_their_bounds(rt: HostRuntime) {
     let leaf = page_of(rt.alloc(), &LEAF).expect(&rt, "a leaf");
     be(&rt, are_bounds(&read_leaf(&leaf), &None), "a leaf");
     let block = block_of(rt.alloc(), &LEAF_BLOCK).expect(&rt, "a block");

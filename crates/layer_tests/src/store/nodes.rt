@@ -55,8 +55,8 @@ fn is_pushed(page: &mut Page, stamp: Stamp, value: Option<&[u8; 2]>) -> bool {
 }
 
 /// Whether a leaf that begins with the bounds of a page gets its octets by two pushes.
-fn is_written(alloc: Global, wanted: &Page) -> Option<bool> {
-    let said = leaf_of_page(alloc, wanted).ok()?;
+fn is_written(alloc: Global, expected: &Page) -> Option<bool> {
+    let said = leaf_of_page(alloc, expected).ok()?;
     let bounds = said.bounds.low == key_of(0)
         && said.bounds.high == Some(key_of(9))
         && said.bounds.start == Stamp::new(0, 0)
@@ -67,16 +67,16 @@ fn is_written(alloc: Global, wanted: &Page) -> Option<bool> {
         bounds
             && is_pushed(&mut page, Stamp::new(258, 3), Some(&[170, 187]))
             && is_pushed(&mut page, Stamp::new(260, 0), None)
-            && page.octets() == wanted.octets(),
+            && page.octets() == expected.octets(),
     )
 }
 
 #[test]
 fn a_leaf_by_hand_is_what_is_written(rt: HostRuntime) {
-    let wanted = page_of(rt.alloc(), &LEAF).expect(&rt, "a page");
+    let expected = page_of(rt.alloc(), &LEAF).expect(&rt, "a page");
     be(
         &rt,
-        is_written(rt.alloc(), &wanted) == Some(true),
+        is_written(rt.alloc(), &expected) == Some(true),
         "the octets",
     );
 }

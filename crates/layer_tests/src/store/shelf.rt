@@ -65,8 +65,8 @@ fn reads<O: OnceDisk + Drop>(
     }
     let mut seen = shelf.seen().ok()?;
     let mut reader = shelf.reader(alloc, capacity).ok()?;
-    for (n, wanted) in asked {
-        if read_by(&mut reader, &mut seen, *n)? != *wanted {
+    for (n, expected) in asked {
+        if read_by(&mut reader, &mut seen, *n)? != *expected {
             return Some(false);
         }
     }
@@ -289,7 +289,7 @@ fn outlives(alloc: Global, n: u64, kind: u8, number: u64) -> Option<bool> {
 }
 
 #[test]
-fn what_was_told_outlives_each_crash(rt: HostRuntime) {
+fn what_was_reported_outlives_each_crash(rt: HostRuntime) {
     for n in 0..10u64 {
         // A call that only asks leaves its block blank.
         let number = n / 3 + u64::from(n % 3 > 0);

@@ -13,12 +13,12 @@ IsFront bytes fronts.Part = IsPart bytes
 IsFront bytes (fronts.Whole n) = (n ≤ length bytes) × (12 ≤ n) × IsRecord (take n bytes)
 IsFront bytes fronts.Over = Over bytes
 
--- n octets of the piece were appended to the held ones, until there were as many as wanted
-pub record IsToppedUp (old new piece : List ℕ) (want n : ℕ) : Type 0 where
+-- n octets of the piece were appended to the held ones, until there were as many as needed
+pub record IsToppedUp (old new piece : List ℕ) (need n : ℕ) : Type 0 where
   pub within : n ≤ length piece
   pub moved : new ≡ old ++ take n piece
-  pub enough : n < length piece → want ≤ length new
-  pub no_more : 0 < n → length new ≤ want
+  pub enough : n < length piece → need ≤ length new
+  pub no_more : 0 < n → length new ≤ need
 
 -- n octets of the piece were appended to the held ones: all, or up to the end of a record, or a header above the limit is held
 pub record IsFilled (old new piece : List ℕ) (n : ℕ) : Type 0 where

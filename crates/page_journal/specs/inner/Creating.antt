@@ -17,7 +17,7 @@ pub record IsDisowned (old new : DiskState) : Type 0 where
   pub rest : (i : ℕ) → 0 < i → new.octet i ≡ old.octet i
 
 -- All is synced, and all but the first octet of the identity page is there: the gates are closed, and these pages are home.
-pub record WantsName (homes : ℕ) (note page : List ℕ) (s : DiskState) (pages : List (List ℕ)) : Type 0 where
+pub record LacksName (homes : ℕ) (note page : List ℕ) (s : DiskState) (pages : List (List ℕ)) : Type 0 where
   pub settled : (i : ℕ) → ¬ s.unsynced i
   pub identity : IsIdentity homes note page
   pub rest : octets s.octet 1 16383 ≡ drop 1 page

@@ -19,10 +19,10 @@ use Rattle.route_meaning.specs.declared.question.RowsRange.{RowsRange}
 use Rattle.route_meaning.specs.Merged.{Placed}
 use Rattle.route_meaning.specs.Holds.{until, changes_of}
 use Rattle.route_meaning.specs.Rows.{row_number, spot_number, AreRising, IsRow, AreRows, IsAnswer, most_rows}
-use Rattle.route_meaning.specs.inner.Replay.{spot, row_at, IsSpot, is_wanted, route_after}
+use Rattle.route_meaning.specs.inner.Replay.{spot, row_at, IsSpot, is_expected, route_after}
 use Rattle.route_meaning.proofs.Holding.{both, Holds-after, after-Holds}
 use Rattle.route_meaning.proofs.Spots.{same_spot, spot_cmp-numbers, cmp_equal}
-use Rattle.route_meaning.proofs.Answering.{selects_is, above_is, within_is, wanted_row}
+use Rattle.route_meaning.proofs.Answering.{selects_is, above_is, within_is, expected_row}
 use Rattle.route_meaning.proofs.api.Sorting.{all_weaker, all_append, all_filter}
 
 -- ---- one row more, in its place
@@ -36,9 +36,9 @@ put_all : (P : Row → Type 0) (r : Row) (rows : List Row) → P r → AllByRecu
 put_all P r [] one all = (one, tt)
 put_all P r (x ∷ xs) one all = elim (cases_Bool (ltb (row_number r) (row_number x))) [
   | inl before ↦ rw before (one, all)
-  | inr behind ↦ elim (cases_Bool (ltb (row_number x) (row_number r))) [
-    | inl later ↦ rw (behind, later) (all.0, put_all P r xs one all.1)
-    | inr same ↦ rw (behind, same) all
+  | inr beyond ↦ elim (cases_Bool (ltb (row_number x) (row_number r))) [
+    | inl later ↦ rw (beyond, later) (all.0, put_all P r xs one all.1)
+    | inr same ↦ rw (beyond, same) all
   ]
 ]
 
@@ -48,9 +48,9 @@ put_rises r (x ∷ xs) rising = elim (cases_Bool (ltb (row_number r) (row_number
   | inl before ↦
       let lt = ltb-true (row_number r) (row_number x) before in
       rw before ((lt, all_weaker _ _ (λ next h. let h' : row_number x < row_number next = h in omega arith) xs rising.0), rising)
-  | inr behind ↦ elim (cases_Bool (ltb (row_number x) (row_number r))) [
-    | inl later ↦ rw (behind, later) (put_all (λ next. row_number x < row_number next) r xs (ltb-true (row_number x) (row_number r) later) rising.0, put_rises r xs rising.1)
-    | inr same ↦ rw (behind, same) rising
+  | inr beyond ↦ elim (cases_Bool (ltb (row_number x) (row_number r))) [
+    | inl later ↦ rw (beyond, later) (put_all (λ next. row_number x < row_number next) r xs (ltb-true (row_number x) (row_number r) later) rising.0, put_rises r xs rising.1)
+    | inr same ↦ rw (beyond, same) rising
   ]
 ]
 
@@ -65,12 +65,12 @@ put_has : (P : Row → Type 0) (r : Row) (rows : List Row) → ((x : Row) → P 
 put_has P r [] one all = (0, omega arith, refl)
 put_has P r (x ∷ xs) one all = elim (cases_Bool (ltb (row_number r) (row_number x))) [
   | inl before ↦ rw before (0, omega arith, refl)
-  | inr behind ↦ elim (cases_Bool (ltb (row_number x) (row_number r))) [
-    | inl later ↦ rw (behind, later) (has_later x (put r xs) r (put_has P r xs one all.1))
+  | inr beyond ↦ elim (cases_Bool (ltb (row_number x) (row_number r))) [
+    | inl later ↦ rw (beyond, later) (has_later x (put r xs) r (put_has P r xs one all.1))
     | inr same ↦
-        let low = ltb-false (row_number r) (row_number x) behind in
+        let low = ltb-false (row_number r) (row_number x) beyond in
         let high = ltb-false (row_number x) (row_number r) same in
-        rw (behind, same) (0, omega arith, one x all.0 (omega arith))
+        rw (beyond, same) (0, omega arith, one x all.0 (omega arith))
   ]
 ]
 
@@ -78,12 +78,12 @@ put_keeps : (r : Row) (rows : List Row) (y : Row) → Contains rows y → Contai
 put_keeps r [] y h = absurd (omega (arith, h.1))
 put_keeps r (x ∷ xs) y h = elim (cases_Bool (ltb (row_number r) (row_number x))) [
   | inl before ↦ rw before (has_later r (x ∷ xs) y h)
-  | inr behind ↦ elim (cases_Bool (ltb (row_number x) (row_number r))) [
-    | inl later ↦ rw (behind, later) (elim (first_or_later x xs y h) [
+  | inr beyond ↦ elim (cases_Bool (ltb (row_number x) (row_number r))) [
+    | inl later ↦ rw (beyond, later) (elim (first_or_later x xs y h) [
       | inl here ↦ (0, omega arith, here)
       | inr rest ↦ has_later x (put r xs) y (put_keeps r xs y rest)
     ])
-    | inr same ↦ rw (behind, same) h
+    | inr same ↦ rw (beyond, same) h
   ]
 ]
 
@@ -127,8 +127,8 @@ module _ (ps : List (Placed Admitted)) (moment : ℕ) (w : RowsRange) where
   abbrev AtOrIn : Spot → (Row → Type 0) → Row → Type 0
   AtOrIn s Here row = (spot row.peer row.prefix ≡ s) ⊎ Here row
 
-  with_route : (s : Spot) (Here : Row → Type 0) (found : Option Route) → IsSpot s → is_wanted w s ≡ true → route_after s.peer s.prefix None (changes_of (until moment ps)) ≡ found → Gathered Here → Gathered (AtOrIn s Here)
-  with_route s Here None valid want e g = record {
+  with_route : (s : Spot) (Here : Row → Type 0) (found : Option Route) → IsSpot s → is_expected w s ≡ true → route_after s.peer s.prefix None (changes_of (until moment ps)) ≡ found → Gathered Here → Gathered (AtOrIn s Here)
+  with_route s Here None valid need e g = record {
     rows = g.rows;
     rising = g.rising;
     only = g.only;
@@ -137,9 +137,9 @@ module _ (ps : List (Placed Admitted)) (moment : ℕ) (w : RowsRange) where
       | inr rest ↦ g.each row is rest
     ];
   }
-  with_route s Here (Some route) valid want e g =
+  with_route s Here (Some route) valid need e g =
       let r = row_at s route in
-      let h = both _ _ want in
+      let h = both _ _ need in
       let i = both _ _ h.1 in
       let is_r : Is r = (
         record {
@@ -164,14 +164,14 @@ module _ (ps : List (Placed Admitted)) (moment : ℕ) (w : RowsRange) where
       }
 
   with_spot : (s : Spot) (Here : Row → Type 0) → IsSpot s → Gathered Here → Gathered (AtOrIn s Here)
-  with_spot s Here valid g = elim (cases_Bool (is_wanted w s)) [
-    | inl want ↦ with_route s Here (route_after s.peer s.prefix None (changes_of (until moment ps))) valid want refl g
+  with_spot s Here valid g = elim (cases_Bool (is_expected w s)) [
+    | inl need ↦ with_route s Here (route_after s.peer s.prefix None (changes_of (until moment ps))) valid need refl g
     | inr unwanted ↦ record {
       rows = g.rows;
       rising = g.rising;
       only = g.only;
       each = λ row is here. elim here [
-        | inl at ↦ absurd (let e : true ≡ false = sym (wanted_row ps moment w row is) ∙ (ap (is_wanted w) at ∙ unwanted) in cc)
+        | inl at ↦ absurd (let e : true ≡ false = sym (expected_row ps moment w row is) ∙ (ap (is_expected w) at ∙ unwanted) in cc)
         | inr rest ↦ g.each row is rest
       ];
     }

@@ -11,7 +11,7 @@ use Rattle.route_model.specs.declared.change.Change.{Change}
 use Rattle.route_model.specs.declared.change.Change.TheVariants.{Announce, Withdraw, Down}
 use Rattle.route_model.specs.Address.{family}
 use Rattle.route_model.specs.Prefix.{IpPrefix, IsPrefix, cleared_address}
-use Rattle.route_model.specs.Spelling.{IsPeer}
+use Rattle.route_model.specs.Encoding.{IsPeer}
 use Rattle.route_model.specs.Keys.{peer_order, prefix_order}
 use Rattle.route_meaning.specs.declared.question.Select.{Select}
 use Rattle.route_meaning.specs.declared.question.Select.TheVariants.{Route as OneRoute, ByPrefix, Covering, PeerTable, All as Everything}
@@ -67,10 +67,10 @@ is_within None n = true
 is_within (Some high) n = not (nat_lt (spot_number high) n)
 
 -- is the spot selected, above low and not above high?
-abbrev pub is_wanted : RowsRange → Spot → Bool
-is_wanted w s = selects w.select s.peer s.prefix && (is_above w.low (spot_number s) && is_within w.high (spot_number s))
+abbrev pub is_expected : RowsRange → Spot → Bool
+is_expected w s = selects w.select s.peer s.prefix && (is_above w.low (spot_number s) && is_within w.high (spot_number s))
 
--- the table has at each wanted spot the route that is there after the changes, and nothing else; and its spots are values
+-- the table has at each spot asked for the route that is there after the changes, and nothing else; and its spots are values
 pub record IsTable (w : RowsRange) (changes : List Change) (table : BTreeMap Spot Route) : Type 0 where
-  pub at : (s : Spot) → get spot_cmp table s ≡ cond (is_wanted w s) (route_after s.peer s.prefix None changes) None
+  pub at : (s : Spot) → get spot_cmp table s ≡ cond (is_expected w s) (route_after s.peer s.prefix None changes) None
   pub valid : (s : Spot) (route : Route) → get spot_cmp table s ≡ Some route → IsSpot s

@@ -6,7 +6,7 @@ use Rattle.std.proofs.lemmas.List.Concat.{flat_map-append}
 use Rattle.route_model.specs.declared.change.Change.{Change}
 use Rattle.route_model.specs.declared.route.Route.{Route}
 use Rattle.route_model.specs.declared.peer.Peer.{Peer}
-use Rattle.route_model.specs.Spelling.{peer_octets, route_octets}
+use Rattle.route_model.specs.Encoding.{peer_octets, route_octets}
 use Rattle.route_model.specs.Tables.{distinct, enter}
 use Rattle.route_model.specs.Admission.{peer_of, announced, peer_rows, route_rows}
 use Rattle.route_model.proofs.TableRows.{distinct-push, map-first_uses}

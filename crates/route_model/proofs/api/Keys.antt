@@ -12,7 +12,7 @@ use Rattle.route_model.specs.declared.address.Address.TheVariants.{V4, V6}
 use Rattle.route_model.specs.declared.peer.Peer.{Peer}
 use Rattle.route_model.specs.Address.{octets, family, wide, IsAddress}
 use Rattle.route_model.specs.Prefix.{IpPrefix, IsPrefix}
-use Rattle.route_model.specs.Spelling.{IsPeer, peer_octets}
+use Rattle.route_model.specs.Encoding.{IsPeer, peer_octets}
 use Rattle.route_model.specs.Keys.{number_of, prefix_key, key_number, session_number, key_octets, key_of, IsKeyParts, address_order, peer_order, prefix_order}
 use Rattle.std.proofs.lemmas.Bool.{le-ltb}
 use Rattle.route_model.specs.declared.key.KeyParts.{KeyParts}

@@ -5,7 +5,7 @@ use Rattle.route_model.specs.declared.peer.Peer.{Peer}
 use Rattle.route_model.specs.Address.{family, wide}
 use Rattle.route_model.specs.Octets.{AreOctets}
 use Rattle.route_model.specs.Prefix.{IpPrefix, IsPrefix}
-use Rattle.route_model.specs.Spelling.{peer_octets}
+use Rattle.route_model.specs.Encoding.{peer_octets}
 use Rattle.route_model.specs.Keys.{number_of, key_number, session_number}
 use Rattle.route_model.proofs.api.KeyNumbers.{number_of-append, number_lt}
 use Rattle.route_model.proofs.api.Keys.{ending_tail, prefix_key-parts}
@@ -45,8 +45,8 @@ key_first p x is = ap first_key (key_is p x is ∙ omega (arith, session_is p)) 
 pub retailed : (o t : List ℕ) → length o ≡ 40 → length t ≡ 18 → AreOctets o → number_of (take 22 o ++ t) ≡ first_key (number_of o) + number_of t
 retailed o t size few octets =
     let rest : length (drop 22 o) ≡ 18 = omega (arith, length-drop 22 o, size) in
-    let behind : AreOctets (drop 22 o) = AreOctets-drop 22 o octets in
-    let fits : number_of (drop 22 o) < 256 ^ 18 = subst (λ (n : ℕ). number_of (drop 22 o) < 256 ^ n) rest (number_lt (drop 22 o) behind) in
+    let beyond : AreOctets (drop 22 o) = AreOctets-drop 22 o octets in
+    let fits : number_of (drop 22 o) < 256 ^ 18 = subst (λ (n : ℕ). number_of (drop 22 o) < 256 ^ n) rest (number_lt (drop 22 o) beyond) in
     let whole : number_of o ≡ number_of (take 22 o) * peer_span + number_of (drop 22 o) = ap number_of (sym (take-append-drop 22 o)) ∙ number_of-append (take 22 o) (drop 22 o) ∙ ap (λ (n : ℕ). number_of (take 22 o) * 256 ^ n + number_of (drop 22 o)) rest in
     let first : first_key (number_of o) ≡ number_of (take 22 o) * peer_span = ap first_key whole ∙ first_key_of (number_of (take 22 o)) (number_of (drop 22 o)) fits in
     number_of-append (take 22 o) t ∙ ap (λ (n : ℕ). number_of (take 22 o) * 256 ^ n + number_of t) few ∙ omega (arith, first)

@@ -5,7 +5,7 @@ use Rattle.std.specs.Str.{bytes_eq}
 use Rattle.route_model.specs.declared.address.Address.{Address}
 use Rattle.route_model.specs.declared.address.Address.TheVariants.{V4, V6}
 use Rattle.route_model.specs.declared.fault.ReadError.{ReadError}
-use Rattle.route_model.specs.declared.fault.NoSpelling.{NoSpelling}
+use Rattle.route_model.specs.declared.fault.NoEncoding.{NoEncoding}
 use Rattle.route_model.specs.declared.fault.ReadError.TheVariants as errors
 use Rattle.route_model.specs.declared.peer.Peer.{Peer}
 use Rattle.route_model.specs.declared.route.Origin.{Origin}
@@ -17,7 +17,7 @@ use Rattle.route_model.specs.declared.route.NextHop.TheVariants.{One, Pair}
 use Rattle.route_model.specs.declared.route.Aggregator.{Aggregator}
 use Rattle.route_model.specs.declared.attribute.Attribute.{Attribute}
 use Rattle.route_model.specs.declared.route.Route.{Route}
-use Rattle.route_model.specs.Spelling.{is_ascending}
+use Rattle.route_model.specs.Encoding.{is_ascending}
 pub mod Admissions
 
 infixl 10 ◌>>=◌
@@ -28,14 +28,14 @@ None >>= f = None
 -- What a function returned, seen by view, is what reading gives, unless memory ran out.
 abbrev pub Fails : {Y : Type 0} → ReadError → Option Y → Type 0
 Fails errors.Memory read = Unit {0}
-Fails errors.Unspelled read = read ≡ None
+Fails errors.Unencoded read = read ≡ None
 
 abbrev pub Gives : {X Y : Type 0} → (X → Y) → Result X ReadError → Option Y → Type 0
 Gives view (Ok x) read = read ≡ Some (view x)
 Gives view (Err e) read = Fails e read
 
 -- The same of a function that takes no memory.
-abbrev pub Reads : {X Y : Type 0} → (X → Y) → Result X NoSpelling → Option Y → Type 0
+abbrev pub Reads : {X Y : Type 0} → (X → Y) → Result X NoEncoding → Option Y → Type 0
 Reads view (Ok x) read = read ≡ Some (view x)
 Reads view (Err e) read = read ≡ None
 

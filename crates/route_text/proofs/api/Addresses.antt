@@ -22,13 +22,13 @@ IsDotted_unique text o p h k = ap ipv4_octets (IsIpv4Text_unique text (record { 
 
 pub IsIpv6Text_same : (text o p : List ℕ) → IsIpv6Text text o → IsIpv6Text text p → o ≡ p
 IsIpv6Text_same text o p h k =
-    let same = ap ipv6_segments (IsIpv6Text_unique text (record { segments = h.groups }) (record { segments = k.groups }) h.spelled k.spelled) in
+    let same = ap ipv6_segments (IsIpv6Text_unique text (record { segments = h.groups }) (record { segments = k.groups }) h.encoded k.encoded) in
     h.value ∙ ap octets_of same ∙ sym k.value
 
 pub IsAddressText_unique : (text : List ℕ) (a b : Address) → IsAddressText text a → IsAddressText text b → a ≡ b
 IsAddressText_unique text (V4 o) (V4 p) h k = ap V4 (IsDotted_unique text o p h k)
-IsAddressText_unique text (V4 o) (V6 p) h k = absurd (IsDotted-not_colon_hex text o k.groups h k.spelled)
-IsAddressText_unique text (V6 o) (V4 p) h k = absurd (IsDotted-not_colon_hex text p h.groups k h.spelled)
+IsAddressText_unique text (V4 o) (V6 p) h k = absurd (IsDotted-not_colon_hex text o k.groups h k.encoded)
+IsAddressText_unique text (V6 o) (V4 p) h k = absurd (IsDotted-not_colon_hex text p h.groups k h.encoded)
 IsAddressText_unique text (V6 o) (V6 p) h k = ap V6 (IsIpv6Text_same text o p h k)
 
 -- ---- what is written
@@ -75,7 +75,7 @@ IsDotted-written o four small = IsDotted-ipv4_text o four small
 pub IsIpv6Text-ipv6_text : (o : List ℕ) → length o ≡ 16 → ((k : ℕ) → get_or o k 0 < 256) → IsIpv6Text (ipv6_text o) o
 IsIpv6Text-ipv6_text o sixteen small = record {
   groups = segments_of o;
-  spelled = IsColonHex-hex_groups_text (segments_of o) (length-segments_of 8 o sixteen) (segments_small o small);
+  encoded = IsColonHex-hex_groups_text (segments_of o) (length-segments_of 8 o sixteen) (segments_small o small);
   no_dot = Lacks-ipv6_text 46 o small no_dot;
   value = sym (octets_of-segments_of 8 o sixteen small);
 }
@@ -97,5 +97,5 @@ pub length-IsAddressText : (text : List ℕ) (a : Address) → IsAddressText tex
 length-IsAddressText text (V4 o) h = let four = ap length h.value in omega arith
 length-IsAddressText text (V6 o) h =
     let size = ap length h.value ∙ length-octets_of h.groups in
-    let eight = IsColonHex-length text h.groups h.spelled in
+    let eight = IsColonHex-length text h.groups h.encoded in
     omega arith

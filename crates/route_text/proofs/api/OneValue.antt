@@ -26,7 +26,7 @@ same_prefix a b address length = λ i. record { address = address i; length = le
 pub one_prefix : (text : List ℕ) (a b : IpPrefix) → IsPrefixText text a → IsPrefixText text b → a ≡ b
 one_prefix text a b h k =
     let fits = length_fits text b k in
-    let cut : text ≡ k.address_text ++ 47 ∷ decimal b.length = k.spelled ∙ append_assoc k.address_text (47 ∷ []) (decimal b.length) in
+    let cut : text ≡ k.address_text ++ 47 ∷ decimal b.length = k.encoded ∙ append_assoc k.address_text (47 ∷ []) (decimal b.length) in
     let parts = prefix_parts text k.address_text (decimal b.length) a h cut (Lacks-decimal 47 b.length fits (λ d. omega arith)) in
     let length : a.length ≡ b.length = decimal_injective a.length b.length (length_fits text a h) fits parts.1 in
     let address : h.address ≡ k.address = IsAddressText_unique k.address_text h.address k.address (subst (λ (t : List ℕ). Rattle.route_text.specs.AddressText.IsAddressText t h.address) parts.0 h.read) k.read in
@@ -50,6 +50,6 @@ one_instant last fits text a b h k =
     let small : a < 2 ^ 64 = let within = h.within in omega (arith, fits, within) in
     let also : b < 2 ^ 64 = let within = k.within in omega (arith, fits, within) in
     ⊎_elim
-    (λ e. ⊎_elim (λ f. decimal_injective a b small also (sym e ∙ f)) (λ time. absurd (not_both a text b small e time)) k.spelled)
-    (λ time. ⊎_elim (λ f. absurd (not_both b text a also f time)) (λ other. let same = same_nanoseconds (a * 1000000000) (b * 1000000000) (sym time.instant ∙ other.instant) in omega (arith, same)) k.spelled)
-    h.spelled
+    (λ e. ⊎_elim (λ f. decimal_injective a b small also (sym e ∙ f)) (λ time. absurd (not_both a text b small e time)) k.encoded)
+    (λ time. ⊎_elim (λ f. absurd (not_both b text a also f time)) (λ other. let same = same_nanoseconds (a * 1000000000) (b * 1000000000) (sym time.instant ∙ other.instant) in omega (arith, same)) k.encoded)
+    h.encoded

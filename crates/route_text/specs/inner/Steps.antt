@@ -1,7 +1,7 @@
 -- A path as the words of its text. No public contract cites these.
 use Rattle.std.specs.Prelude.{ℕ, ◌<◌, ◌≤◌, ◌^◌, List, [], ◌∷◌, ◌++◌, length, map, codes, decimal}
 use Rattle.std.specs.List.{AllByRecursion, flat_map}
-use Rattle.route_model.specs.Spelling.{AreNumbers, IsSegment}
+use Rattle.route_model.specs.Encoding.{AreNumbers, IsSegment}
 use Rattle.route_model.specs.declared.path.Segment.{Segment}
 use Rattle.route_model.specs.declared.path.Segment.TheVariants as segments
 use Rattle.route_text.specs.declared.step.Step.{Step}

@@ -1,8 +1,8 @@
--- What a load does behind its feed. Contracts of private functions alone cite this file.
+-- What a load does after its feed. Contracts of private functions alone cite this file.
 use Rattle.std.specs.Prelude.{◌≡◌, ◌⊎◌, Bool, true, false, ℕ, Option, Some, None}
 use Rattle.route_meaning.specs.History.{History}
 use Rattle.interleaving_core.specs.Steps.{IsCollector, IsMarkAbove}
-use Rattle.service.specs.Carried.{Carried, HasIntakes}
+use Rattle.service.specs.Represented.{Represented, HasIntakes}
 use Rattle.service.specs.Loads.{marked_if}
 use Rattle.archive_calls.specs.declared.refusal.Trouble.TheVariants as troubles
 use Rattle.service.specs.declared.faults.FeedStop.TheVariants as reasons
@@ -13,7 +13,7 @@ use Rattle.service.specs.declared.intake.End.TheVariants as ends
 use Rattle.service.specs.declared.status.Status.{Status}
 use Rattle.service.specs.declared.status.Status.TheVariants as statuses
 
--- the mark that is set behind a feed that ended so: only behind one that ended well
+-- the mark that is set after a feed that ended so: only after one that ended well
 abbrev pub mark_after : End → Option ℕ → Option ℕ
 mark_after ends.Well mark = mark
 mark_after ends.Cut mark = None
@@ -31,13 +31,13 @@ first_of (ends.Refused (reasons.Trouble trouble)) (stops.Trouble troubles.NeedsR
 first_of _ why = why
 
 -- why a mark isn't set, or what may be applied isn't
-abbrev pub HasNotSettled : ℕ → Option ℕ → History → Carried → LoadStop → Type 0
+abbrev pub HasNotSettled : ℕ → Option ℕ → History → Represented → LoadStop → Type 0
 HasNotSettled c mark h archive stops.NoCollector = (IsCollector h c → ⊥) × HasIntakes h.intakes archive
 HasNotSettled c mark h archive stops.MarkBack = (lower : ℕ) × (mark ≡ Some lower) × IsMarkAbove h c lower × HasIntakes h.intakes archive
 HasNotSettled c mark h archive (stops.Trouble trouble) = (set : Option ℕ) × ((set ≡ mark) ⊎ (set ≡ None)) × HasIntakes (marked_if c set h).intakes archive
 
 -- the status where a write to standard output failed, or one to standard error
-abbrev pub told_as : Bool → Bool → Status → Status
-told_as true err status = statuses.Failed
-told_as false true status = statuses.Failed
-told_as false false status = status
+abbrev pub reported_as : Bool → Bool → Status → Status
+reported_as true err status = statuses.Failed
+reported_as false true status = statuses.Failed
+reported_as false false status = status

@@ -7,13 +7,13 @@ use Rattle.interleaving_core.specs.declared.reply.BatchReply.{BatchReply}
 use Rattle.archive_calls.specs.Does.{DoesAdmit}
 use Rattle.archive_calls.specs.declared.refusal.AdmitError.{AdmitError}
 use Rattle.archive_calls.specs.declared.refusal.AdmitError.TheVariants as admits
-use Rattle.service.specs.Carried.{Carried}
+use Rattle.service.specs.Represented.{Represented}
 
 -- The batch was offered where some more of the history may have been applied; the ring is reported full only where nothing more could be.
-pub record IsTaken (archive : Carried) (c : ℕ) (batch : List Admitted) (result : Result BatchReply AdmitError) (h : History) : Type 0 where
+pub record IsTaken (archive : Represented) (c : ℕ) (batch : List Admitted) (result : Result BatchReply AdmitError) (h : History) : Type 0 where
   pub at : History
   pub intakes : at.intakes ≡ h.intakes
   pub after : History
-  pub carried : archive after
+  pub represented : archive after
   pub done : DoesAdmit c batch result at after
   pub full : result ≡ Err admits.IntakeFull → NothingToApply at

@@ -2,7 +2,7 @@
 use Rattle.std.specs.Prelude.{◌≡◌, ◌≤◌, ℕ, map, length, sum_by, Bool, true, false, List, [], ◌∷◌, ◌++◌, Option, Some, None, Result, Err}
 use Rattle.route_model.specs.Admission.{Admitted}
 use Rattle.board.specs.Views.{View}
-use Rattle.mrt_records.specs.Values.{Told, told}
+use Rattle.mrt_records.specs.Values.{Reported, reported}
 use Rattle.mrt_records.specs.Records.{Over}
 use Rattle.mrt_records.specs.Streams.{GainsFrames}
 use Rattle.mrt_records.specs.declared.item.Item.{Item}
@@ -20,8 +20,8 @@ use Rattle.archive_calls.specs.Limits.{batch_octets}
 use Rattle.archive_calls.specs.declared.refusal.Trouble.TheVariants as troubles
 use Rattle.server.specs.Troubles.{of_shared}
 use Rattle.service.specs.FeedTexts.{capped, skips}
-use Rattle.service.specs.Outputs.{OutputState, Tells}
-use Rattle.service.specs.Turns.{Turn, refusals, turns_for, waits_behind, feed_turns}
+use Rattle.service.specs.Outputs.{OutputState, Reports}
+use Rattle.service.specs.Turns.{Turn, refusals, turns_for, waits_beyond, feed_turns}
 use Rattle.service.specs.declared.faults.FeedStop.{FeedStop}
 use Rattle.service.specs.declared.faults.FeedStop.TheVariants as stops
 use Rattle.service.specs.declared.feed_lines.FeedCounts.{FeedCounts}
@@ -56,10 +56,10 @@ pub record HasDone (promised : Type 0) (c : ℕ) (v : View) (turns : List Turn) 
   pub refused : counts.refused ≡ capped (refusals turns)
 
 -- the next record of a feed means this
-pub record TakesNext (was now : Feed) (r : Told) (meaning : Result (Option Admitted) ResolveFault) : Type 0 where
+pub record TakesNext (was now : Feed) (r : Reported) (meaning : Result (Option Admitted) ResolveFault) : Type 0 where
   pub gives : Gives rules.Refused was.collector was.table r meaning
   pub collector : now.collector ≡ was.collector
-  pub table : (meaning ≡ Err faults.OutOfMemory → ⊥) → (before : List Told) → LastTable before was.table → LastTable (before ++ r ∷ []) now.table
+  pub table : (meaning ≡ Err faults.OutOfMemory → ⊥) → (before : List Reported) → LastTable before was.table → LastTable (before ++ r ∷ []) now.table
 
 -- of a feed under way all is the same but for what waits and what was done
 pub record IsSameFeed (old new : Feeding) : Type 0 where
@@ -77,14 +77,14 @@ pub record IsCounted (feeding : Feeding) : Type 0 where
   pub few : feeding.limit.octets ≤ 262144
 
 -- the feed got past these records
-pub record IsBehind (promised : Type 0) (c : ℕ) (limit : BatchLimits) (v : View) (records : List Told) (feeding : Feeding) (w : View) (was now : OutputState) : Type 0 where
+pub record IsAfter (promised : Type 0) (c : ℕ) (limit : BatchLimits) (v : View) (records : List Reported) (feeding : Feeding) (w : View) (was now : OutputState) : Type 0 where
   pub results : List (Result (Option Admitted) ResolveFault)
   pub collector : feeding.collector ≡ c
   pub limited : feeding.limit ≡ limit
   pub fed : feeding.resolver.collector ≡ c
   pub known : LastTable records feeding.resolver.table
   pub means : Means rules.Refused c records results
-  pub waits : feeding.gathered.items ≡ waits_behind limit [] results
+  pub waits : feeding.gathered.items ≡ waits_beyond limit [] results
   pub counted : IsCounted feeding
   pub done : HasDone promised c v (turns_for limit 0 [] results) feeding.counts w was now
   pub recorded : feeding.counts.records ≡ capped (length records)
@@ -94,7 +94,7 @@ pub record IsBehind (promised : Type 0) (c : ℕ) (limit : BatchLimits) (v : Vie
 pub record Reads (promised : Type 0) (c : ℕ) (limit : BatchLimits) (v : View) (bytes rest : List ℕ) (feeding : Feeding) (w : View) (was now : OutputState) : Type 0 where
   pub items : List Item
   pub framed : GainsFrames bytes rest [] items
-  pub behind : IsBehind promised c limit v (map told items) feeding w was now
+  pub beyond : IsAfter promised c limit v (map reported items) feeding w was now
 
 -- the framer holds the rest, or the front of one whose Length is above the limit
 abbrev pub IsHeld : List ℕ → List ℕ → Bool → Type 0
@@ -123,12 +123,12 @@ pub record GivesUp (promised : Type 0) (c : ℕ) (v : View) (turns : List Turn) 
   pub since : Since v w
 
 -- the feed was given up at one of the items that came after these records, or before the first of them
-pub record StopsAmong (promised : Type 0) (c : ℕ) (limit : BatchLimits) (v : View) (records : List Told) (items : List Item) (w : View) (was now : OutputState) (why : FeedStop) : Type 0 where
+pub record StopsAmong (promised : Type 0) (c : ℕ) (limit : BatchLimits) (v : View) (records : List Reported) (items : List Item) (w : View) (was now : OutputState) (why : FeedStop) : Type 0 where
   pub front : List Item
   pub back : List Item
   pub parts : items ≡ front ++ back
   pub results : List (Result (Option Admitted) ResolveFault)
-  pub means : Means rules.Refused c (records ++ map told front) results
+  pub means : Means rules.Refused c (records ++ map reported front) results
   pub gives_up : GivesUp promised c v (turns_for limit 0 [] results) w was now why
 
 -- the feed was given up among the whole records of the octets
@@ -139,5 +139,5 @@ pub record StopsWithin (promised : Type 0) (c : ℕ) (limit : BatchLimits) (v : 
   pub items : List Item
   pub framed : GainsFrames seen [] [] items
   pub results : List (Result (Option Admitted) ResolveFault)
-  pub means : Means rules.Refused c (map told items) results
+  pub means : Means rules.Refused c (map reported items) results
   pub gives_up : GivesUp promised c v (feed_turns limit results) w was now why

@@ -34,7 +34,7 @@ fn a_page_that_is_no_root_is_bad(rt: HostRuntime) {
 
 // The current leaf starts later than its column says, or is no leaf.
 #[test]
-fn a_bad_current_leaf_is_told(rt: HostRuntime) {
+fn a_bad_current_leaf_is_reported(rt: HostRuntime) {
     let mut tree = older(rt.alloc()).expect(&rt, "a tree");
     let bad = Some(Err(NodeError::BadNode(1)));
     be(
@@ -53,13 +53,13 @@ fn a_bad_current_leaf_is_told(rt: HostRuntime) {
 
 // A column names blocks of other stamps than its own, or of another kind, or that there aren't.
 #[test]
-fn a_block_that_is_not_what_its_column_says_is_told(rt: HostRuntime) {
+fn a_block_that_is_not_what_its_column_says_is_reported(rt: HostRuntime) {
     let mut tree = older(rt.alloc()).expect(&rt, "a tree");
     for (kind, block) in [(COLUMN, 2u64), (LEAF, 4), (LEAF, 0), (LEAF, 200)] {
         let is_laid = lay_column(&mut tree, (0, kind, block)).is_some();
         let found = checked(&mut tree, 0, 1, &IN_USE);
-        let is_told = found == Some(Err(NodeError::Damaged(block)));
-        be_at(&rt, is_laid && is_told, "a block", block);
+        let is_reported = found == Some(Err(NodeError::Damaged(block)));
+        be_at(&rt, is_laid && is_reported, "a block", block);
     }
 }
 

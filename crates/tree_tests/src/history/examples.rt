@@ -35,20 +35,20 @@ impl Example {
     }
 
     /// Whether this is the answer to a question of a moment.
-    fn answers(&mut self, moment: u32, select: Select, wanted: &str) -> bool {
+    fn answers(&mut self, moment: u32, select: Select, expected: &str) -> bool {
         let question = RowsQuestion {
             moment: moment_of(moment),
             select,
             after: None,
         };
         match ask_rows(self.alloc, &mut self.store, &mut self.past, question) {
-            Some(text) => text.as_str() == wanted,
+            Some(text) => text.as_str() == expected,
             None => false,
         }
     }
 
     /// The answer to a question of a history.
-    fn tells(&mut self, question: EventsQuestion) -> Option<String> {
+    fn reports(&mut self, question: EventsQuestion) -> Option<String> {
         ask_events(self.alloc, &mut self.store, &mut self.past, question)
     }
 }
@@ -177,15 +177,15 @@ fn history_of(from: u32, to: u32, skip: u64) -> EventsQuestion {
 }
 
 /// Whether these are the events of a history.
-fn are_events(example: &mut Example, question: EventsQuestion, wanted: &str) -> bool {
-    match example.tells(question) {
-        Some(text) => text.as_str() == wanted,
+fn are_events(example: &mut Example, question: EventsQuestion, expected: &str) -> bool {
+    match example.reports(question) {
+        Some(text) => text.as_str() == expected,
         None => false,
     }
 }
 
 #[test]
-fn the_end_of_a_session_ends_its_routes_and_is_told(rt: HostRuntime) {
+fn the_end_of_a_session_ends_its_routes_and_is_reported(rt: HostRuntime) {
     let mut example = Example::new(rt.alloc()).expect(&rt, "a store");
     be(&rt, say_an_end(&mut example), "six changes");
     for (moment, rows) in &ROWS {
@@ -238,7 +238,7 @@ fn ends_with(example: &mut Example, end: &str) -> bool {
 }
 
 /// Whether exactly this row follows the 256th of a table.
-fn is_followed(example: &mut Example, wanted: &str) -> bool {
+fn is_followed(example: &mut Example, expected: &str) -> bool {
     let question = RowsQuestion {
         moment: moment_of(5),
         select: Select::All,
@@ -253,13 +253,13 @@ fn is_followed(example: &mut Example, wanted: &str) -> bool {
         &mut example.past,
         question,
     ) {
-        Some(text) => text.as_str() == wanted,
+        Some(text) => text.as_str() == expected,
         None => false,
     }
 }
 
 #[test]
-fn an_answer_has_256_rows_and_tells_whether_more_follow(rt: HostRuntime) {
+fn an_answer_has_256_rows_and_reports_whether_more_follow(rt: HostRuntime) {
     let mut table = table_of(rt.alloc(), 257).expect(&rt, "257 prefixes");
     be(
         &rt,
@@ -292,14 +292,14 @@ fn ends_of(alloc: Global) -> Option<Example> {
 
 /// Whether the events of the whole history, without the first `skip`, begin and end so.
 fn are_from_to(example: &mut Example, skip: u64, start: &str, end: &str) -> bool {
-    match example.tells(history_of(0, 256, skip)) {
+    match example.reports(history_of(0, 256, skip)) {
         Some(text) => text.starts_with(start) && text.ends_with(end),
         None => false,
     }
 }
 
 #[test]
-fn an_answer_has_256_events_and_tells_whether_more_follow(rt: HostRuntime) {
+fn an_answer_has_256_events_and_reports_whether_more_follow(rt: HostRuntime) {
     let mut example = ends_of(rt.alloc()).expect(&rt, "257 ends");
     be(
         &rt,

@@ -4,7 +4,7 @@ ghost use Rattle.std.specs.Prelude.{ℕ, List, Option};
 ghost use Rattle.version_model.specs.Versions.{Version};
 ghost use Rattle.version_model.specs.Blocks.{BlockNode};
 
-use crate::memory::{lies_in, shelf_of};
+use crate::memory::{located_in, shelf_of};
 use disk_memory::{MemOnce, MemSeen};
 use disk_models::Block;
 use once_store::{ShelfReader, seal};
@@ -123,7 +123,7 @@ impl ListStore {
         }
         Ok(KeyVersions {
             entries,
-            told: None,
+            reported: None,
         })
     }
 
@@ -133,7 +133,7 @@ impl ListStore {
         let mut at = 120usize;
         let mut count = 0u16;
         for entry in &self.entries {
-            if lies_in(&place.bounds, entry.key, entry.stamp) {
+            if located_in(&place.bounds, entry.key, entry.stamp) {
                 at = put_entry(&mut block, at, entry)?;
                 count = count.saturating_add(1);
             }
@@ -252,7 +252,7 @@ impl Versions for ListStore {
 
     fn next(&mut self, from: Key, stamp: Stamp) -> Result<Looked, NodeError> {
         if let Some(place) = self.past
-            && lies_in(&place.bounds, from, stamp)
+            && located_in(&place.bounds, from, stamp)
         {
             return Ok(Looked::InBlock(place));
         }
@@ -261,7 +261,7 @@ impl Versions for ListStore {
 
     fn part(&mut self, key: Key, from: Stamp) -> Result<Parted, NodeError> {
         if let Some(place) = self.past
-            && lies_in(&place.bounds, key, from)
+            && located_in(&place.bounds, key, from)
         {
             return Ok(Parted::InBlock(place));
         }

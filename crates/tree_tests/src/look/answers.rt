@@ -1,6 +1,6 @@
 //! Each lookup at each border: the keys where children begin, the stamps where parts do, and the start of the current leaf.
 
-use super::spelling::At;
+use super::encoding::At;
 use super::tree::{Tree, root, whole_tree};
 use crate::be_at;
 use crate::memory::key_of;
@@ -121,7 +121,7 @@ pub(super) fn part_at(tree: &mut Tree, key: u8, from: At) -> Option<Part> {
         return None;
     }
     let place = match part(&mut tree.tx, tree.alloc, &root, key, stamp) {
-        Ok(Parted::Here(told)) => return Some(Ok((None, told))),
+        Ok(Parted::Here(reported)) => return Some(Ok((None, reported))),
         Ok(Parted::InBlock(place)) => place,
         Err(error) => return Some(Err(error)),
     };
@@ -133,7 +133,7 @@ pub(super) fn part_at(tree: &mut Tree, key: u8, from: At) -> Option<Part> {
         key,
         stamp,
     ) {
-        Ok(told) => Some(Ok((Some(place.part.block), told))),
+        Ok(reported) => Some(Ok((Some(place.part.block), reported))),
         Err(error) => Some(Err(error.into())),
     }
 }
@@ -229,7 +229,7 @@ const NEXT: [(u8, At, In, Comes); 27] = [
 ];
 
 #[test]
-fn the_next_key_is_told_at_each_border(rt: HostRuntime) {
+fn the_next_key_is_reported_at_each_border(rt: HostRuntime) {
     let mut tree = whole_tree(rt.alloc()).expect(&rt, "a tree");
     for (n, (from, at, place, reached)) in NEXT.iter().enumerate() {
         let found = next_at(&mut tree, *from, *at);
@@ -243,9 +243,9 @@ fn the_next_key_is_told_at_each_border(rt: HostRuntime) {
 }
 
 /// A key, a stamp, the block where its versions are, the versions, and up to when they are all.
-type Told = (u8, At, Option<u64>, Versions, Option<At>);
+type Reported = (u8, At, Option<u64>, Versions, Option<At>);
 
-const PARTS: [Told; 26] = [
+const PARTS: [Reported; 26] = [
     // In the first part of the past.
     (3, (0, 0), Some(0), &[((1, 0), Some(160))], Some((100, 0))),
     (3, (1, 0), Some(0), &[((1, 0), Some(160))], Some((100, 0))),
@@ -316,16 +316,18 @@ pub(super) fn is_part(
     end: Option<At>,
 ) -> bool {
     match part {
-        Ok((place, told)) => {
-            *place == block && are_versions(&told.entries, versions) && told.told.map(at_of) == end
+        Ok((place, reported)) => {
+            *place == block
+                && are_versions(&reported.entries, versions)
+                && reported.reported.map(at_of) == end
         }
         Err(_) => false,
     }
 }
 
 /// Whether this is returned of the versions of a key from a stamp on.
-fn is_told(tree: &mut Tree, told: &Told) -> bool {
-    let (key, from, block, versions, end) = told;
+fn is_reported(tree: &mut Tree, reported: &Reported) -> bool {
+    let (key, from, block, versions, end) = reported;
     match part_at(tree, *key, *from) {
         Some(part) => is_part(&part, *block, *versions, *end),
         None => false,
@@ -333,10 +335,10 @@ fn is_told(tree: &mut Tree, told: &Told) -> bool {
 }
 
 #[test]
-fn the_versions_of_a_key_are_told_part_by_part(rt: HostRuntime) {
+fn the_versions_of_a_key_are_reported_part_by_part(rt: HostRuntime) {
     let mut tree = whole_tree(rt.alloc()).expect(&rt, "a tree");
-    for (n, told) in PARTS.iter().enumerate() {
-        be_at(&rt, is_told(&mut tree, told), "a part", n as u64);
+    for (n, reported) in PARTS.iter().enumerate() {
+        be_at(&rt, is_reported(&mut tree, reported), "a part", n as u64);
     }
 }
 
@@ -420,7 +422,7 @@ pub(super) fn has_all(tree: &mut Tree, key: u8) -> bool {
 }
 
 #[test]
-fn all_versions_of_a_key_are_told(rt: HostRuntime) {
+fn all_versions_of_a_key_are_reported(rt: HostRuntime) {
     let mut tree = whole_tree(rt.alloc()).expect(&rt, "a tree");
     for (key, versions) in &ALL {
         be_at(

@@ -5,7 +5,7 @@ use super::answers::{
     Comes, EARLY, In, LATE, Next, Part, Since, Versions, all_of, are_versions, at_of, found_at,
     has_all, is_part, next_at, part_at,
 };
-use super::spelling::At;
+use super::encoding::At;
 use super::tree::{
     Tree, Turned, block_octets, checked, lay_key_node, mend, octets_of, spoil, spoil_block,
     whole_tree,
@@ -15,12 +15,12 @@ use crate::{be, be_at};
 use tsb_walk::{KeyVersions, NodeError};
 
 /// What a key has where the lookup of the next key from it on returns this, and in which block.
-fn had(key: u8, told: &(In, Comes)) -> (Option<u64>, Since) {
-    let block = match &told.0 {
+fn had(key: u8, reported: &(In, Comes)) -> (Option<u64>, Since) {
+    let block = match &reported.0 {
         Some(place) => Some(place.0),
         None => None,
     };
-    match told.1 {
+    match reported.1 {
         Comes::To(next, since, value) => {
             if next == key {
                 (block, Some((since, value)))
@@ -52,19 +52,19 @@ fn are_from(key: u8, at: At, since: &Since, part: &KeyVersions) -> bool {
 /// Whether a part of the versions of a key says the same as a lookup of the next key from it on.
 fn is_same_part(part: &Part, key: u8, at: At, block: Option<u64>, since: &Since) -> bool {
     match part {
-        Ok((place, told)) => *place == block && are_from(key, at, since, told),
+        Ok((place, reported)) => *place == block && are_from(key, at, since, reported),
         Err(_) => false,
     }
 }
 
 /// Whether the lookups of a key and of its versions return for it what the lookup of the next key returns; where that fails, they fail
 /// for the same reason.
-fn is_same(tree: &mut Tree, key: u8, at: At, wanted: &Next) -> Option<bool> {
+fn is_same(tree: &mut Tree, key: u8, at: At, expected: &Next) -> Option<bool> {
     let found = found_at(tree, key, at)?;
     let part = part_at(tree, key, at)?;
-    Some(match wanted {
-        Ok(told) => {
-            let (block, since) = had(key, told);
+    Some(match expected {
+        Ok(reported) => {
+            let (block, since) = had(key, reported);
             found == Ok((block, since)) && is_same_part(&part, key, at, block, &since)
         }
         Err(error) => found.err() == Some(*error) && part.err() == Some(*error),
@@ -72,8 +72,8 @@ fn is_same(tree: &mut Tree, key: u8, at: At, wanted: &Next) -> Option<bool> {
 }
 
 /// Whether the lookup of the next key returns this, and the lookups of the key and of its versions the same of it.
-fn is_told(tree: &mut Tree, key: u8, at: At, wanted: &Next) -> bool {
-    next_at(tree, key, at) == Some(*wanted) && is_same(tree, key, at, wanted) == Some(true)
+fn is_reported(tree: &mut Tree, key: u8, at: At, expected: &Next) -> bool {
+    next_at(tree, key, at) == Some(*expected) && is_same(tree, key, at, expected) == Some(true)
 }
 
 /// A page, and a key and a stamp whose way comes to it.
@@ -273,7 +273,7 @@ fn in_page(n: u64, octet: usize) -> Reading {
 /// Whether all lookups of a key as of a stamp report a page as bad.
 fn is_bad(tree: &mut Tree, n: u64, key: u8, at: At) -> Option<bool> {
     let bad = NodeError::BadNode(n);
-    Some(is_told(tree, key, at, &Err(bad)) && all_of(tree, key)?.err() == Some(bad))
+    Some(is_reported(tree, key, at, &Err(bad)) && all_of(tree, key)?.err() == Some(bad))
 }
 
 /// Whether lookups of a key as of a stamp do what they should where an octet of a page is turned, and a check reports the page as bad.
@@ -340,7 +340,7 @@ fn are_octets_read(tree: &mut Tree, n: u64, key: u8, at: At, whole: &Whole) -> O
 }
 
 #[test]
-fn each_octet_of_the_entries_of_a_page_that_leads_on_is_read_or_told(rt: HostRuntime) {
+fn each_octet_of_the_entries_of_a_page_that_leads_on_is_read_or_reported(rt: HostRuntime) {
     let mut tree = whole_tree(rt.alloc()).expect(&rt, "a tree");
     for ((n, key, at), whole) in WAYS[..8].iter().zip(WHOLE.iter()) {
         let are_read = are_octets_read(&mut tree, *n, *key, *at, whole) == Some(true);
@@ -370,7 +370,7 @@ fn is_leaf_named(tree: &mut Tree, n: u64, key: u8, at: At) -> Option<bool> {
 }
 
 #[test]
-fn each_octet_of_the_entries_of_a_current_leaf_is_read_or_told(rt: HostRuntime) {
+fn each_octet_of_the_entries_of_a_current_leaf_is_read_or_reported(rt: HostRuntime) {
     let mut tree = whole_tree(rt.alloc()).expect(&rt, "a tree");
     for (n, key, at) in &WAYS[8..] {
         let is_named = is_leaf_named(&mut tree, *n, *key, *at) == Some(true);
@@ -379,20 +379,29 @@ fn each_octet_of_the_entries_of_a_current_leaf_is_read_or_told(rt: HostRuntime) 
 }
 
 /// A page or a block, an octet of it that is turned, a key and a stamp, and what the lookup of the next key returns then.
-type Told = (u64, usize, u8, At, Next);
+type Reported = (u64, usize, u8, At, Next);
 
 /// The first octet of a number turned: what it adds.
 const FAR: u64 = 72_057_594_037_927_936;
 
 /// Whether this is returned of a page of which an octet is turned. It is mended then.
-fn is_told_of_page(tree: &mut Tree, n: u64, octet: usize, key: u8, at: At, wanted: &Next) -> bool {
-    spoil(tree, n, octet).is_some() && is_told(tree, key, at, wanted) && mend(tree, n).is_some()
+fn is_reported_of_page(
+    tree: &mut Tree,
+    n: u64,
+    octet: usize,
+    key: u8,
+    at: At,
+    expected: &Next,
+) -> bool {
+    spoil(tree, n, octet).is_some()
+        && is_reported(tree, key, at, expected)
+        && mend(tree, n).is_some()
 }
 
 /// Whether these are returned of pages.
-fn are_told_of_pages(tree: &mut Tree, wanted: &[Told]) -> bool {
-    for (n, octet, key, at, answer) in wanted {
-        if !is_told_of_page(tree, *n, *octet, *key, *at, answer) {
+fn are_reported_of_pages(tree: &mut Tree, expected: &[Reported]) -> bool {
+    for (n, octet, key, at, answer) in expected {
+        if !is_reported_of_page(tree, *n, *octet, *key, *at, answer) {
             return false;
         }
     }
@@ -400,7 +409,7 @@ fn are_told_of_pages(tree: &mut Tree, wanted: &[Told]) -> bool {
 }
 
 /// The two octets of the count of a page's entries. Where more are counted, lookups read zeros, as that page 0 is a child.
-const COUNTS: [Told; 22] = [
+const COUNTS: [Reported; 22] = [
     (1, 4, 0, (300, 0), Err(NodeError::BadNode(0))),
     (1, 5, 0, (300, 0), NOW_170),
     (2, 4, 7, (300, 0), Err(NodeError::BadNode(0))),
@@ -453,10 +462,10 @@ const COUNTS: [Told; 22] = [
 #[test]
 fn a_damaged_count_leads_to_what_is_bad_or_answers(rt: HostRuntime) {
     let mut tree = whole_tree(rt.alloc()).expect(&rt, "a tree");
-    be(&rt, are_told_of_pages(&mut tree, &COUNTS), "counts");
+    be(&rt, are_reported_of_pages(&mut tree, &COUNTS), "counts");
 }
 
-const CHILDREN: [Told; 23] = [
+const CHILDREN: [Reported; 23] = [
     // The lowest key of the first child, and its page.
     (1, 120, 0, (300, 0), Err(NodeError::BadNode(1))),
     (1, 159, 0, (300, 0), Err(NodeError::BadNode(1))),
@@ -511,7 +520,11 @@ const CHILDREN: [Told; 23] = [
 #[test]
 fn a_damaged_child_is_bad_or_leads_to_what_is(rt: HostRuntime) {
     let mut tree = whole_tree(rt.alloc()).expect(&rt, "a tree");
-    be(&rt, are_told_of_pages(&mut tree, &CHILDREN), "key nodes");
+    be(
+        &rt,
+        are_reported_of_pages(&mut tree, &CHILDREN),
+        "key nodes",
+    );
 }
 
 /// What is returned of the tree as it was put: of time 1, and of now.
@@ -524,7 +537,7 @@ const LATE_160: Next = Ok((LATE, Comes::To(3, (1, 0), Some(160))));
 
 const LATE_171: Next = Ok((LATE, Comes::To(6, (199, 0), Some(171))));
 
-const COLUMNS: [Told; 29] = [
+const COLUMNS: [Reported; 29] = [
     // The first part: its start, its kind and its number.
     (6, 127, 0, (300, 0), NOW_170),
     (6, 135, 0, (300, 0), NOW_170),
@@ -575,7 +588,7 @@ const COLUMNS: [Told; 29] = [
 #[test]
 fn a_damaged_column_is_bad_or_leads_to_what_is(rt: HostRuntime) {
     let mut tree = whole_tree(rt.alloc()).expect(&rt, "a tree");
-    be(&rt, are_told_of_pages(&mut tree, &COLUMNS), "columns");
+    be(&rt, are_reported_of_pages(&mut tree, &COLUMNS), "columns");
 }
 
 /// The same of current leaves, where nothing is returned of the past.
@@ -612,7 +625,7 @@ const LEAVES: [(u64, usize, u8, At, Result<Comes, NodeError>); 25] = [
 ];
 
 /// What a lookup of the next key returns of now.
-fn told_now(answer: &Result<Comes, NodeError>) -> Next {
+fn reported_now(answer: &Result<Comes, NodeError>) -> Next {
     match answer {
         Ok(comes) => Ok((None, *comes)),
         Err(error) => Err(*error),
@@ -623,15 +636,15 @@ fn told_now(answer: &Result<Comes, NodeError>) -> Next {
 fn a_damaged_leaf_is_bad_or_has_other_versions(rt: HostRuntime) {
     let mut tree = whole_tree(rt.alloc()).expect(&rt, "a tree");
     for (i, (n, octet, key, at, answer)) in LEAVES.iter().enumerate() {
-        let wanted = told_now(answer);
-        let is_told = is_told_of_page(&mut tree, *n, *octet, *key, *at, &wanted);
-        be_at(&rt, is_told, "a leaf", i as u64);
+        let expected = reported_now(answer);
+        let is_reported = is_reported_of_page(&mut tree, *n, *octet, *key, *at, &expected);
+        be_at(&rt, is_reported, "a leaf", i as u64);
     }
 }
 
 /// Whether lookups of a key now report a page as bad.
 fn is_bad_now(tree: &mut Tree, key: u8, n: u64) -> bool {
-    is_told(tree, key, (300, 0), &Err(NodeError::BadNode(n)))
+    is_reported(tree, key, (300, 0), &Err(NodeError::BadNode(n)))
 }
 
 #[test]
@@ -667,14 +680,14 @@ fn turned_of(block: u64, octet: usize) -> Turned {
 }
 
 /// Whether the tree's lookups return this where an octet of a block is turned.
-fn is_told_of_block(tree: &mut Tree, turned: Turned, key: u8, at: At, wanted: &Next) -> bool {
-    spoil_block(tree, turned).is_some() && is_told(tree, key, at, wanted)
+fn is_reported_of_block(tree: &mut Tree, turned: Turned, key: u8, at: At, expected: &Next) -> bool {
+    spoil_block(tree, turned).is_some() && is_reported(tree, key, at, expected)
 }
 
 /// Whether lookups return these of blocks with a digest of what they are then.
-fn are_told_of_blocks(tree: &mut Tree, wanted: &[Told]) -> bool {
-    for (n, octet, key, at, answer) in wanted {
-        if !is_told_of_block(tree, turned_of(*n, *octet), *key, *at, answer) {
+fn are_reported_of_blocks(tree: &mut Tree, expected: &[Reported]) -> bool {
+    for (n, octet, key, at, answer) in expected {
+        if !is_reported_of_block(tree, turned_of(*n, *octet), *key, *at, answer) {
             return false;
         }
     }
@@ -722,7 +735,7 @@ fn is_block_header_read(
         Reading::Refused => Err(NodeError::Damaged(n)),
         Reading::Count => return true,
     };
-    let is_looked_at = is_told_of_block(tree, turned_of(n, octet), key, at, &answer)
+    let is_looked_at = is_reported_of_block(tree, turned_of(n, octet), key, at, &answer)
         && match all_of(tree, key) {
             Some(all) => all.err() == answer.err(),
             None => false,
@@ -750,7 +763,7 @@ fn a_block_with_a_damaged_header_is_damaged_or_answers_as_before(rt: HostRuntime
 }
 
 /// The two octets of the count of a block's entries. Where more are counted, a leaf has zeros as versions.
-const BLOCK_COUNTS: [Told; 8] = [
+const BLOCK_COUNTS: [Reported; 8] = [
     (0, 4, 0, (1, 0), EARLY_160),
     (0, 5, 0, (1, 0), EARLY_160),
     (1, 4, 0, (100, 0), LATE_160),
@@ -766,7 +779,7 @@ fn a_damaged_count_of_a_block_answers_or_is_damaged(rt: HostRuntime) {
     let mut tree = whole_tree(rt.alloc()).expect(&rt, "a tree");
     be(
         &rt,
-        are_told_of_blocks(&mut tree, &BLOCK_COUNTS),
+        are_reported_of_blocks(&mut tree, &BLOCK_COUNTS),
         "counts of blocks",
     );
 }
@@ -805,7 +818,7 @@ fn is_past_column_read(tree: &mut Tree) -> Option<bool> {
 }
 
 #[test]
-fn each_octet_of_the_entries_of_a_block_is_read_or_told(rt: HostRuntime) {
+fn each_octet_of_the_entries_of_a_block_is_read_or_reported(rt: HostRuntime) {
     let mut tree = whole_tree(rt.alloc()).expect(&rt, "a tree");
     for (n, key, at, _, _) in &BLOCK_WAYS[..3] {
         let is_named = is_block_named(&mut tree, *n, *key, *at) == Some(true);
@@ -822,14 +835,14 @@ fn each_octet_of_the_entries_of_a_block_is_read_or_told(rt: HostRuntime) {
 const UNSEALED: [usize; 6] = [0, 87, 159, 16_351, 16_352, 16_383];
 
 /// Whether lookups report a block as damaged of which an octet is turned, whose digest is of what it was.
-fn is_unsealed_told(tree: &mut Tree, n: u64, key: u8, at: At) -> bool {
+fn is_unsealed_reported(tree: &mut Tree, n: u64, key: u8, at: At) -> bool {
     for octet in UNSEALED {
         let turned = Turned {
             block: n,
             octet,
             is_sealed: false,
         };
-        if !is_told_of_block(tree, turned, key, at, &Err(NodeError::Damaged(n))) {
+        if !is_reported_of_block(tree, turned, key, at, &Err(NodeError::Damaged(n))) {
             return false;
         }
     }
@@ -842,14 +855,14 @@ fn a_block_without_its_digest_is_damaged(rt: HostRuntime) {
     for (n, key, at, _, _) in &BLOCK_WAYS {
         be_at(
             &rt,
-            is_unsealed_told(&mut tree, *n, *key, *at),
+            is_unsealed_reported(&mut tree, *n, *key, *at),
             "a block",
             *n,
         );
     }
 }
 
-const PAST_LEAVES: [Told; 20] = [
+const PAST_LEAVES: [Reported; 20] = [
     (0, 120, 0, (1, 0), Ok((EARLY, Comes::Past(8)))),
     (
         0,
@@ -949,12 +962,12 @@ fn a_damaged_leaf_of_the_past_is_named_or_has_other_versions(rt: HostRuntime) {
     let mut tree = whole_tree(rt.alloc()).expect(&rt, "a tree");
     be(
         &rt,
-        are_told_of_blocks(&mut tree, &PAST_LEAVES),
+        are_reported_of_blocks(&mut tree, &PAST_LEAVES),
         "leaves of the past",
     );
 }
 
-const PAST_COLUMNS: [Told; 14] = [
+const PAST_COLUMNS: [Reported; 14] = [
     // The first part: its start, its kind and its number.
     (3, 127, 0, (100, 0), Err(NodeError::Damaged(3))),
     (3, 135, 0, (100, 0), Err(NodeError::Damaged(3))),
@@ -996,7 +1009,7 @@ fn a_damaged_column_of_the_past_is_named_or_leads_to_what_is(rt: HostRuntime) {
     let mut tree = whole_tree(rt.alloc()).expect(&rt, "a tree");
     be(
         &rt,
-        are_told_of_blocks(&mut tree, &PAST_COLUMNS),
+        are_reported_of_blocks(&mut tree, &PAST_COLUMNS),
         "a column of the past",
     );
 }

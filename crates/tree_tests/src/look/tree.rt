@@ -4,7 +4,7 @@
 //! key 6 has 171 from 199 on. Key 8 has 1 from 10 on and ends at 50, key 14 has 2 from 20 on. Key 15 has 3 from 30 on, key 200
 //! has 4 from 40 on.
 
-use super::spelling::{Child, Entries, Node, spelled};
+use super::encoding::{Child, Entries, Node, encoded};
 use crate::memory::{IN_USE, begun, set_page, shelf_of};
 use disk_memory::{MemErase, MemOnce, MemSeen};
 use disk_models::{Block, Page};
@@ -150,12 +150,12 @@ const BLOCKS: [Node; 4] = [
 
 /// The octets of a page of the tree.
 pub(super) fn octets_of(alloc: Global, page: u64) -> Option<Vec<u8>> {
-    spelled(alloc, PAGES.get(page.checked_sub(1)? as usize)?)
+    encoded(alloc, PAGES.get(page.checked_sub(1)? as usize)?)
 }
 
 /// The octets of a block of the tree, but for its digest.
 pub(super) fn block_octets(alloc: Global, block: u64) -> Option<Vec<u8>> {
-    spelled(alloc, BLOCKS.get(block as usize)?)
+    encoded(alloc, BLOCKS.get(block as usize)?)
 }
 
 /// A page of the tree.
@@ -278,7 +278,7 @@ pub(super) fn lay_key_node(
         end: None,
         entries: Entries::KeyNode(level, children),
     };
-    let octets = spelled(tree.alloc, &node)?;
+    let octets = encoded(tree.alloc, &node)?;
     crate::memory::lay(tree.alloc, &mut tree.tx, n, &octets)
 }
 

@@ -1,7 +1,7 @@
 //! What is found through blocks of a shelf.
 
 use super::rows::{Row, scan, stamp_of};
-use crate::memory::{key_of, lies_in};
+use crate::memory::{key_of, located_in};
 use disk_memory::{MemOnce, MemSeen};
 use once_store::{Shelf, ShelfReader};
 use std::alloc::Global;
@@ -30,7 +30,7 @@ fn asker_of(alloc: Global, shelf: &mut Shelf<MemOnce>) -> Option<Asker> {
 fn found(asker: &mut Asker, place: &Place, key: u8, stamp: u64) -> Option<Option<(Stamp, u8)>> {
     let key = key_of(key);
     let stamp = stamp_of(stamp);
-    if !lies_in(&place.bounds, key, stamp) {
+    if !located_in(&place.bounds, key, stamp) {
         return None;
     }
     let found = hist_find(

@@ -64,8 +64,8 @@ pub(super) fn find(tree: &mut Tree, key: u16, stamp: Stamp) -> Option<Since> {
 }
 
 /// Whether a key has this value, since this stamp, as of a stamp.
-pub(super) fn has(tree: &mut Tree, key: u16, stamp: Stamp, wanted: Since) -> bool {
-    find(tree, key, stamp) == Some(wanted)
+pub(super) fn has(tree: &mut Tree, key: u16, stamp: Stamp, expected: Since) -> bool {
+    find(tree, key, stamp) == Some(expected)
 }
 
 /// How far a lookup of the next key comes from a key.
@@ -107,8 +107,8 @@ fn next_key(tree: &mut Tree, from: u16, stamp: Stamp) -> Option<NextKey> {
 }
 
 /// Whether this key is the next from one on that has a value as of a stamp.
-pub(super) fn is_next(tree: &mut Tree, from: u16, stamp: Stamp, wanted: NextKey) -> bool {
-    next_key(tree, from, stamp) == Some(wanted)
+pub(super) fn is_next(tree: &mut Tree, from: u16, stamp: Stamp, expected: NextKey) -> bool {
+    next_key(tree, from, stamp) == Some(expected)
 }
 
 /// The version that an entry is.
@@ -160,7 +160,7 @@ fn is_before(stamp: Stamp, to: &Option<Stamp>) -> bool {
 /// Whether the first part of the versions of a key from a stamp on goes beyond that, and has exactly those of these rows.
 pub(super) fn is_part(tree: &mut Tree, key: u16, from: Stamp, rows: &[Row]) -> bool {
     match part_of(tree, key, from) {
-        Some(part) => is_before(from, &part.told) && are_within(&part, from, rows),
+        Some(part) => is_before(from, &part.reported) && are_within(&part, from, rows),
         None => false,
     }
 }
@@ -169,7 +169,7 @@ pub(super) fn is_part(tree: &mut Tree, key: u16, from: Stamp, rows: &[Row]) -> b
 fn are_within(part: &KeyVersions, from: Stamp, rows: &[Row]) -> bool {
     let mut n = 0usize;
     for row in rows {
-        if from <= row.0 && is_before(row.0, &part.told) {
+        if from <= row.0 && is_before(row.0, &part.reported) {
             if part.entries.get(n).and_then(|entry| row_of(entry)) != Some(*row) {
                 return false;
             }
@@ -191,8 +191,8 @@ pub(super) fn are_parts(
     let last = part_of(tree, key, second)?;
     let count = first.entries.len();
     Some(
-        first.told == Some(second)
-            && last.told.is_none()
+        first.reported == Some(second)
+            && last.reported.is_none()
             && are(&first.entries, rows.get(..count)?)
             && are(&last.entries, rows.get(count..)?),
     )

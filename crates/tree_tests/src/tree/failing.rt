@@ -64,8 +64,8 @@ fn put_all(tree: &mut Tree, reason: TreeError) -> Option<u32> {
 /// Whether each version is found, in a tree of one level of key nodes.
 fn has_all(tree: &mut Tree) -> bool {
     for n in 0..COUNT {
-        let wanted = value(n);
-        if !has(tree, key_at(n), wanted.0, Some(wanted)) {
+        let expected = value(n);
+        if !has(tree, key_at(n), expected.0, Some(expected)) {
             return false;
         }
     }

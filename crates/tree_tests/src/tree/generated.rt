@@ -108,8 +108,8 @@ fn are_put(tree: &mut Tree, plain: &mut Plain, dice: &mut Dice, keys: Keys) -> O
         let key = keys.pick(n, dice);
         let row = (dice.next_stamp(), dice.value());
         put_both(tree, plain, key, &row)?;
-        let wanted = row.1.map(|value| (row.0, value));
-        if !has(tree, key, row.0, wanted) {
+        let expected = row.1.map(|value| (row.0, value));
+        if !has(tree, key, row.0, expected) {
             return Some(false);
         }
     }

@@ -62,10 +62,10 @@ fn tree_of_six(alloc: Global) -> Option<Tree> {
 fn each_version_is_found_at_its_stamp(rt: HostRuntime) {
     let mut tree = tree_of_six(rt.alloc()).expect(&rt, "six versions");
     for n in 1..7u8 {
-        let wanted = value(n);
+        let expected = value(n);
         be_at(
             &rt,
-            has(&mut tree, KEY, wanted.0, Some(wanted)),
+            has(&mut tree, KEY, expected.0, Some(expected)),
             "a value",
             u64::from(n),
         );
@@ -83,14 +83,14 @@ fn each_version_is_found_at_its_stamp(rt: HostRuntime) {
 }
 
 #[test]
-fn all_versions_are_told(rt: HostRuntime) {
+fn all_versions_are_reported(rt: HostRuntime) {
     let mut tree = tree_of_six(rt.alloc()).expect(&rt, "six versions");
     be(&rt, has_versions(&mut tree, KEY, 6), "all versions");
 }
 
 // The first part has the five versions of the block, and both have six.
 #[test]
-fn all_versions_are_told_part_by_part(rt: HostRuntime) {
+fn all_versions_are_reported_part_by_part(rt: HostRuntime) {
     let mut tree = tree_of_six(rt.alloc()).expect(&rt, "six versions");
     let rows = rows_to(rt.alloc(), 6).expect(&rt, "rows");
     let early = Stamp::new(0, 9);

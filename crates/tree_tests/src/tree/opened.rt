@@ -44,7 +44,7 @@ fn store_of_two(alloc: Global) -> Option<Store> {
 }
 
 #[test]
-fn a_root_tells_its_level(rt: HostRuntime) {
+fn a_root_reports_its_level(rt: HostRuntime) {
     let mut tree = two(rt.alloc()).expect(&rt, "a tree");
     let place = opened(&mut tree).expect(&rt, "a place");
     be(
@@ -64,19 +64,19 @@ fn next_in(store: &mut Store, from: u16, stamp: Stamp) -> Option<Reached> {
 }
 
 /// Whether this key is the next from one on that has a value as of a stamp, and since then.
-fn is_next(store: &mut Store, from: u16, stamp: Stamp, wanted: Option<(u16, Stamp)>) -> bool {
+fn is_next(store: &mut Store, from: u16, stamp: Stamp, expected: Option<(u16, Stamp)>) -> bool {
     let Some(reached) = next_in(store, from, stamp) else {
         return false;
     };
     match reached {
-        Reached::At(key, found) => Some((number_of(key), found.stamp)) == wanted,
-        Reached::End => wanted == None,
+        Reached::At(key, found) => Some((number_of(key), found.stamp)) == expected,
+        Reached::End => expected == None,
         Reached::Past(_) => false,
     }
 }
 
 #[test]
-fn a_tree_tells_the_next_key(rt: HostRuntime) {
+fn a_tree_reports_the_next_key(rt: HostRuntime) {
     let mut store = store_of_two(rt.alloc()).expect(&rt, "a tree");
     let five = Stamp::new(5, 0);
     let last = Stamp::new(6, 1);
@@ -106,7 +106,7 @@ fn a_tree_tells_the_next_key(rt: HostRuntime) {
 fn has_one(store: &mut Store, key: u16, stamp: Stamp) -> bool {
     match store.part(key_of(key), Stamp::new(0, 0)) {
         Ok(Parted::Here(part)) => {
-            part.told.is_none()
+            part.reported.is_none()
                 && part.entries.len() == 1
                 && part.entries.iter().all(|entry| entry.stamp == stamp)
         }
@@ -115,7 +115,7 @@ fn has_one(store: &mut Store, key: u16, stamp: Stamp) -> bool {
 }
 
 #[test]
-fn a_tree_tells_the_versions_of_a_key(rt: HostRuntime) {
+fn a_tree_reports_the_versions_of_a_key(rt: HostRuntime) {
     let mut store = store_of_two(rt.alloc()).expect(&rt, "a tree");
     be(&rt, has_one(&mut store, 7, Stamp::new(5, 0)), "one version");
 }

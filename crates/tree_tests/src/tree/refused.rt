@@ -59,8 +59,8 @@ fn has_keys(tree: &mut Tree, end: u8) -> bool {
     let late = Stamp::new(9, 9);
     for n in 1..end {
         let (stamp, octets) = value(n);
-        let wanted = Some((u16::from(n), stamp, octets));
-        if !is_next(tree, u16::from(n), late, wanted) {
+        let expected = Some((u16::from(n), stamp, octets));
+        if !is_next(tree, u16::from(n), late, expected) {
             return false;
         }
     }

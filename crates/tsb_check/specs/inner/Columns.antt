@@ -8,7 +8,7 @@ use Rattle.version_model.specs.declared.part.Part.{Part}
 use Rattle.version_model.specs.Versions.{Version}
 use Rattle.version_model.specs.Counts.{count_in}
 use Rattle.version_model.specs.Pages.{CurrentLeaf, ColumnNode, current_range}
-use Rattle.tsb_check.specs.Counted.{AreCounted, MeetUnknown, MeetDamage, told}
+use Rattle.tsb_check.specs.Counted.{AreCounted, MeetUnknown, MeetDamage, reported}
 use Rattle.tsb_check.specs.declared.in_use.InUse.{InUse}
 use Rattle.tsb_check.specs.InUse.{IsColumnUsed, IsColumnUnused}
 use Rattle.tsb_check.specs.Pages.{past_of}
@@ -28,13 +28,13 @@ pub record HasCurrent (shown : List (List ℕ)) (place : PagePlace) (said : Colu
   pub is : n ≡ count_in versions (current_range (keys_at place) said.current.start)
 
 -- a count of its versions returns n
-pub record TellsColumn (shown : List (List ℕ)) (known : ℕ → Option (List ℕ)) (count : ℕ) (place : PagePlace) (n : ℕ) : Type 0 where
+pub record ReportsColumn (shown : List (List ℕ)) (known : ℕ → Option (List ℕ)) (count : ℕ) (place : PagePlace) (n : ℕ) : Type 0 where
   pub column : IsColumnAt shown place
   pub versions : List Version
   pub leaf : Says shown column.current (CurrentLeaf (keys_at place) column.start versions)
   pub past : ℕ
   pub counted : AreCounted known count (past_of place column.parts column.start) past
-  pub is : n ≡ told (past + count_in versions (current_range (keys_at place) column.start))
+  pub is : n ≡ reported (past + count_in versions (current_range (keys_at place) column.start))
 
 -- the page isn't the column, or isn't its current leaf
 pub data IsBadColumn (shown : List (List ℕ)) (place : PagePlace) : ℕ → Type 0 where

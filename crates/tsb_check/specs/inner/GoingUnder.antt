@@ -6,14 +6,14 @@ use Rattle.tsb_walk.specs.PageWays.{IsNoKeyNode}
 use Rattle.version_model.specs.declared.child.Child.{Child}
 use Rattle.version_model.specs.Pages.{KeyNode}
 use Rattle.tsb_check.specs.declared.in_use.InUse.{InUse}
-use Rattle.tsb_check.specs.Counted.{told}
+use Rattle.tsb_check.specs.Counted.{reported}
 use Rattle.tsb_check.specs.Pages.{AreCountedUnder, places_under}
-use Rattle.tsb_check.specs.inner.Columns.{TellsColumn, IsBadColumn, IsUnusedColumn, IsUsedColumn, IsUnknownIn, IsDamagedIn}
+use Rattle.tsb_check.specs.inner.Columns.{ReportsColumn, IsBadColumn, IsUnusedColumn, IsUsedColumn, IsUnknownIn, IsDamagedIn}
 
 -- What was counted so far, and what the places that are left count, is a count of all.
 pub record CountsOnUnder (shown : List (List ℕ)) (known : ℕ → Option (List ℕ)) (count : ℕ) (places left : List PagePlace) (n : ℕ) : Type 0 where
   pub total : ℕ
-  pub is : n ≡ told total
+  pub is : n ≡ reported total
   pub on : (m : ℕ) → AreCountedUnder shown known count left m → AreCountedUnder shown known count places (total + m)
 
 -- from places that are left to others a page is taken: a column leaves no more, a key node the places of its children
@@ -23,7 +23,7 @@ AreLeftBy shown place left left' = ((place.level ≡ 1) × (left' ≡ left))
 
 -- n versions are counted of a column; none of a key node, whose children's places are left
 abbrev pub IsPlaceTaken : List (List ℕ) → (ℕ → Option (List ℕ)) → ℕ → PagePlace → List PagePlace → List PagePlace → ℕ → Type 0
-IsPlaceTaken shown known count place left left' n = ((place.level ≡ 1) × TellsColumn shown known count place n × (left' ≡ left))
+IsPlaceTaken shown known count place left left' n = ((place.level ≡ 1) × ReportsColumn shown known count place n × (left' ≡ left))
     ⊎ ((children : List Child) × Says shown place.page (KeyNode place.level (keys_at place) children) × (left' ≡ left ++ places_under place children) × (n ≡ 0))
 
 -- a page of a column isn't what it is to be, or that of a key node

@@ -22,7 +22,7 @@ leaf_whole leaf octets is = sym (block_digest (leaf_header leaf) (entries leaf.v
 pub leaf_made : (leaf : LeafNode) (octets : List ℕ) → BeginsAsLeaf leaf octets → IsSome leaf.bounds.end → IsWhole octets → IsLeafBlock leaf octets
 leaf_made leaf octets is ended whole =
     let node = block_made (leaf_header leaf) (entries leaf.versions) octets (leaf_begun leaf octets is) ended (sym whole) in
-    record { valid = is.valid; block = record { ended = ended; spelled = node.block.spelled } }
+    record { valid = is.valid; block = record { ended = ended; encoded = node.block.encoded } }
 
 pub column_begins : (column : ColumnInBlock) (octets : List ℕ) → IsColumnBlock column octets → BeginsAsOldColumn column octets
 column_begins column octets is = old_block column octets is
@@ -33,7 +33,7 @@ column_whole column octets is = sym (block_digest (old_header column) (flat_map 
 pub column_made : (column : ColumnInBlock) (octets : List ℕ) → BeginsAsOldColumn column octets → IsSome column.bounds.end → IsWhole octets → IsColumnBlock column octets
 column_made column octets is ended whole =
     let node = block_made (old_header column) (flat_map part_octets column.parts) octets (old_begun column octets is) ended (sym whole) in
-    record { valid = is.valid; block = record { ended = ended; spelled = node.block.spelled } }
+    record { valid = is.valid; block = record { ended = ended; encoded = node.block.encoded } }
 
 -- octets begin as one leaf at most
 pub one_leaf : (a b : LeafNode) (octets : List ℕ) → BeginsAsLeaf a octets → BeginsAsLeaf b octets → a ≡ b

@@ -24,10 +24,10 @@ pub leaf_begins : (leaf : LeafNode) (octets : List ℕ) → IsLeafPage leaf octe
 leaf_begins leaf octets is = begins_page leaf octets is
 
 pub column_begins : (column : ColumnInPage) (octets : List ℕ) → IsColumnPage column octets → BeginsAsColumn column octets
-column_begins column octets is = record { valid = is.valid; last = replicate 32 0; spelled = is.page.spelled }
+column_begins column octets is = record { valid = is.valid; last = replicate 32 0; encoded = is.page.encoded }
 
 pub key_node_begins : (node : KeyNodeInPage) (octets : List ℕ) → IsKeyNodePage node octets → BeginsAsKeyNode node octets
-key_node_begins node octets is = record { valid = is.valid; last = replicate 32 0; spelled = is.page.spelled }
+key_node_begins node octets is = record { valid = is.valid; last = replicate 32 0; encoded = is.page.encoded }
 
 -- the child under which a key lies is one of the key node's, of its own keys
 pub child_under : (node : KeyNodeInPage) (key : ℕ) (under : Under) → IsUnder node key under

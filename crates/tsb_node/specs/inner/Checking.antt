@@ -9,10 +9,10 @@ use Rattle.tsb_node.specs.inner.Reading.{value_size, version_in}
 use Rattle.tsb_node.specs.inner.Scanning.{IsWholeVersion}
 
 -- the octets begin with an entry of a leaf of these bounds
-pub record IsSpelled (b : Bounds) (bytes : List ℕ) : Type 0 where
+pub record IsEncoded (b : Bounds) (bytes : List ℕ) : Type 0 where
   pub whole : IsWholeVersion bytes
   pub valid : IsVersionOf b (version_in bytes)
-  pub spelled : take (59 + value_size bytes) bytes ≡ entry (version_in bytes)
+  pub encoded : take (59 + value_size bytes) bytes ≡ entry (version_in bytes)
 
 -- the octets are exactly this many entries of a leaf of these bounds
 pub record AreEntries (b : Bounds) (count : ℕ) (bytes : List ℕ) : Type 0 where
@@ -20,7 +20,7 @@ pub record AreEntries (b : Bounds) (count : ℕ) (bytes : List ℕ) : Type 0 whe
   pub each : AllByRecursion (IsVersionOf b) versions
   pub rising : IsRising versions
   pub counted : length versions ≡ count
-  pub spelled : bytes ≡ entries versions
+  pub encoded : bytes ≡ entries versions
 
 -- the stamp is above the last one, where there is one
 abbrev pub IsAfter : ℕ → Option ℕ → Type 0
@@ -34,4 +34,4 @@ pub record IsLeafOf (h : Header) (bytes : List ℕ) (leaf : LeafNode) : Type 0 w
   pub bounds : leaf.bounds ≡ h.bounds
   pub count : h.count ≡ length leaf.versions
   pub valid : IsLeaf leaf
-  pub spelled : bytes ≡ entries leaf.versions
+  pub encoded : bytes ≡ entries leaf.versions

@@ -34,4 +34,4 @@ pub record IsKeyNodeOf (h : Header) (entries : List ℕ) (node : KeyNodeInPage) 
   pub bounds : node.bounds ≡ h.bounds
   pub count : h.count ≡ length node.children
   pub valid : IsKeyNode node
-  pub spelled : entries ≡ flat_map child_octets node.children
+  pub encoded : entries ≡ flat_map child_octets node.children

@@ -8,4 +8,4 @@ laid at new old = take at old ++ new ++ drop (at + length new) old
 -- a header, some entries, and zeros to the end of the sheet
 pub record IsFilling (h es sheet : List ℕ) : Type 0 where
   pub size : length h ≡ 120
-  pub spelled : sheet ≡ (h ++ es) ++ replicate (16264 - length es) 0
+  pub encoded : sheet ≡ (h ++ es) ++ replicate (16264 - length es) 0

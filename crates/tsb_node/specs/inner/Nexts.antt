@@ -4,9 +4,9 @@ use Rattle.version_model.specs.Versions.{Version, Answers, Has}
 use Rattle.version_model.specs.Looks.{IsLive}
 
 -- whether the key has a value as of the stamp
-abbrev pub TellsLive : List Version → ℕ → ℕ → Bool → Type 0
-TellsLive versions key s true = IsLive versions s key
-TellsLive versions key s false = Answers versions key s None
+abbrev pub ReportsLive : List Version → ℕ → ℕ → Bool → Type 0
+ReportsLive versions key s true = IsLive versions s key
+ReportsLive versions key s false = Answers versions key s None
 
 -- the least key from this one on of which there is a version that isn't after the stamp; none where there is no such version
 abbrev pub IsLeastOf : List Version → ℕ → ℕ → Option ℕ → Type 0

@@ -18,7 +18,7 @@ node_body h entries = body h.kind h.level h.count h.bounds entries
 pub record BeginsAsNode (h : Header) (entries octets : List ℕ) : Type 0 where
   pub valid : IsNode h entries
   pub last : List ℕ
-  pub spelled : octets ≡ node_body h entries ++ last
+  pub encoded : octets ≡ node_body h entries ++ last
 
 -- the octets are the page of the node
 pub record IsNodePage (h : Header) (entries octets : List ℕ) : Type 0 where

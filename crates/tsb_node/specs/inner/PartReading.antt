@@ -41,7 +41,7 @@ pub record IsCurrentOf (h : Header) (entries : List ℕ) (current : Current) (fr
   pub from_first : h.bounds.start ≡ 0
   pub some : 0 < h.count
   pub entry : IsCurrentEntry current
-  pub spelled : entries ≡ front ++ current_octets current
+  pub encoded : entries ≡ front ++ current_octets current
   pub alone : length front ≡ 0 → current.start ≡ h.bounds.start
 
 -- the header and the octets of the entries are those of a column in a page
@@ -51,7 +51,7 @@ pub record IsColumnOf (h : Header) (entries : List ℕ) (column : ColumnInPage) 
   pub bounds : column.bounds ≡ h.bounds
   pub count : h.count ≡ length column.parts + 1
   pub valid : IsColumn column
-  pub spelled : entries ≡ flat_map part_octets column.parts ++ current_octets column.current
+  pub encoded : entries ≡ flat_map part_octets column.parts ++ current_octets column.current
 
 -- the header and the octets of the entries are those of a column in a block
 pub record IsOldColumnOf (h : Header) (entries : List ℕ) (column : ColumnInBlock) : Type 0 where
@@ -60,4 +60,4 @@ pub record IsOldColumnOf (h : Header) (entries : List ℕ) (column : ColumnInBlo
   pub bounds : column.bounds ≡ h.bounds
   pub count : h.count ≡ length column.parts
   pub valid : IsOldColumn column
-  pub spelled : entries ≡ flat_map part_octets column.parts
+  pub encoded : entries ≡ flat_map part_octets column.parts

@@ -16,18 +16,18 @@ unfoldable pub version_in : List ℕ → Version
 version_in bytes = record { key = number_in 40 0 bytes; stamp = number_in 16 40 bytes; value = value_in bytes }
 
 -- what follows the version at the front
-abbrev pub behind_version : List ℕ → List ℕ
-behind_version bytes = drop (59 + value_size bytes) bytes
+abbrev pub after_version : List ℕ → List ℕ
+after_version bytes = drop (59 + value_size bytes) bytes
 
 -- n versions, one after another
 unfoldable pub versions_in : ℕ → List ℕ → List Version
 versions_in zero bytes = []
-versions_in (suc n) bytes = version_in bytes ∷ versions_in n (behind_version bytes)
+versions_in (suc n) bytes = version_in bytes ∷ versions_in n (after_version bytes)
 
 -- what follows the first n versions
 unfoldable pub after : ℕ → List ℕ → List ℕ
 after zero bytes = bytes
-after (suc n) bytes = after n (behind_version bytes)
+after (suc n) bytes = after n (after_version bytes)
 
 -- where the entries of a node may stand
 abbrev pub area : List ℕ → List ℕ

@@ -4,10 +4,10 @@ use Rattle.std.specs.List.{flat_map, AllByRecursion}
 use Rattle.tsb_node.specs.Columns.{AreAscending}
 
 -- each encoding has `size` octets, and octets begin with one entry at most
-pub record IsSpelling {X : Type 0} (spell : X → List ℕ) (valid : X → Type 0) (size : ℕ) : Type 0 where
+pub record IsEncoding {X : Type 0} (encode : X → List ℕ) (valid : X → Type 0) (size : ℕ) : Type 0 where
   pub some : 0 < size
-  pub size_is : (x : X) → length (spell x) ≡ size
-  pub apart : (x y : X) (a b : List ℕ) → valid x → valid y → spell x ++ a ≡ spell y ++ b → x ≡ y
+  pub size_is : (x : X) → length (encode x) ≡ size
+  pub apart : (x y : X) (a b : List ℕ) → valid x → valid y → encode x ++ a ≡ encode y ++ b → x ≡ y
 
 -- where there are numbers, this one is the first
 abbrev pub StartsAt : ℕ → List ℕ → Type 0
@@ -15,12 +15,12 @@ StartsAt first [] = Unit {0}
 StartsAt first (n ∷ rest) = n ≡ first
 
 -- the octets are exactly these entries, `count` of them, whose numbers rise from the first one on
-pub record AreRows {X : Type 0} (spell : X → List ℕ) (valid : X → Type 0) (number : X → ℕ) (first count : ℕ) (bytes : List ℕ) (rows : List X) : Type 0 where
+pub record AreRows {X : Type 0} (encode : X → List ℕ) (valid : X → Type 0) (number : X → ℕ) (first count : ℕ) (bytes : List ℕ) (rows : List X) : Type 0 where
   pub each : AllByRecursion valid rows
   pub from_first : StartsAt first (map number rows)
   pub rising : AreAscending (map number rows)
   pub counted : length rows ≡ count
-  pub spelled : bytes ≡ flat_map spell rows
+  pub encoded : bytes ≡ flat_map encode rows
 
 -- it is the last of the numbers, where there is one
 abbrev pub IsLastNumber : List ℕ → Option ℕ → Type 0
@@ -33,6 +33,6 @@ IsNextNumber first None n = n ≡ first
 IsNextNumber first (Some last) n = last < n
 
 -- the entry at the front, and what follows it
-pub record IsFront {X : Type 0} (spell : X → List ℕ) (valid : X → Type 0) (size : ℕ) (bytes : List ℕ) (x : X) : Type 0 where
+pub record IsFront {X : Type 0} (encode : X → List ℕ) (valid : X → Type 0) (size : ℕ) (bytes : List ℕ) (x : X) : Type 0 where
   pub valid_is : valid x
-  pub spelled : bytes ≡ spell x ++ drop size bytes
+  pub encoded : bytes ≡ encode x ++ drop size bytes

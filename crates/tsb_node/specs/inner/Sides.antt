@@ -9,9 +9,9 @@ is_below None key = true
 is_below (Some n) key = nat_lt key n
 
 -- whether a key lies between the bounds
-abbrev pub lies_within : Bounds → ℕ → Bool
-lies_within b key = not (nat_lt key b.low) && is_below b.high key
+abbrev pub located_within : Bounds → ℕ → Bool
+located_within b key = not (nat_lt key b.low) && is_below b.high key
 
 -- the versions of the keys between the bounds
 abbrev pub side_of : LeafNode → Bounds → LeafNode
-side_of leaf b = record { bounds = b; versions = filter (λ v. lies_within b v.key) leaf.versions }
+side_of leaf b = record { bounds = b; versions = filter (λ v. located_within b v.key) leaf.versions }

@@ -22,5 +22,5 @@ UsesPages shown v place next unused None = (n : ℕ) × StaysOne shown v place n
 UsesPages shown v place next unused (Some new) = (n : ℕ) × BecomesTwo shown v place n × (unused ≡ next + n)
 
 -- fewer pages are left, from `next` on below `homes`, than the node at a place needs
-abbrev pub WantsPages : List (List ℕ) → Version → PagePlace → ℕ → ℕ → Type 0
-WantsPages shown v place homes next = (n : ℕ) × (StaysOne shown v place n ⊎ BecomesTwo shown v place n) × (homes < next + n)
+abbrev pub LacksPages : List (List ℕ) → Version → PagePlace → ℕ → ℕ → Type 0
+LacksPages shown v place homes next = (n : ℕ) × (StaysOne shown v place n ⊎ BecomesTwo shown v place n) × (homes < next + n)

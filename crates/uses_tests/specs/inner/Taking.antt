@@ -7,7 +7,7 @@ use Rattle.disk_models.specs.Left.{IsFound, Left, LeftNow}
 use Rattle.route_meaning.specs.History.{History}
 use Rattle.archive_pages.specs.declared.settings.Settings.{Settings}
 use Rattle.disk_archive.specs.declared.archive.Archive.{Archive}
-use Rattle.disk_archive.specs.Archives.{Carries, is_down}
+use Rattle.disk_archive.specs.Archives.{Represents, is_down}
 use Rattle.archive_uses.specs.Use.{IsUse, Use}
 use Rattle.archive_uses.specs.Uses.{Scene, Uses}
 use Rattle.archive_uses.specs.Uses.Stage.{gone, off, on}
@@ -68,6 +68,6 @@ pub record Reopens {E O Pen Seen : Type 0} (erase : EraseGhosts E) (once : OnceG
   pub valid : AllByRecursion IsUse rest
   pub leads : Uses (fallen erase once o left) rest (alone new)
 
--- the archive carries a history, or must be opened again
+-- the archive represents a history, or must be opened again
 abbrev pub IsSomewhere : {E O Pen Seen : Type 0} {erase : EraseGhosts E} {once : OnceGhosts O Pen Seen} → Archive E O Pen Seen erase once → Type 0
-IsSomewhere a = ((h : History) × Carries a h) ⊎ (is_down a ≡ true)
+IsSomewhere a = ((h : History) × Represents a h) ⊎ (is_down a ≡ true)

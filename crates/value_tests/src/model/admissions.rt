@@ -30,7 +30,7 @@ fn moment() -> Moment {
     Moment::from(1_704_067_200u32)
 }
 
-/// The admission that octets spell.
+/// The admission that octets encode.
 fn decoded(rt: &impl Abort, alloc: Global, octets: &[u8]) -> Admission {
     let read = Admission::decode(alloc, octets).expect(rt, "memory");
     read.expect(rt, "no admission")
@@ -49,13 +49,13 @@ fn admitted(rt: &impl Abort, changes: Vec<Change>) -> Admission {
 fn is_the_announcement(changes: &[Change]) -> bool {
     match changes {
         [Change::Announce(from, prefix, route)] => {
-            *from == peer() && *prefix == ten() && route.spelling() == ROUTE.as_slice()
+            *from == peer() && *prefix == ten() && route.encoding() == ROUTE.as_slice()
         }
         _ => false,
     }
 }
 
-/// Whether the vector spells it.
+/// Whether the vector encodes it.
 fn is_the_vector(rt: &impl Abort, alloc: Global, admission: &Admission) -> bool {
     encoded(rt, alloc, admission).as_slice() == VECTOR.as_slice()
 }
@@ -93,7 +93,7 @@ fn a_shared_admission_is_the_same(rt: HostRuntime) {
     }
 }
 
-/// A route for 10.0.0.0/8 with this path, and an attribute of so many octets, if any.
+/// A route for 10.0.0.0/8 with this path, and an attribute of this many octets, if any.
 fn announcement(rt: &impl Abort, alloc: Global, from: Peer, path: &[u32], other: usize) -> Change {
     let route = route(rt, alloc, path, other);
     Change::Announce(from, ten(), shared(rt, alloc, route))
@@ -119,7 +119,7 @@ fn five_changes(rt: &impl Abort, alloc: Global) -> Vec<Change> {
     vec![in alloc; down, first, second, withdrawn, third].expect(rt, "memory")
 }
 
-/// Octets of their spelling, from a place on: two peers, the second of the list first; then two routes of 17 octets; then
+/// Octets of their encoding, from a place on: two peers, the second of the list first; then two routes of 17 octets; then
 /// the five changes, up to the end.
 const TABLES: [(usize, &[u8]); 4] = [
     (8, &[0, 2, 0, 4, 0xC0, 0, 2, 2]),
@@ -140,9 +140,9 @@ fn tables_list_each_value_once_in_the_order_of_first_use(rt: HostRuntime) {
     let admission = admitted(&rt, five_changes(&rt, alloc));
     let octets = encoded(&rt, alloc, &admission);
     be(&rt, octets.len() == admission.encoded_len(), "the length");
-    for (place, wanted) in &TABLES {
+    for (place, expected) in &TABLES {
         let (_, from) = octets.split_at_checked(*place).expect(&rt, "a place");
-        be(&rt, from.starts_with(wanted), "a table of the encoding");
+        be(&rt, from.starts_with(expected), "a table of the encoding");
     }
     be(&rt, octets.len() == 94 + 35, "all octets");
     let read = decoded(&rt, alloc, &octets);
@@ -225,7 +225,7 @@ fn with_route_twice(rt: &impl Abort, alloc: Global) -> Vec<u8> {
 }
 
 #[test]
-fn tables_have_one_spelling(rt: HostRuntime) {
+fn tables_have_one_encoding(rt: HostRuntime) {
     let alloc = rt.alloc();
     be(
         &rt,
@@ -251,7 +251,7 @@ fn announced(rt: &impl Abort, alloc: Global, other: usize) -> Vec<Change> {
     vec![in alloc; change].expect(rt, "memory")
 }
 
-/// Whether an admission of these changes has so many octets, and is read from them.
+/// Whether an admission of these changes has this many octets, and is read from them.
 fn is_read_again(rt: &impl Abort, alloc: Global, changes: Vec<Change>, len: usize) -> bool {
     let admission = admitted(rt, changes);
     let octets = encoded(rt, alloc, &admission);
@@ -288,13 +288,13 @@ fn routes_have_at_most_3072_octets(rt: HostRuntime) {
     );
 }
 
-/// The spelling of a route that is one octet too large.
+/// The encoding of a route that is one octet too large.
 fn large_route(rt: &impl Abort, alloc: Global) -> Vec<u8> {
     let large = route(rt, alloc, &[65001], 3052);
     octets_of_route(rt, alloc, &large)
 }
 
-/// The vector with this spelling of 3,073 octets in place of its route's.
+/// The vector with this encoding of 3,073 octets in place of its route's.
 fn with_large(rt: &impl Abort, alloc: Global, route: &[u8]) -> Vec<u8> {
     let mut octets = Vec::from_slice(alloc, &VECTOR[..34]).expect(rt, "memory");
     octets.extend_from_slice(&[12, 1]).expect(rt, "memory");
@@ -325,7 +325,7 @@ fn withdrawal(length: u8) -> Change {
     )
 }
 
-/// So many withdrawals of 9 octets each, and behind them of prefixes of these lengths.
+/// This many withdrawals of 9 octets each, and after them of prefixes of these lengths.
 fn withdrawals(rt: &impl Abort, alloc: Global, count: usize, lengths: &[u8]) -> Vec<Change> {
     let mut changes = Vec::new(alloc);
     for _ in 0..count {
@@ -386,7 +386,7 @@ fn octets_of_an_admission_above_the_limit_are_not_read(rt: HostRuntime) {
 }
 
 #[test]
-fn a_route_too_large_is_told_first(rt: HostRuntime) {
+fn a_route_too_large_is_reported_first(rt: HostRuntime) {
     let mut changes = withdrawals(&rt, rt.alloc(), 14_560, &[]);
     changes
         .push(announcement(&rt, rt.alloc(), peer(), &[65001], 3052))
@@ -394,6 +394,6 @@ fn a_route_too_large_is_told_first(rt: HostRuntime) {
     be(
         &rt,
         refusal_of(changes) == Some(AdmissionError::RouteTooLarge),
-        "a route too large is told first",
+        "a route too large is reported first",
     );
 }

@@ -30,7 +30,7 @@ pub(crate) fn numbers(rt: &impl Abort, alloc: Global, of: &[u32]) -> AsNumbers {
     AsNumbers::new(items)
 }
 
-/// A route whose path is these numbers in one sequence, with an attribute of so many octets, if any.
+/// A route whose path is these numbers in one sequence, with an attribute of this many octets, if any.
 pub(crate) fn route(rt: &impl Abort, alloc: Global, path: &[u32], other: usize) -> Route {
     let segments = vec![in alloc; Segment::Sequence(numbers(rt, alloc, path))].expect(rt, "memory");
     let mut items = Vec::new(alloc);
@@ -69,29 +69,29 @@ fn decoded(rt: &impl Abort, alloc: Global, octets: &[u8]) -> Route {
     read.expect(rt, "no route")
 }
 
-fn is_sequence(segment: Option<&Segment>, wanted: &[u32]) -> bool {
+fn is_sequence(segment: Option<&Segment>, expected: &[u32]) -> bool {
     match segment {
-        Some(Segment::Sequence(numbers)) => numbers.as_slice() == wanted,
+        Some(Segment::Sequence(numbers)) => numbers.as_slice() == expected,
         _ => false,
     }
 }
 
-fn is_set(segment: Option<&Segment>, wanted: &[u32]) -> bool {
+fn is_set(segment: Option<&Segment>, expected: &[u32]) -> bool {
     match segment {
-        Some(Segment::Set(numbers)) => numbers.as_slice() == wanted,
+        Some(Segment::Set(numbers)) => numbers.as_slice() == expected,
         _ => false,
     }
 }
 
 #[test]
-fn routes_have_one_spelling(rt: HostRuntime) {
+fn routes_have_one_encoding(rt: HostRuntime) {
     let route = route(&rt, rt.alloc(), &[65001, 65002], 0);
     be(&rt, route.encoded_len() == 21, "21 octets");
     let octets = encoded(&rt, rt.alloc(), &route);
     be(
         &rt,
         octets.as_slice() == ROUTE.as_slice(),
-        "a route is spelled",
+        "a route is encoded",
     );
     let read = decoded(&rt, rt.alloc(), &ROUTE);
     be(&rt, read.origin == Origin::Igp, "the origin");
@@ -137,7 +137,7 @@ fn every_part_of_a_route_is_read(rt: HostRuntime) {
     be(
         &rt,
         octets.as_slice() == &FULL[..80],
-        "the route is spelled",
+        "the route is encoded",
     );
     be(&rt, read.encoded_len() == 80, "80 octets");
 }
@@ -164,7 +164,7 @@ const FAULTS: [(&str, usize, u8); 10] = [
     ("no size of a next hop", 15, 31),
     ("a bit of presence that says nothing", 48, 31),
     ("a MED that isn't present", 48, 14),
-    ("a type that stands twice", 75, 8),
+    ("a type that occurs twice", 75, 8),
     ("types that descend", 75, 7),
     ("more attributes than there are", 66, 3),
 ];
@@ -189,10 +189,10 @@ pub(crate) fn shared(rt: &impl Abort, alloc: Global, route: Route) -> SharedRout
 }
 
 #[test]
-fn a_shared_route_keeps_its_spelling(rt: HostRuntime) {
+fn a_shared_route_keeps_its_encoding(rt: HostRuntime) {
     let route = route(&rt, rt.alloc(), &[65001, 65002], 0);
     let shared = shared(&rt, rt.alloc(), route);
     let again = shared.share().expect(&rt, "memory");
-    be(&rt, again.spelling() == ROUTE.as_slice(), "the spelling");
+    be(&rt, again.encoding() == ROUTE.as_slice(), "the spelling");
     be(&rt, again.route().origin == Origin::Igp, "the route");
 }

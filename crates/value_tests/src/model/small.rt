@@ -28,7 +28,7 @@ fn ipv6_peer() -> Peer {
 }
 
 #[test]
-fn peers_have_one_spelling(rt: HostRuntime) {
+fn peers_have_one_encoding(rt: HostRuntime) {
     be(&rt, peer().encode() == PEER, "peers have one spelling");
     be(&rt, peer().encoded_len() == 22, "peers have one spelling");
     be(
@@ -61,7 +61,7 @@ fn other_octets_are_no_peer(rt: HostRuntime) {
     be(
         &rt,
         Peer::decode(&octets) == None,
-        "no zeros behind an IPv4 address",
+        "no zeros after an IPv4 address",
     );
     be(&rt, Peer::decode(&PEER[..21]) == None, "cut");
     let mut long = [0u8; 23];
@@ -70,7 +70,7 @@ fn other_octets_are_no_peer(rt: HostRuntime) {
     be(&rt, Peer::decode(&[]) == None, "other octets are no peer");
 }
 
-/// Addresses, lengths, and the spellings of the prefixes that contain them.
+/// Addresses, lengths, and the encodings of the prefixes that contain them.
 const PREFIXES: [(Address, u8, &[u8]); 4] = [
     (Address::V4([10, 1, 2, 3]), 8, &[4, 8, 10]),
     (Address::V4([255, 255, 255, 255]), 0, &[4, 0]),
@@ -83,15 +83,15 @@ const PREFIXES: [(Address, u8, &[u8]); 4] = [
 ];
 
 /// Whether the prefix is encoded so, and read from it.
-fn is_spelled(rt: &impl Abort, alloc: Global, prefix: Prefix, octets: &[u8]) -> bool {
-    let spelled = prefix.encode(alloc).expect(rt, "memory");
-    spelled.as_slice() == octets
+fn is_encoded(rt: &impl Abort, alloc: Global, prefix: Prefix, octets: &[u8]) -> bool {
+    let encoded = prefix.encode(alloc).expect(rt, "memory");
+    encoded.as_slice() == octets
         && prefix.encoded_len() == octets.len()
         && Prefix::decode(octets) == Some(prefix)
 }
 
 #[test]
-fn prefixes_have_one_spelling(rt: HostRuntime) {
+fn prefixes_have_one_encoding(rt: HostRuntime) {
     let ten = Prefix::containing(Address::V4([10, 1, 2, 3]), 8);
     be(
         &rt,
@@ -103,7 +103,7 @@ fn prefixes_have_one_spelling(rt: HostRuntime) {
         let prefix = Prefix::containing(*address, (*length).min(32));
         be(
             &rt,
-            is_spelled(&rt, rt.alloc(), prefix, octets),
+            is_encoded(&rt, rt.alloc(), prefix, octets),
             "a prefix is encoded so",
         );
     }

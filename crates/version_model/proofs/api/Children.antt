@@ -49,7 +49,7 @@ module _ (nodes nodes' : ℕ → Option PageNode) (limit limit' : ℕ) (old old'
       let inside = are.inside s other is in
       stands_kept nodes nodes' limit limit' old old' next next' all new v else' level s other.page inside.1
       (λ k. elim apart_keys [ inl a ↦ omega (arith, k.high, of_key.low) | inr b ↦ omega (arith, k.low, of_key.high) ])
-      (λ p node in_limit at lies. keeps p node in_limit at (λ under. elim apart_keys [ inl a ↦ omega (arith, under.low, lies.high, lies.nonempty) | inr b ↦ omega (arith, under.high, lies.low, lies.nonempty) ]))
+      (λ p node in_limit at located. keeps p node in_limit at (λ under. elim apart_keys [ inl a ↦ omega (arith, under.low, located.high, located.nonempty) | inr b ↦ omega (arith, under.high, located.low, located.nonempty) ]))
       stands
 
   -- a child that took the version and stayed one

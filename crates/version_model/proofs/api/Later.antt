@@ -52,8 +52,8 @@ module _ (all new : List Version) (s : ℕ) (adds : AddsLater all s new) where
         | inr late ↦ absurd (omega (arith, late, upto, (is_of_true key from to x i.1).2))
       ]))
 
-  pub part_stays : (key from : ℕ) (versions : List Version) (told : Option ℕ) → IsRising all → IsRising new → end_or told ≤ s + 1 → IsPart all key from versions told → IsPart new key from versions told
-  part_stays key from versions told rising rising_new upto h = record { above = h.above; are = h.are ∙ filter_stays key from (end_or told) rising rising_new upto }
+  pub part_stays : (key from : ℕ) (versions : List Version) (reported : Option ℕ) → IsRising all → IsRising new → end_or reported ≤ s + 1 → IsPart all key from versions reported → IsPart new key from versions reported
+  part_stays key from versions reported rising rising_new upto h = record { above = h.above; are = h.are ∙ filter_stays key from (end_or reported) rising rising_new upto }
 
 -- a version that is later than the stamp
 pub Adds-later : (all new : List Version) (v : Version) (s : ℕ) → Adds all v new → s < v.stamp → AddsLater all s new

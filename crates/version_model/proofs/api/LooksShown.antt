@@ -152,9 +152,9 @@ until_shown all r leaf at upto shows = record {
 }
 
 -- the versions of a key in the leaf, from a stamp of its range on up to one that it returns, are those of the key
-pub told_shown : (all : List Version) (r : Range) (leaf : List Version) (shows : Shows all r leaf) (key from : ℕ) (told : Option ℕ) → IsPoint r key from → IsRising all → IsRising leaf
-    → from < end_or told → end_or told ≤ r.end → IsPart all key from (filter (is_of key from (end_or told)) leaf) told
-told_shown all r leaf shows key from told point rising rising_leaf above within = record {
+pub reported_shown : (all : List Version) (r : Range) (leaf : List Version) (shows : Shows all r leaf) (key from : ℕ) (reported : Option ℕ) → IsPoint r key from → IsRising all → IsRising leaf
+    → from < end_or reported → end_or reported ≤ r.end → IsPart all key from (filter (is_of key from (end_or reported)) leaf) reported
+reported_shown all r leaf shows key from reported point rising rising_leaf above within = record {
   above = above;
-  are = part_shown all (until r (end_or told)) leaf (until_shown all r leaf (end_or told) within shows) key from (record { low = point.low; high = point.high }) point.start rising rising_leaf;
+  are = part_shown all (until r (end_or reported)) leaf (until_shown all r leaf (end_or reported) within shows) key from (record { low = point.low; high = point.high }) point.start rising rising_leaf;
 }

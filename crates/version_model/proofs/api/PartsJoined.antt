@@ -66,12 +66,12 @@ module _ (key from to end : ℕ) (low : from ≤ to) (high : to ≤ end) where
   ]
 
 -- a part goes on in the next one
-pub part_on : (all versions more : List Version) (key from to : ℕ) (told : Option ℕ) → IsRising all → IsPart all key from versions (Some to) → IsPart all key to more told → IsPart all key from (versions ++ more) told
-part_on all versions more key from to told rising first next =
-    let one : versions ++ more ≡ filter (is_of key from to) all ++ filter (is_of key to (end_or told)) all = λ i. first.are i ++ next.are i in
+pub part_on : (all versions more : List Version) (key from to : ℕ) (reported : Option ℕ) → IsRising all → IsPart all key from versions (Some to) → IsPart all key to more reported → IsPart all key from (versions ++ more) reported
+part_on all versions more key from to reported rising first next =
+    let one : versions ++ more ≡ filter (is_of key from to) all ++ filter (is_of key to (end_or reported)) all = λ i. first.are i ++ next.are i in
     let low : from ≤ to = omega (arith, first.above) in
-    let high : to ≤ end_or told = omega (arith, next.above) in
-    record { above = omega (arith, first.above, next.above); are = one ∙ joined key from to (end_or told) low high all rising }
+    let high : to ≤ end_or reported = omega (arith, next.above) in
+    record { above = omega (arith, first.above, next.above); are = one ∙ joined key from to (end_or reported) low high all rising }
 
 -- a part from the first stamp on with no end has each version of the key
 pub part_whole : (all versions : List Version) (key : ℕ) → ((v : Version) → Has all v → v.stamp < stamp_end) → IsPart all key 0 versions None → versions ≡ filter (λ v. nat_eq v.key key) all

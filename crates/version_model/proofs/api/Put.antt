@@ -7,7 +7,7 @@ use Rattle.version_model.specs.declared.child.Child.{Child}
 use Rattle.version_model.specs.Versions.{Version, IsAbove, Adds}
 use Rattle.version_model.specs.Ranges.{IsKeyOf}
 use Rattle.version_model.specs.Pages.{Keys, PageNode, KeyNode, Store, StandsIn, IsChildOf, child_keys, low_or, current_range}
-use Rattle.version_model.specs.Inserts.{LiesUnder, KeepsOthers, Splits, Writes}
+use Rattle.version_model.specs.Inserts.{LocatedUnder, KeepsOthers, Splits, Writes}
 use Rattle.version_model.specs.inner.Children.{Inserts}
 use Rattle.version_model.proofs.api.Children.{key_stands, KeyStands, others_stand, Inserts-child}
 use Rattle.version_model.proofs.api.ChildrenTwo.{other_or_two, AreChildren-insert, key_node_written}
@@ -41,13 +41,13 @@ module _ (s t u : Store) (v : Version) (level page : ℕ) (wide : Keys) (childre
     put_others : KeepsOthers s.nodes u.nodes s.limit (suc level) keys
     put_others p node in_limit at_node never =
         let h = k.are.inside (child_keys keys children i child) child place in
-        let not_page : p ≡ page → ⊥ = λ e. never (subst (LiesUnder (suc level) keys) (same_Some (KeyNode (suc level) keys children) node (sym k.at ∙ ap s.nodes (sym e) ∙ at_node)) (record { no_higher = omega arith; low = omega arith; nonempty = omega (arith, h.0, h.1, h.2); high = omega arith })) in
+        let not_page : p ≡ page → ⊥ = λ e. never (subst (LocatedUnder (suc level) keys) (same_Some (KeyNode (suc level) keys children) node (sym k.at ∙ ap s.nodes (sym e) ∙ at_node)) (record { no_higher = omega arith; low = omega arith; nonempty = omega (arith, h.0, h.1, h.2); high = omega arith })) in
         writes.others p not_page ∙ keeps p node in_limit at_node (λ under. never (record { no_higher = omega (arith, under.no_higher); low = omega (arith, under.low, h.0); nonempty = under.nonempty; high = omega (arith, under.high, h.2) }))
 
-    same_under : (p : ℕ) (node : PageNode) → p < t.limit → t.nodes p ≡ Some node → LiesUnder level keys node → u.nodes p ≡ Some node
+    same_under : (p : ℕ) (node : PageNode) → p < t.limit → t.nodes p ≡ Some node → LocatedUnder level keys node → u.nodes p ≡ Some node
     same_under p node in_limit at_node under = elim (cases_eq p page) [
       | inl e ↦ absurd (let n : KeyNode (suc level) keys children ≡ node = same_Some (KeyNode (suc level) keys children) node (sym page_between ∙ ap t.nodes (sym e) ∙ at_node) in
-          let l : LiesUnder level keys (KeyNode (suc level) keys children) = subst (LiesUnder level keys) (sym n) under in omega (arith, l.no_higher))
+          let l : LocatedUnder level keys (KeyNode (suc level) keys children) = subst (LocatedUnder level keys) (sym n) under in omega (arith, l.no_higher))
       | inr ne ↦ writes.others p ne ∙ at_node
     ]
 

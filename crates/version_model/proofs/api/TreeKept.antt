@@ -6,7 +6,7 @@ use Rattle.version_model.specs.Versions.{Version, IsAbove, Adds}
 use Rattle.version_model.specs.Ranges.{IsKeyOf}
 use Rattle.version_model.specs.Blocks.{BlockNode, Grows}
 use Rattle.version_model.specs.Pages.{Keys, PageNode, PastStands, ColumnStands, Stands, column, key_node, current_range}
-use Rattle.version_model.specs.Inserts.{LiesUnder}
+use Rattle.version_model.specs.Inserts.{LocatedUnder}
 use Rattle.version_model.proofs.api.Shown.{Shows-outside}
 use Rattle.version_model.proofs.api.PastKept.{PartStands-grows, PartStands-later}
 
@@ -37,7 +37,7 @@ module _ (nodes nodes' : ℕ → Option PageNode) (limit limit' : ℕ) (old old'
 
   -- the nodes of a level and of some keys are as they were
   abbrev pub Same : ℕ → Keys → Type 0
-  Same level keys = (page : ℕ) (node : PageNode) → page < limit → nodes page ≡ Some node → LiesUnder level keys node → nodes' page ≡ Some node
+  Same level keys = (page : ℕ) (node : PageNode) → page < limit → nodes page ≡ Some node → LocatedUnder level keys node → nodes' page ≡ Some node
 
   column_kept : (keys : Keys) (page : ℕ) → keys.low < keys.high → (IsKeyOf (current_range keys 0) v.key → ⊥) → Same 1 keys → ColumnStands nodes limit old next all keys page → ColumnStands nodes' limit' old' next' new keys page
   column_kept keys page nonempty away same c = record {
@@ -61,5 +61,5 @@ module _ (nodes nodes' : ℕ → Option PageNode) (limit limit' : ℕ) (old old'
       (λ inner child is. (let h = are.inside inner child is in
       stands_kept level inner child.page h.1
       (λ k. away (record { low = omega (arith, k.low, h.0); high = omega (arith, k.high, h.2) }))
-      (λ p node in_limit' at' lies. same p node in_limit' at' (record { no_higher = omega (arith, lies.no_higher); low = omega (arith, lies.low, h.0); nonempty = lies.nonempty; high = omega (arith, lies.high, h.2) }))
+      (λ p node in_limit' at' located. same p node in_limit' at' (record { no_higher = omega (arith, located.no_higher); low = omega (arith, located.low, h.0); nonempty = located.nonempty; high = omega (arith, located.high, h.2) }))
       (stand inner child is)))

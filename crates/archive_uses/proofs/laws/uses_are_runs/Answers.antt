@@ -3,7 +3,7 @@ use Rattle.page_journal.specs.Identity.{Names}
 use Rattle.archive_uses.specs.Uses.Stage.{on}
 use Rattle.archive_uses.specs.Promises.{IsPromised}
 use Rattle.archive_uses.specs.Runs.{AreRun}
-use Rattle.archive_uses.proofs.Promising.{Any, any_on, carried_on, ends_weaker, reached, uses_run}
+use Rattle.archive_uses.proofs.Promising.{Any, any_on, represented_on, ends_weaker, reached, uses_run}
 use Rattle.archive_uses.proofs.Promised.{run_promised}
 use Rattle.archive_uses.proofs.Lasting.{stay}
 use Rattle.archive_uses.proofs.laws.uses_are_runs.Goals as goal
@@ -17,7 +17,7 @@ returns-clause-promised g c made us last life =
 
 pub returns-clause-begins : goal.returns-clause-begins
 returns-clause-begins g c made before us between hand last life up later others =
-    carried_on g.E.EraseDisk g.O.OnceDisk g.met.E.EraseDisk.sound made before us between hand last up later others
+    represented_on g.E.EraseDisk g.O.OnceDisk g.met.E.EraseDisk.sound made before us between hand last up later others
     (reached g.E.EraseDisk g.O.OnceDisk g.met.E.EraseDisk.sound made before (record { stage = on between; hand = hand }) life)
 
 pub returns-clause-settled : goal.returns-clause-settled

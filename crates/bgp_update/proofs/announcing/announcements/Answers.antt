@@ -4,7 +4,7 @@ use Rattle.bgp_update.specs.declared.reading.PathAttributes.{PathAttributes}
 use Rattle.route_model.specs.declared.route.NextHop.{NextHop}
 use Rattle.bgp_update.specs.Readings.{AreAttributes}
 use Rattle.bgp_update.specs.Routes.{route_of, four_hop}
-use Rattle.bgp_update.specs.Messages.{Announced, IsAnnounced, option_told}
+use Rattle.bgp_update.specs.Messages.{Announced, IsAnnounced, option_reported}
 use Rattle.bgp_update.proofs.Optional.{none_of_part, read_before}
 use Rattle.bgp_update.proofs.api.OneReading.{attributes_one}
 use Rattle.bgp_update.proofs.announcing.announcements.Goals as goal
@@ -35,4 +35,4 @@ returns c =
     let of = c.args.of in
     let again = c.in_ok-again.again in
     let same = attributes_one c.args.width c.args.field.now again of.attributes c.in_ok-again.ensures.attributes c.requires in
-    (subst (λ (h : Option NextHop). IsAnnounced of.announced.items (route_of of.attributes h) (option_told c.in_ok-announced-2.announced)) c.four_hop_of-four.ensures c.in_ok-announced-2.ensures, subst (λ (a : PathAttributes). IsAnnounced of.reached.items (route_of a of.next_hop) (option_told c.in_ok-reachable-2.reachable)) same c.in_ok-reachable-2.ensures)
+    (subst (λ (h : Option NextHop). IsAnnounced of.announced.items (route_of of.attributes h) (option_reported c.in_ok-announced-2.announced)) c.four_hop_of-four.ensures c.in_ok-announced-2.ensures, subst (λ (a : PathAttributes). IsAnnounced of.reached.items (route_of a of.next_hop) (option_reported c.in_ok-reachable-2.reachable)) same c.in_ok-reachable-2.ensures)

@@ -19,7 +19,7 @@ returns-then-whole-len c =
     ] in
     let nothing = leads_nowhere (drop whole c.deref.result.now) left placed.cut none in
     c.truncate.ensures.items ∙ ap (λ (t : List Segment). take whole t) (sym same) ∙ sym (append-nil (take whole c.deref.result.now))
-    ∙ ap (λ (t : List Segment). take whole c.deref.result.now ++ t) (sym nothing) ∙ sym placed.leading ∙ ap (λ (t : List Segment). leading t c.args.wanted) same
+    ∙ ap (λ (t : List Segment). take whole c.deref.result.now ++ t) (sym nothing) ∙ sym placed.leading ∙ ap (λ (t : List Segment). leading t c.args.needed) same
 
 pub returns : goal.returns
 returns c =
@@ -37,4 +37,4 @@ returns c =
     let last : leading (drop whole path) left ≡ first_numbers left s ∷ [] = ap (λ (t : List Segment). leading t left) rest ∙ leading_cut s (drop (whole + 1) path) left some under in
     c.in_ok-push.ensures.items ∙ ap (λ (t : List Segment). t ++ c.in_ok-last.last ∷ []) c.truncate-2.ensures.items
     ∙ ap (λ (x : Segment). take whole path ++ x ∷ []) c.in_ok-last.ensures ∙ ap (λ (t : List Segment). take whole path ++ t) (sym last)
-    ∙ ap (λ (t : List Segment). take whole t ++ leading (drop whole t) left) (sym same) ∙ sym placed.leading ∙ ap (λ (t : List Segment). leading t c.args.wanted) same
+    ∙ ap (λ (t : List Segment). take whole t ++ leading (drop whole t) left) (sym same) ∙ sym placed.leading ∙ ap (λ (t : List Segment). leading t c.args.needed) same

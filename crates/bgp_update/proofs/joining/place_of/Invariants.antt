@@ -3,4 +3,4 @@ use Rattle.bgp_update.specs.Joining.{leading}
 use Rattle.bgp_update.proofs.joining.place_of.Given as goal
 
 abbrev pub invariant-loop-i : goal.invariant-loop-i
-invariant-loop-i l = leading l.path l.wanted ≡ take l.i l.path ++ leading (drop l.i l.path) l.left
+invariant-loop-i l = leading l.path l.needed ≡ take l.i l.path ++ leading (drop l.i l.path) l.left

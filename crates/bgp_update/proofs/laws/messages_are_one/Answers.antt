@@ -1,4 +1,4 @@
-use Rattle.bgp_update.proofs.api.Told.{message_one}
+use Rattle.bgp_update.proofs.api.Reported.{message_one}
 use Rattle.bgp_update.proofs.laws.messages_are_one.Goals as goal
 
 pub returns : goal.returns

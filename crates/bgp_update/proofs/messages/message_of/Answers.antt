@@ -2,7 +2,7 @@ use Rattle.std.proofs.Common.{ℕ, List, subst}
 use Rattle.std.proofs.lemmas.Result.{err_from_is_err_and}
 use Rattle.route_model.specs.Reading.{NoReading}
 use Rattle.bgp_update.specs.Messages.{IsUpdate}
-use Rattle.bgp_update.proofs.api.Told.{no_header, no_update}
+use Rattle.bgp_update.proofs.api.Reported.{no_header, no_update}
 use Rattle.bgp_update.proofs.messages.message_of.Goals as goal
 
 pub returns-in_default-clause-message : goal.returns-in_default-clause-message

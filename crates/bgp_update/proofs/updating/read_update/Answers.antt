@@ -1,4 +1,4 @@
-use Rattle.bgp_update.specs.Messages.{changes_told}
+use Rattle.bgp_update.specs.Messages.{changes_reported}
 use Rattle.bgp_update.proofs.Updates.{second_of, update_exactly}
 use Rattle.bgp_update.proofs.updating.read_update.Goals as goal
 
@@ -12,4 +12,4 @@ returns-in_default-counted_at c = λ u up.
 
 pub returns : goal.returns
 returns c =
-    update_exactly changes_told c.args.width c.args.bytes.now _ _ _ _ c.read_parts.result c.in-Some.ensures.found c.in-Some-counted_at.ensures.found c.read_parts.ensures
+    update_exactly changes_reported c.args.width c.args.bytes.now _ _ _ _ c.read_parts.result c.in-Some.ensures.found c.in-Some-counted_at.ensures.found c.read_parts.ensures

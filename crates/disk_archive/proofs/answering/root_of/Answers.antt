@@ -6,7 +6,7 @@ use Rattle.version_model.specs.Pages.{TreeStands}
 use Rattle.tsb_tree.specs.Refusals.{ReadRefusal}
 use Rattle.disk_archive.specs.declared.ask_error.AskError.TheVariants as asks
 use Rattle.disk_archive.proofs.Asking.{at_root, root_blames}
-use Rattle.disk_archive.proofs.Faults.{keeps_told}
+use Rattle.disk_archive.proofs.Faults.{keeps_reported}
 use Rattle.disk_archive.proofs.answering.root_of.Goals as goal
 
 pub of_root-requires : goal.of_root-requires
@@ -15,8 +15,8 @@ of_root-requires g c = record { read = (g.P.Pages.down c.args.pages.now, c.in-Er
 pub returns-in-Ok-clause-stands : goal.returns-in-Ok-clause-stands
 returns-in-Ok-clause-stands g c start shown s all level shows are t =
     let root = ap (λ (x : Contents). x.root) c.head.view_is in
-    let told = c.in-Ok.ensures.opened start shown shows s all level are (subst (λ (r : ℕ). TreeStands s all r level) (sym root) t) in
-    at_root shown s all c.args.head.now.root level c.root.result (c.root.ensures.page ∙ c.in-Ok.ensures.root ∙ root) (c.root.ensures.level ∙ told) c.root.ensures.keys are t
+    let reported = c.in-Ok.ensures.opened start shown shows s all level are (subst (λ (r : ℕ). TreeStands s all r level) (sym root) t) in
+    at_root shown s all c.args.head.now.root level c.root.result (c.root.ensures.page ∙ c.in-Ok.ensures.root ∙ root) (c.root.ensures.level ∙ reported) c.root.ensures.keys are t
 
 pub returns-in-Err-clause-blames : goal.returns-in-Err-clause-blames
 returns-in-Err-clause-blames g c start shown s all level shows are t =
@@ -29,15 +29,15 @@ returns-in-Err-clause-refused g c = c.of_root.ensures.refused _ c.in-Err.ensures
 
 pub returns-in-Err-clause-undamaged : goal.returns-in-Err-clause-undamaged
 returns-in-Err-clause-undamaged g c block is =
-    let told : c.of_root.result ≡ asks.Damaged block = cc in
-    subst (ReadRefusal (g.P.Pages.down c.args.pages.now)) (c.of_root.ensures.damaged block told) c.in-Err.ensures.refused
+    let reported : c.of_root.result ≡ asks.Damaged block = cc in
+    subst (ReadRefusal (g.P.Pages.down c.args.pages.now)) (c.of_root.ensures.damaged block reported) c.in-Err.ensures.refused
 
 pub returns-in-Ok-clause-device : goal.returns-in-Ok-clause-device
-returns-in-Ok-clause-device g c = keeps_told _ _ _ _ _ _ (λ told. absurd (cc)) (λ failed. absurd (cc)) c.open.ensures.reads.device
+returns-in-Ok-clause-device g c = keeps_reported _ _ _ _ _ _ (λ reported. absurd (cc)) (λ failed. absurd (cc)) c.open.ensures.reads.device
 
 pub returns-in-Err-clause-device : goal.returns-in-Err-clause-device
 returns-in-Err-clause-device g c =
-    keeps_told _ _ _ _ _ _
-    (λ told. (let is : c.of_root.result ≡ asks.Fault = cc in c.in-Err.is ∙ ap Err (c.of_root.ensures.fault.0 is)))
+    keeps_reported _ _ _ _ _ _
+    (λ reported. (let is : c.of_root.result ≡ asks.Fault = cc in c.in-Err.is ∙ ap Err (c.of_root.ensures.fault.0 is)))
     (λ failed. (let is : c.in-Err.refusal ≡ trees.Pages pages.Fault = cc in ap Err (c.of_root.ensures.fault.1 is)))
     c.open.ensures.reads.device

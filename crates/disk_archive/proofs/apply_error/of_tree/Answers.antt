@@ -9,11 +9,11 @@ pub returns-in-Pages-clause-limits : goal.returns-in-Pages-clause-limits
 returns-in-Pages-clause-limits c homes next count f = c.of_pages.ensures.limits homes next count (λ e. f (c.in-Pages.is ∙ ap (λ x. trees.Pages x) e))
 
 pub returns-in-Pages-clause-full : goal.returns-in-Pages-clause-full
-returns-in-Pages-clause-full c told = c.in-Pages.is ∙ ap (λ x. trees.Pages x) (c.of_pages.ensures.full told)
+returns-in-Pages-clause-full c reported = c.in-Pages.is ∙ ap (λ x. trees.Pages x) (c.of_pages.ensures.full reported)
 
 pub returns-in-Pages-clause-fault : goal.returns-in-Pages-clause-fault
 returns-in-Pages-clause-fault c = (
-  λ told. inl (c.in-Pages.is ∙ ap (λ x. trees.Pages x) (c.of_pages.ensures.fault.0 told)),
+  λ reported. inl (c.in-Pages.is ∙ ap (λ x. trees.Pages x) (c.of_pages.ensures.fault.0 reported)),
   λ failed. elim failed [
     | inl page ↦ c.of_pages.ensures.fault.1 (cc (page, c.in-Pages.is))
     | inr once ↦ absurd (cc (once, c.in-Pages.is))

@@ -3,7 +3,7 @@ use Rattle.disk_models.specs.Once.{settled_in}
 use Rattle.page_journal.specs.Layout.{Image, pages_of}
 use Rattle.page_journal.specs.Recovers.{laid, AreBelow}
 use Rattle.interleaving_core.specs.Steps.{empty}
-use Rattle.tsb_tree.specs.Trees.{TellsFirst}
+use Rattle.tsb_tree.specs.Trees.{ReportsFirst}
 use Rattle.archive_pages.specs.Places.{tree_low}
 use Rattle.disk_archive.specs.inner.Planning.{Headed}
 use Rattle.disk_archive.proofs.Empties.{below_push, headed_first}
@@ -22,7 +22,7 @@ returns-clause-headed c count o shown inside =
     let head = c.args.head.now in
     let low = c.tree_low.ensures in
     let images = c.in_ok-images.images.items in
-    let tells : (pages : List (List ℕ)) → tree_low s + 2 ≤ length pages → TellsFirst (laid images pages) (tree_low s) = λ pages within. subst (λ (n : ℕ). TellsFirst (laid images pages) n) low (c.in_ok-images.ensures.tree pages (omega (arith, within, low))) in
-    let whole = headed_first count s (settled_in o) head c.requires.empty.0 images shown c.requires.settings c.requires.valid c.requires.empty.1 inside tells in
+    let reports : (pages : List (List ℕ)) → tree_low s + 2 ≤ length pages → ReportsFirst (laid images pages) (tree_low s) = λ pages within. subst (λ (n : ℕ). ReportsFirst (laid images pages) n) low (c.in_ok-images.ensures.tree pages (omega (arith, within, low))) in
+    let whole = headed_first count s (settled_in o) head c.requires.empty.0 images shown c.requires.settings c.requires.valid c.requires.empty.1 inside reports in
     subst (λ (l : List Image). Headed count s (settled_in o) head (laid l shown) (empty s.collectors)) (sym c.in_ok-push.ensures.items)
     (subst (λ (page : List ℕ). Headed count s (settled_in o) head (laid (images ++ (0, page) ∷ []) shown) (empty s.collectors)) (sym c.in_ok-page.ensures.page) whole)

@@ -10,8 +10,8 @@ use Rattle.tsb_check.specs.InUse.{AreInUse, IsUnusedUnder, IsWithin}
 use Rattle.disk_archive.specs.Checks.{IsBadPage, IsRootPlace, no_root, bad_under, unused_under, other_number}
 use Rattle.disk_archive.specs.inner.Checking.{check_of_node}
 use Rattle.disk_archive.proofs.Asking.{at_root}
-use Rattle.disk_archive.proofs.Counts.{as_many, finds_none, known_of, passed, passed_node, told_is, within_of}
-use Rattle.disk_archive.proofs.Faults.{done_not_told, keeps_told, one_told}
+use Rattle.disk_archive.proofs.Counts.{as_many, finds_none, known_of, passed, passed_node, reported_is, within_of}
+use Rattle.disk_archive.proofs.Faults.{done_not_reported, keeps_reported, one_reported}
 use Rattle.disk_archive.proofs.Failing.{reports_first}
 use Rattle.disk_archive.proofs.ReadFaults.{check_either, read_done, read_refused, read_then}
 use Rattle.disk_archive.proofs.checking.count_tree.Goals as goal
@@ -19,26 +19,26 @@ use Rattle.disk_archive.proofs.checking.count_tree.Goals as goal
 pub returns-in_err-root-clause-finds : goal.returns-in_err-root-clause-finds
 returns-in_err-root-clause-finds g c ps t number few =
     let root = ap (λ (x : Contents). x.root) c.head.view_is in
-    let stands = subst (λ (r : ℕ). TreeStands t.lies.store t.versions r t.lies.level) (sym root) t.lies.has.stands in
-    let f = c.root_of.ensures.finds t.start t.shown t.lies.store t.versions t.lies.level t.shows t.lies.says stands in
+    let stands = subst (λ (r : ℕ). TreeStands t.located.store t.versions r t.located.level) (sym root) t.located.has.stands in
+    let f = c.root_of.ensures.finds t.start t.shown t.located.store t.versions t.located.level t.shows t.located.says stands in
     search (rules, f)
 
 pub returns-in_err-count-clause-finds : goal.returns-in_err-count-clause-finds
 returns-in_err-count-clause-finds g c ps t number few =
     let root = c.in_ok-root.root in
     let top = ap (λ (x : Contents). x.root) c.head.view_is in
-    let tree = c.in_ok-root.ensures.stands t.start t.shown t.lies.store t.versions t.lies.level t.shows t.lies.says (subst (λ (r : ℕ). TreeStands t.lies.store t.versions r t.lies.level) (sym top) t.lies.has.stands) in
+    let tree = c.in_ok-root.ensures.stands t.start t.shown t.located.store t.versions t.located.level t.shows t.located.says (subst (λ (r : ℕ). TreeStands t.located.store t.versions r t.located.level) (sym top) t.located.has.stands) in
     let shows = c.root_of.ensures.reads t.start t.shown t.shows in
-    let stands = at_root t.shown t.lies.store t.versions root.page root.level root refl refl c.in_ok-root.ensures.place.keys t.lies.says tree in
+    let stands = at_root t.shown t.located.store t.versions root.page root.level root refl refl c.in_ok-root.ensures.place.keys t.located.says tree in
     let known = known_of g.P.Pages c.args.pages.now g.O.OnceDisk c.args.reader.now c.args.seen.now c.args.head.now.root c.args.head.now.fresh c.args.head.now.block ps t in
-    let within = subst (IsWithin t.lies.store) (sym c.in_use_by-in_use.ensures) (within_of g.P.Pages c.args.pages.now g.O.OnceDisk c.args.reader.now c.args.seen.now c.args.head.now.root c.args.head.now.fresh c.args.head.now.block c.args.burnt c.requires.burnt ps t) in
-    let f = finds_none c.check.result (λ page e. c.check.ensures.blames t.start t.shown shows t.lies.store t.versions stands within page e) (λ block e. c.check.ensures.never t.start t.shown shows t.lies.store t.versions stands t.well known block e) in
+    let within = subst (IsWithin t.located.store) (sym c.in_use_by-in_use.ensures) (within_of g.P.Pages c.args.pages.now g.O.OnceDisk c.args.reader.now c.args.seen.now c.args.head.now.root c.args.head.now.fresh c.args.head.now.block c.args.burnt c.requires.burnt ps t) in
+    let f = finds_none c.check.result (λ page e. c.check.ensures.blames t.start t.shown shows t.located.store t.versions stands within page e) (λ block e. c.check.ensures.never t.start t.shown shows t.located.store t.versions stands t.well known block e) in
     search (rules, f)
 
 pub returns-in_err-root-clause-bad : goal.returns-in_err-root-clause-bad
 returns-in_err-root-clause-bad g c start shown shows well page is =
-    let told : IfErr c.from_residual.result (λ e. e ≡ c.in_err-root.field-0.0) = search rules in
-    let was = passed c.from_residual.result c.root_of.result c.in_err-root.field-0.0 page told c.in_err-root.was is in
+    let reported : IfErr c.from_residual.result (λ e. e ≡ c.in_err-root.field-0.0) = search rules in
+    let was = passed c.from_residual.result c.root_of.result c.in_err-root.field-0.0 page reported c.in_err-root.was is in
     let top = ap (λ (x : Contents). x.root) c.head.view_is in
     let bad = c.root_of.ensures.bad start shown shows page was in
     let known = g.O.OnceDisk.known c.args.seen.now in
@@ -49,8 +49,8 @@ returns-in_err-root-clause-bad g c start shown shows well page is =
 
 pub returns-in_err-count-clause-bad : goal.returns-in_err-count-clause-bad
 returns-in_err-count-clause-bad g c start shown shows well page is =
-    let told : IfErr c.from_residual-in_err-count.result (λ e. e ≡ check_of_node c.in_err-count.field-0.0) = search rules in
-    let was = passed_node c.from_residual-in_err-count.result c.check.result c.in_err-count.field-0.0 page told c.in_err-count.was is in
+    let reported : IfErr c.from_residual-in_err-count.result (λ e. e ≡ check_of_node c.in_err-count.field-0.0) = search rules in
+    let was = passed_node c.from_residual-in_err-count.result c.check.result c.in_err-count.field-0.0 page reported c.in_err-count.was is in
     let top = ap (λ (x : Contents). x.root) c.head.view_is in
     let place = subst (λ (r : ℕ). IsRootPlace r c.in_ok-root.root) top c.in_ok-root.ensures.place in
     elim (c.check.ensures.bad start shown (c.root_of.ensures.reads start shown shows) page was) [
@@ -61,12 +61,12 @@ returns-in_err-count-clause-bad g c start shown shows well page is =
 pub returns-then-count-head-clause-finds : goal.returns-then-count-head-clause-finds
 returns-then-count-head-clause-finds g c ps t number few =
     let top = ap (λ (x : Contents). x.root) c.head.view_is in
-    let tree = c.in_ok-root.ensures.stands t.start t.shown t.lies.store t.versions t.lies.level t.shows t.lies.says (subst (λ (r : ℕ). TreeStands t.lies.store t.versions r t.lies.level) (sym top) t.lies.has.stands) in
+    let tree = c.in_ok-root.ensures.stands t.start t.shown t.located.store t.versions t.located.level t.shows t.located.says (subst (λ (r : ℕ). TreeStands t.located.store t.versions r t.located.level) (sym top) t.located.has.stands) in
     let shows = c.root_of.ensures.reads t.start t.shown t.shows in
     let known = known_of g.P.Pages c.args.pages.now g.O.OnceDisk c.args.reader.now c.args.seen.now c.args.head.now.root c.args.head.now.fresh c.args.head.now.block ps t in
-    let counted = c.in_ok-count.ensures.counted t.start t.shown shows t.lies.store t.versions t.lies.says c.in_ok-root.ensures.place.keys tree t.well known in
+    let counted = c.in_ok-count.ensures.counted t.start t.shown shows t.located.store t.versions t.located.says c.in_ok-root.ensures.place.keys tree t.well known in
     let many = as_many 0 (timed ps) t.versions t.kept in
-    let is = told_is c.in_ok-count.count (length t.versions) (length (timed ps)) counted many (subst (λ n. n < 2 ^ 64) number few) in
+    let is = reported_is c.in_ok-count.count (length t.versions) (length (timed ps)) counted many (subst (λ n. n < 2 ^ 64) number few) in
     let applied = ap (λ (x : Contents). x.applied) c.head.view_is in
     c.if-count-head.true (is ∙ sym (applied ∙ number))
 
@@ -102,15 +102,15 @@ returns-in_err-root-clause-failed g c =
     let e = c.in_err-root.field-0.0 in
     let r : c.root_of.result ≡ Err e = search rules in
     let d : c.from_residual.result ≡ Err e = search rules in
-    reports_first _ _ _ _ _ _ (keeps_told _ _ _ _ _ _
-    (λ told. r ∙ ap Err (one_told c.from_residual.result e checks.Fault d told))
-    (λ failed. d ∙ ap Err (one_told c.root_of.result e checks.Fault r failed))
+    reports_first _ _ _ _ _ _ (keeps_reported _ _ _ _ _ _
+    (λ reported. r ∙ ap Err (one_reported c.from_residual.result e checks.Fault d reported))
+    (λ failed. d ∙ ap Err (one_reported c.root_of.result e checks.Fault r failed))
     c.root_of.ensures.device)
 
 pub returns-in_err-count-clause-failed : goal.returns-in_err-count-clause-failed
 returns-in_err-count-clause-failed g c =
     let root : c.root_of.result ≡ Ok c.in_ok-root.root = search rules in
-    let first = c.root_of.ensures.device.quiet (done_not_told c.root_of.result c.in_ok-root.root checks.Fault root) in
+    let first = c.root_of.ensures.device.quiet (done_not_reported c.root_of.result c.in_ok-root.root checks.Fault root) in
     let e = c.in_err-count.field-0.0 in
     let r : c.check.result ≡ Err e = search rules in
     let d : c.from_residual-in_err-count.result ≡ Err (check_of_node e) = search rules in
@@ -119,13 +119,13 @@ returns-in_err-count-clause-failed g c =
 pub returns-then-count-head-clause-failed : goal.returns-then-count-head-clause-failed
 returns-then-count-head-clause-failed g c =
     let root : c.root_of.result ≡ Ok c.in_ok-root.root = search rules in
-    let first = c.root_of.ensures.device.quiet (done_not_told c.root_of.result c.in_ok-root.root checks.Fault root) in
+    let first = c.root_of.ensures.device.quiet (done_not_reported c.root_of.result c.in_ok-root.root checks.Fault root) in
     let r : c.check.result ≡ Ok c.in_ok-count.count = search rules in
-    read_then _ _ _ _ _ _ first (read_done c.check.result c.in_ok-count.count _ _ _ _ _ _ _ r (λ told. cc) c.check.ensures.pages.device c.check.ensures.quiet c.check.ensures.once)
+    read_then _ _ _ _ _ _ first (read_done c.check.result c.in_ok-count.count _ _ _ _ _ _ _ r (λ reported. cc) c.check.ensures.pages.device c.check.ensures.quiet c.check.ensures.once)
 
 pub returns-clause-failed : goal.returns-clause-failed
 returns-clause-failed g c =
     let root : c.root_of.result ≡ Ok c.in_ok-root.root = search rules in
-    let first = c.root_of.ensures.device.quiet (done_not_told c.root_of.result c.in_ok-root.root checks.Fault root) in
+    let first = c.root_of.ensures.device.quiet (done_not_reported c.root_of.result c.in_ok-root.root checks.Fault root) in
     let r : c.check.result ≡ Ok c.in_ok-count.count = search rules in
-    read_then _ _ _ _ _ _ first (read_done c.check.result c.in_ok-count.count _ _ _ _ _ _ _ r (done_not_told _ _ checks.Fault refl) c.check.ensures.pages.device c.check.ensures.quiet c.check.ensures.once)
+    read_then _ _ _ _ _ _ first (read_done c.check.result c.in_ok-count.count _ _ _ _ _ _ _ r (done_not_reported _ _ checks.Fault refl) c.check.ensures.pages.device c.check.ensures.quiet c.check.ensures.once)

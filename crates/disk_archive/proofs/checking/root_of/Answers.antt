@@ -5,7 +5,7 @@ use Rattle.tsb_tree.specs.declared.error.TreeError.TheVariants as trees
 use Rattle.version_model.specs.Pages.{TreeStands}
 use Rattle.disk_archive.specs.declared.check_error.CheckError.TheVariants as checks
 use Rattle.disk_archive.proofs.Counts.{root_finds}
-use Rattle.disk_archive.proofs.Faults.{keeps_told}
+use Rattle.disk_archive.proofs.Faults.{keeps_reported}
 use Rattle.disk_archive.proofs.checking.root_of.Goals as goal
 
 pub of_root-requires : goal.of_root-requires
@@ -16,9 +16,9 @@ returns-in-Ok-clause-place g c = record { page = c.root.ensures.page ∙ c.in-Ok
 
 pub returns-in-Ok-clause-stands : goal.returns-in-Ok-clause-stands
 returns-in-Ok-clause-stands g c start shown s all level shows are t =
-    let told = c.in-Ok.ensures.opened start shown shows s all level are t in
+    let reported = c.in-Ok.ensures.opened start shown shows s all level are t in
     subst (λ (r : ℕ). TreeStands s all r c.root.result.level) (sym (c.root.ensures.page ∙ c.in-Ok.ensures.root))
-    (subst (λ (l : ℕ). TreeStands s all c.args.root l) (sym (c.root.ensures.level ∙ told)) t)
+    (subst (λ (l : ℕ). TreeStands s all c.args.root l) (sym (c.root.ensures.level ∙ reported)) t)
 
 pub returns-in-Err-clause-finds : goal.returns-in-Err-clause-finds
 returns-in-Err-clause-finds g c start shown s all level shows are t =
@@ -34,11 +34,11 @@ returns-in-Err-clause-bad g c start shown shows page is =
     c.in-Err.ensures.bad start shown shows page (ap (λ (e : TreeError). Err e) (c.of_root.ensures.bad page same))
 
 pub returns-in-Ok-clause-device : goal.returns-in-Ok-clause-device
-returns-in-Ok-clause-device g c = keeps_told _ _ _ _ _ _ (λ told. absurd (cc)) (λ failed. absurd (cc)) c.open.ensures.reads.device
+returns-in-Ok-clause-device g c = keeps_reported _ _ _ _ _ _ (λ reported. absurd (cc)) (λ failed. absurd (cc)) c.open.ensures.reads.device
 
 pub returns-in-Err-clause-device : goal.returns-in-Err-clause-device
 returns-in-Err-clause-device g c =
-    keeps_told _ _ _ _ _ _
-    (λ told. (let is : c.of_root.result ≡ checks.Fault = cc in c.in-Err.is ∙ ap Err (c.of_root.ensures.fault.0 is)))
+    keeps_reported _ _ _ _ _ _
+    (λ reported. (let is : c.of_root.result ≡ checks.Fault = cc in c.in-Err.is ∙ ap Err (c.of_root.ensures.fault.0 is)))
     (λ failed. (let is : c.in-Err.refusal ≡ trees.Pages pages.Fault = cc in ap Err (c.of_root.ensures.fault.1 is)))
     c.open.ensures.reads.device

@@ -1,5 +1,5 @@
-use Rattle.disk_archive.proofs.Turning.{lies_on}
+use Rattle.disk_archive.proofs.Turning.{located_on}
 use Rattle.disk_archive.proofs.laws.errands_stay.Goals as goal
 
 pub returns : goal.returns
-returns c = lies_on
+returns c = located_on

@@ -6,7 +6,7 @@ use Rattle.archive_pages.specs.Changes.{with_lane}
 use Rattle.archive_pages.specs.Refusals.{HeadRefusal}
 use Rattle.disk_archive.proofs.Limiting.{can_take}
 use Rattle.disk_archive.proofs.Plans.{lane_at, set_there, given_shown, plan_done}
-use Rattle.disk_archive.proofs.Faults.{keeps_none, keeps_then, keeps_told}
+use Rattle.disk_archive.proofs.Faults.{keeps_none, keeps_then, keeps_reported}
 use Rattle.disk_archive.proofs.planning.plan_batch.Goals as goal
 
 pub of_intake-requires-clause-free : goal.of_intake-requires-clause-free
@@ -83,7 +83,7 @@ returns-clause-planned g c count o start shown h i offered shows b here valid is
     (λ pages shown. c.in_default-put_head.ensures.written start pages shown)
 
 pub returns-then-not-can_give-clause-undamaged : goal.returns-then-not-can_give-clause-undamaged
-returns-then-not-can_give-clause-undamaged g c count o start shown h i offered lane shows b here is at fits page told =
+returns-then-not-can_give-clause-undamaged g c count o start shown h i offered lane shows b here is at fits page reported =
     let copy = c.in_ok-next.ensures.copy in
     let there = subst (λ (x : Contents). HasLane x c.args.collector lane) (sym copy) at in
     let n = g.met.P.Pages.count c.args.pages.now start shown shows in
@@ -92,10 +92,10 @@ returns-then-not-can_give-clause-undamaged g c count o start shown h i offered l
     absurd (cc (c.can_give.ensures.only lane there (subst (λ (k : ℕ). CanTake k c.args.settings c.args.collector lane c.args.batch.now) (sym homes) takes), c.if-not-can_give.true))
 
 pub returns-in-Err-clause-undamaged : goal.returns-in-Err-clause-undamaged
-returns-in-Err-clause-undamaged g c count o start shown h i offered lane shows b here is at fits page told = c.of_intake.ensures.undamaged page (cc told)
+returns-in-Err-clause-undamaged g c count o start shown h i offered lane shows b here is at fits page reported = c.of_intake.ensures.undamaged page (cc reported)
 
 pub returns-in-Err-put_head-clause-undamaged : goal.returns-in-Err-put_head-clause-undamaged
-returns-in-Err-put_head-clause-undamaged g c count o start shown h i offered lane shows b here is at fits page told = c.of_page.ensures.undamaged page (cc told)
+returns-in-Err-put_head-clause-undamaged g c count o start shown h i offered lane shows b here is at fits page reported = c.of_page.ensures.undamaged page (cc reported)
 
 pub returns-clause-block : goal.returns-clause-block
 returns-clause-block g c =
@@ -107,18 +107,18 @@ returns-clause-block g c =
 -- ---- how often the device failed
 
 pub returns-in_err-next-clause-device : goal.returns-in_err-next-clause-device
-returns-in_err-next-clause-device g c = keeps_none _ _ _ (λ told. search (rules, told))
+returns-in_err-next-clause-device g c = keeps_none _ _ _ (λ reported. search (rules, reported))
 
 pub returns-then-not-can_give-clause-device : goal.returns-then-not-can_give-clause-device
-returns-then-not-can_give-clause-device g c = keeps_none _ _ _ (λ told. cc)
+returns-then-not-can_give-clause-device g c = keeps_none _ _ _ (λ reported. cc)
 
 pub returns-in-Err-clause-device : goal.returns-in-Err-clause-device
-returns-in-Err-clause-device g c = keeps_told _ _ _ _ _ _ (λ told. ap (λ e. Err e) (c.of_intake.ensures.fault.0 (cc told))) (λ f. ap (λ e. Err e) (c.of_intake.ensures.fault.1 (cc f))) c.in-Err.ensures.device
+returns-in-Err-clause-device g c = keeps_reported _ _ _ _ _ _ (λ reported. ap (λ e. Err e) (c.of_intake.ensures.fault.0 (cc reported))) (λ f. ap (λ e. Err e) (c.of_intake.ensures.fault.1 (cc f))) c.in-Err.ensures.device
 
 pub returns-in-Err-put_head-clause-device : goal.returns-in-Err-put_head-clause-device
-returns-in-Err-put_head-clause-device g c = keeps_then _ _ _ _ _ _ _ (keeps_told _ _ _ _ _ ⊥ (λ f. absurd f) (λ f. cc) c.in_default.ensures.device)
-    (keeps_told _ _ _ _ ⊥ _ (λ told. subst (HeadRefusal _) (c.of_page.ensures.fault.0 (cc told)) c.in-Err-put_head.ensures.refused) (λ f. absurd f) c.put_head.ensures.device)
+returns-in-Err-put_head-clause-device g c = keeps_then _ _ _ _ _ _ _ (keeps_reported _ _ _ _ _ ⊥ (λ f. absurd f) (λ f. cc) c.in_default.ensures.device)
+    (keeps_reported _ _ _ _ ⊥ _ (λ reported. subst (HeadRefusal _) (c.of_page.ensures.fault.0 (cc reported)) c.in-Err-put_head.ensures.refused) (λ f. absurd f) c.put_head.ensures.device)
 
 pub returns-clause-device : goal.returns-clause-device
-returns-clause-device g c = keeps_then _ _ _ _ _ _ _ (keeps_told _ _ _ _ _ ⊥ (λ f. absurd f) (λ f. cc) c.in_default.ensures.device)
-    (keeps_told _ _ _ _ ⊥ _ (λ told. cc) (λ f. absurd f) c.put_head.ensures.device)
+returns-clause-device g c = keeps_then _ _ _ _ _ _ _ (keeps_reported _ _ _ _ _ ⊥ (λ f. absurd f) (λ f. cc) c.in_default.ensures.device)
+    (keeps_reported _ _ _ _ ⊥ _ (λ reported. cc) (λ f. absurd f) c.put_head.ensures.device)

@@ -7,7 +7,7 @@ use Rattle.intake.specs.Calls.{ReadRefusal}
 use Rattle.archive_pages.specs.Places.{ring_of}
 use Rattle.sequencer.proofs.api.Setting.{one_there}
 use Rattle.disk_archive.specs.declared.apply_error.ApplyError.TheVariants as applies
-use Rattle.disk_archive.proofs.Faults.{keeps_none, keeps_told}
+use Rattle.disk_archive.proofs.Faults.{keeps_none, keeps_reported}
 use Rattle.disk_archive.proofs.planning_application.front_of.Goals as goal
 
 pub returns-in-Ok-None-clause-sound : goal.returns-in-Ok-None-clause-sound
@@ -29,20 +29,20 @@ returns-in-Err-Pages-clause-refused g c = let down = g.P.Pages.down c.args.pages
 -- ---- how often the device failed
 
 pub returns-then-not-is_within-clause-device : goal.returns-then-not-is_within-clause-device
-returns-then-not-is_within-clause-device g c = keeps_none _ _ _ (λ told. cc)
+returns-then-not-is_within-clause-device g c = keeps_none _ _ _ (λ reported. cc)
 
 pub returns-in-Ok-Some-clause-device : goal.returns-in-Ok-Some-clause-device
-returns-in-Ok-Some-clause-device g c = keeps_told _ _ _ _ _ _ (λ told. absurd cc) (λ failed. absurd cc) c.front.ensures.same.device
+returns-in-Ok-Some-clause-device g c = keeps_reported _ _ _ _ _ _ (λ reported. absurd cc) (λ failed. absurd cc) c.front.ensures.same.device
 
 pub returns-in-Ok-None-clause-device : goal.returns-in-Ok-None-clause-device
-returns-in-Ok-None-clause-device g c = keeps_told _ _ _ _ _ _ (λ told. absurd cc) (λ failed. absurd cc) c.front.ensures.same.device
+returns-in-Ok-None-clause-device g c = keeps_reported _ _ _ _ _ _ (λ reported. absurd cc) (λ failed. absurd cc) c.front.ensures.same.device
 
 pub returns-in-Err-BadNode-clause-device : goal.returns-in-Err-BadNode-clause-device
-returns-in-Err-BadNode-clause-device g c = keeps_told _ _ _ _ _ _ (λ told. absurd cc) (λ failed. absurd cc) c.front.ensures.same.device
+returns-in-Err-BadNode-clause-device g c = keeps_reported _ _ _ _ _ _ (λ reported. absurd cc) (λ failed. absurd cc) c.front.ensures.same.device
 
 pub returns-in-Err-Pages-clause-device : goal.returns-in-Err-Pages-clause-device
 returns-in-Err-Pages-clause-device g c =
-    keeps_told _ _ _ _ _ _
-    (λ told. (let is : c.of_pages.result ≡ applies.Fault = cc in let e = c.of_pages.ensures.fault.0 is in cc))
+    keeps_reported _ _ _ _ _ _
+    (λ reported. (let is : c.of_pages.result ≡ applies.Fault = cc in let e = c.of_pages.ensures.fault.0 is in cc))
     (λ failed. (let is : c.in-Err-Pages.refusal ≡ pages.Fault = cc in ap Err (c.of_pages.ensures.fault.1 is)))
     c.front.ensures.same.device

@@ -7,9 +7,9 @@ use Rattle.archive_head.specs.Head.{Contents}
 use Rattle.archive_pages.proofs.api.Passing.{Passes}
 use Rattle.disk_archive.specs.declared.apply_error.ApplyError.TheVariants as applies
 use Rattle.disk_archive.proofs.Failing.{reports_none, reports_as}
-use Rattle.disk_archive.proofs.Faults.{done_not_told, one_told}
+use Rattle.disk_archive.proofs.Faults.{done_not_reported, one_reported}
 use Rattle.disk_archive.proofs.Lacking.{lacks_as, next_version, one_as, version_next}
-use Rattle.disk_archive.proofs.Limited.{on_told}
+use Rattle.disk_archive.proofs.Limited.{on_reported}
 use Rattle.disk_archive.proofs.Outcomes.{is_less}
 use Rattle.disk_archive.proofs.Plans.{lane_at}
 use Rattle.disk_archive.proofs.Stepping.{moves_on, kept_passed, last_no_later}
@@ -71,12 +71,12 @@ returns-clause-stays g c part =
     ]
 
 pub returns-in_err-place-clause-high : goal.returns-in_err-place-clause-high
-returns-in_err-place-clause-high g c start shown shows told = c.take_next.ensures.high start shown shows (search (rules, told))
+returns-in_err-place-clause-high g c start shown shows reported = c.take_next.ensures.high start shown shows (search (rules, reported))
 
 pub returns-in_err-place-clause-lacks : goal.returns-in_err-place-clause-lacks
 returns-in_err-place-clause-lacks g c start shown h later shows honest b here =
     let e = c.in_err-place.field-0.0 in
-    on_told c.from_residual.result e _ c.from_residual.ensures.1
+    on_reported c.from_residual.result e _ c.from_residual.ensures.1
     (lacks_as _ _ shown _ _ e (λ v is. next_version _ c.args.settings _ c.args.head.now shown h (placed c.args.collector c.args.admission.now) later v b here is)
     (c.in_err-place.ensures.lacks start shown _ c.args.collector b.versions shows honest b.tree))
 
@@ -95,19 +95,19 @@ returns-clause-room g c start shown h later shows honest b here =
 -- ---- how often both disks failed
 
 pub returns-then-head-clause-failed : goal.returns-then-head-clause-failed
-returns-then-head-clause-failed g c = reports_none _ _ _ (λ told. absurd cc)
+returns-then-head-clause-failed g c = reports_none _ _ _ (λ reported. absurd cc)
 
 pub returns-then-lt-clause-failed : goal.returns-then-lt-clause-failed
-returns-then-lt-clause-failed g c = reports_none _ _ _ (λ told. absurd cc)
+returns-then-lt-clause-failed g c = reports_none _ _ _ (λ reported. absurd cc)
 
 pub returns-in_err-place-clause-failed : goal.returns-in_err-place-clause-failed
 returns-in_err-place-clause-failed g c =
     let e = c.in_err-place.field-0.0 in
     let r : c.take_next.result ≡ Err e = search rules in
     let d : c.from_residual.result ≡ Err e = search rules in
-    reports_as _ _ _ _ _ _ (λ told. r ∙ ap Err (one_told c.from_residual.result e applies.Fault d told)) (λ failed. d ∙ ap Err (one_told c.take_next.result e applies.Fault r failed)) c.take_next.ensures.failed
+    reports_as _ _ _ _ _ _ (λ reported. r ∙ ap Err (one_reported c.from_residual.result e applies.Fault d reported)) (λ failed. d ∙ ap Err (one_reported c.take_next.result e applies.Fault r failed)) c.take_next.ensures.failed
 
 pub returns-clause-failed : goal.returns-clause-failed
 returns-clause-failed g c =
     let r : c.take_next.result ≡ Ok c.in_ok-place.place = search rules in
-    reports_as _ _ _ _ _ _ (λ told. absurd cc) (λ failed. absurd (done_not_told c.take_next.result c.in_ok-place.place applies.Fault r failed)) c.take_next.ensures.failed
+    reports_as _ _ _ _ _ _ (λ reported. absurd cc) (λ failed. absurd (done_not_reported c.take_next.result c.in_ok-place.place applies.Fault r failed)) c.take_next.ensures.failed

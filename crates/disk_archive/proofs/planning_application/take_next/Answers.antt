@@ -51,7 +51,7 @@ returns-in-None-clause-room g c start shown low collector versions shows honest 
 -- ---- how often both disks failed
 
 pub returns-in_err-next-clause-failed : goal.returns-in_err-next-clause-failed
-returns-in_err-next-clause-failed g c = reports_none _ _ _ (λ told. search (rules, told))
+returns-in_err-next-clause-failed g c = reports_none _ _ _ (λ reported. search (rules, reported))
 
 pub returns-in-None-clause-failed : goal.returns-in-None-clause-failed
-returns-in-None-clause-failed g c = reports_none _ _ _ (λ told. absurd cc)
+returns-in-None-clause-failed g c = reports_none _ _ _ (λ reported. absurd cc)

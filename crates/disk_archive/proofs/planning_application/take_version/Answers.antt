@@ -17,7 +17,7 @@ use Rattle.tsb_tree.specs.Shelves.{HasNoneBlank}
 use Rattle.tsb_tree.specs.Refusals.{BlamesNone, InsertRefusal, ReadRefusal}
 use Rattle.disk_archive.specs.inner.Applications.{TreeTakes}
 use Rattle.disk_archive.proofs.Failing.{reports_both, reports_first, reports_none, reports_then, reports_as, tree_apart}
-use Rattle.disk_archive.proofs.Faults.{done_not_told, one_told}
+use Rattle.disk_archive.proofs.Faults.{done_not_reported, one_reported}
 use Rattle.disk_archive.proofs.Keeping.{joined_few}
 use Rattle.tsb_tree.specs.Outlived.{LeadsToOutdated}
 use Rattle.tsb_tree.proofs.Roots.{tree_root}
@@ -81,8 +81,8 @@ returns-in-Err-insert-clause-sound g c most start shown low versions shows hones
     let level = c.in-Ok.ensures.opened start shown shows t.store versions t.level t.says (subst (λ (r : ℕ). TreeStands t.store versions r t.level) (sym root) t.has.stands) in
     let tree = shown_at P c.open.new.pages O c.args.shelf.now start shown low h.root h.fresh h.block (stamp_of h.last h.applied) versions shows' honest count next' c.requires.block t
     c.in-Ok.place.root c.in-Ok.place.level c.in-Ok.place.least (c.in-Ok.ensures.root ∙ root) level (c.in-Ok.ensures.least ∙ least) in
-    let told : c.of_tree-in-Err-insert.result ≡ applies.BadNode page = cc in
-    subst BlamesNone (c.of_tree-in-Err-insert.ensures.bad page told) (c.in-Err-insert.ensures.honest start shown versions tree)
+    let reported : c.of_tree-in-Err-insert.result ≡ applies.BadNode page = cc in
+    subst BlamesNone (c.of_tree-in-Err-insert.ensures.bad page reported) (c.in-Err-insert.ensures.honest start shown versions tree)
 
 -- ---- what is too much
 
@@ -98,12 +98,12 @@ returns-in-Err-insert-clause-limits g c = c.of_tree-in-Err-insert.ensures.limits
     omega (arith, full, level, homes, next))
 
 pub returns-in-Err-clause-high : goal.returns-in-Err-clause-high
-returns-in-Err-clause-high g c start shown shows told = absurd (subst (ReadRefusal _) (c.of_tree.ensures.high (cc told)) c.in-Err.ensures.refused)
+returns-in-Err-clause-high g c start shown shows reported = absurd (subst (ReadRefusal _) (c.of_tree.ensures.high (cc reported)) c.in-Err.ensures.refused)
 
 pub returns-in-Err-insert-clause-high : goal.returns-in-Err-insert-clause-high
-returns-in-Err-insert-clause-high g c start shown shows told =
+returns-in-Err-insert-clause-high g c start shown shows reported =
     let h = c.args.head.now in
-    let level : c.in-Ok.place.level ≡ 7 = subst (InsertRefusal _ _ _ _ _ _ _) (c.of_tree-in-Err-insert.ensures.high (cc told)) c.in-Err-insert.ensures.refused in
+    let level : c.in-Ok.place.level ≡ 7 = subst (InsertRefusal _ _ _ _ _ _ _) (c.of_tree-in-Err-insert.ensures.high (cc reported)) c.in-Err-insert.ensures.refused in
     let root = ap (λ (x : Contents). x.root) c.head.view_is in
     subst (λ (n : ℕ). HasRootLevel shown h.root n) level (subst (λ (r : ℕ). HasRootLevel shown r c.in-Ok.place.level) root (c.in-Ok.ensures.level start shown shows))
 
@@ -133,7 +133,7 @@ returns-in-Err-insert-clause-lacks g c start shown low versions shows honest t =
     let e = c.of_tree-in-Err-insert.ensures in
     lacks_by _ shown _ _ c.of_tree-in-Err-insert.result
     (λ full.
-    let w = c.in-Err-insert.ensures.wants_pages start shown versions tree (ap Err (e.full full)) in
+    let w = c.in-Err-insert.ensures.lacks_pages start shown versions tree (ap Err (e.full full)) in
     let more = w.2 in
     let used = c.requires.next in
     record {
@@ -193,37 +193,37 @@ returns-in-Ok-insert-clause-room g c start shown low versions shows honest t =
 pub returns-in-Err-clause-failed : goal.returns-in-Err-clause-failed
 returns-in-Err-clause-failed g c =
     reports_as _ _ _ _ _ _
-    (λ told. (let is : c.of_tree.result ≡ applies.Fault = cc in elim (c.of_tree.ensures.fault.0 is) [
+    (λ reported. (let is : c.of_tree.result ≡ applies.Fault = cc in elim (c.of_tree.ensures.fault.0 is) [
       | inl pages ↦ c.in-Err.is ∙ ap Err pages
       | inr once ↦ absurd (subst (ReadRefusal _) once c.in-Err.ensures.refused)
     ]))
-    (λ failed. ap Err (c.of_tree.ensures.fault.1 (inl (one_told c.open.result c.in-Err.refusal (trees.Pages pages.Fault) c.in-Err.is failed))))
+    (λ failed. ap Err (c.of_tree.ensures.fault.1 (inl (one_reported c.open.result c.in-Err.refusal (trees.Pages pages.Fault) c.in-Err.is failed))))
     (reports_first _ _ _ _ _ _ c.open.ensures.reads.device)
 
 pub returns-then-place-most_level-clause-failed : goal.returns-then-place-most_level-clause-failed
 returns-then-place-most_level-clause-failed g c =
-    let quiet = c.open.ensures.reads.device.quiet (done_not_told c.open.result c.in-Ok.place (trees.Pages pages.Fault) c.in-Ok.is) in
-    reports_then _ _ _ _ _ _ _ (quiet, refl) (reports_none _ _ _ (λ told. absurd cc))
+    let quiet = c.open.ensures.reads.device.quiet (done_not_reported c.open.result c.in-Ok.place (trees.Pages pages.Fault) c.in-Ok.is) in
+    reports_then _ _ _ _ _ _ _ (quiet, refl) (reports_none _ _ _ (λ reported. absurd cc))
 
 pub returns-in-Ok-insert-clause-failed : goal.returns-in-Ok-insert-clause-failed
 returns-in-Ok-insert-clause-failed g c =
-    let quiet = c.open.ensures.reads.device.quiet (done_not_told c.open.result c.in-Ok.place (trees.Pages pages.Fault) c.in-Ok.is) in
+    let quiet = c.open.ensures.reads.device.quiet (done_not_reported c.open.result c.in-Ok.place (trees.Pages pages.Fault) c.in-Ok.is) in
     let s = c.insert.ensures.shelf in
     reports_then _ _ _ _ _ _ _ (quiet, refl)
-    (reports_both c.insert.result (trees.Pages pages.Fault) (trees.Once appends.Fault) _ _ _ _ _ _ _ tree_apart (λ told. absurd cc)
-    (λ failed. absurd (done_not_told c.insert.result c.in-Ok-insert.now (trees.Pages pages.Fault) c.in-Ok-insert.is failed))
-    (λ failed. absurd (done_not_told c.insert.result c.in-Ok-insert.now (trees.Once appends.Fault) c.in-Ok-insert.is failed)) c.insert.ensures.device s.quiet s.counted)
+    (reports_both c.insert.result (trees.Pages pages.Fault) (trees.Once appends.Fault) _ _ _ _ _ _ _ tree_apart (λ reported. absurd cc)
+    (λ failed. absurd (done_not_reported c.insert.result c.in-Ok-insert.now (trees.Pages pages.Fault) c.in-Ok-insert.is failed))
+    (λ failed. absurd (done_not_reported c.insert.result c.in-Ok-insert.now (trees.Once appends.Fault) c.in-Ok-insert.is failed)) c.insert.ensures.device s.quiet s.counted)
 
 pub returns-in-Err-insert-clause-failed : goal.returns-in-Err-insert-clause-failed
 returns-in-Err-insert-clause-failed g c =
-    let quiet = c.open.ensures.reads.device.quiet (done_not_told c.open.result c.in-Ok.place (trees.Pages pages.Fault) c.in-Ok.is) in
+    let quiet = c.open.ensures.reads.device.quiet (done_not_reported c.open.result c.in-Ok.place (trees.Pages pages.Fault) c.in-Ok.is) in
     let s = c.insert.ensures.shelf in
     let e = c.in-Err-insert.refusal in
     reports_then _ _ _ _ _ _ _ (quiet, refl)
     (reports_both c.insert.result (trees.Pages pages.Fault) (trees.Once appends.Fault) _ _ _ _ _ _ _ tree_apart
-    (λ told. (let is : c.of_tree-in-Err-insert.result ≡ applies.Fault = cc in elim (c.of_tree-in-Err-insert.ensures.fault.0 is) [
+    (λ reported. (let is : c.of_tree-in-Err-insert.result ≡ applies.Fault = cc in elim (c.of_tree-in-Err-insert.ensures.fault.0 is) [
       | inl pages ↦ inl (c.in-Err-insert.is ∙ ap Err pages)
       | inr once ↦ inr (c.in-Err-insert.is ∙ ap Err once)
     ]))
-    (λ failed. ap Err (c.of_tree-in-Err-insert.ensures.fault.1 (inl (one_told c.insert.result e (trees.Pages pages.Fault) c.in-Err-insert.is failed))))
-    (λ failed. ap Err (c.of_tree-in-Err-insert.ensures.fault.1 (inr (one_told c.insert.result e (trees.Once appends.Fault) c.in-Err-insert.is failed)))) c.insert.ensures.device s.quiet s.counted)
+    (λ failed. ap Err (c.of_tree-in-Err-insert.ensures.fault.1 (inl (one_reported c.insert.result e (trees.Pages pages.Fault) c.in-Err-insert.is failed))))
+    (λ failed. ap Err (c.of_tree-in-Err-insert.ensures.fault.1 (inr (one_reported c.insert.result e (trees.Once appends.Fault) c.in-Err-insert.is failed)))) c.insert.ensures.device s.quiet s.counted)

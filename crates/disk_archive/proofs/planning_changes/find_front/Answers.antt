@@ -1,11 +1,11 @@
 use Rattle.std.proofs.Common.{rules, ◌≡◌, ◌<◌, ℕ, length, min, sym, ◌∙◌, ap, arith, Ok, Err}
 use Rattle.disk_models.specs.Once.{settled_in}
-use Rattle.sequencer.proofs.api.Behind.{next_in}
+use Rattle.sequencer.proofs.api.Beyond.{next_in}
 use Rattle.disk_archive.specs.declared.apply_error.ApplyError.TheVariants as applies
 use Rattle.disk_archive.specs.declared.stop.Stop.TheVariants as stops
 use Rattle.disk_archive.specs.inner.Applications.{stop_of}
 use Rattle.disk_archive.proofs.Failing.{stop_failed}
-use Rattle.disk_archive.proofs.Faults.{done_not_told, keeps_none, keeps_told, one_told}
+use Rattle.disk_archive.proofs.Faults.{done_not_reported, keeps_none, keeps_reported, one_reported}
 use Rattle.disk_archive.proofs.Reaching.{first_found}
 use Rattle.disk_archive.proofs.planning_changes.find_front.Goals as goal
 
@@ -22,9 +22,9 @@ returns-clause-reached g c count o start h r =
     record {
       pages = r.pages;
       shown = c.front_of.ensures.reads start r.pages r.shown;
-      bears = r.bears;
+      head_represents = r.head_represents;
       mirrors = r.mirrors;
-      first = λ _. first_found count c.args.settings (settled_in o) c.args.plan.now.head r.pages _ h c.in-Some.number c.in_ok-admission.admission low r.bears r.mirrors c.in-Some.ensures.some (λ lane waits at holds. c.in_ok-admission.ensures.front start r.pages lane waits r.shown at holds);
+      first = λ _. first_found count c.args.settings (settled_in o) c.args.plan.now.head r.pages _ h c.in-Some.number c.in_ok-admission.admission low r.head_represents r.mirrors c.in-Some.ensures.some (λ lane waits at holds. c.in_ok-admission.ensures.front start r.pages lane waits r.shown at holds);
     }
 
 pub returns-clause-fits : goal.returns-clause-fits
@@ -41,22 +41,22 @@ returns-clause-fits g c block fits =
 -- ---- how often the device failed
 
 pub returns-then-not-plan-clause-device : goal.returns-then-not-plan-clause-device
-returns-then-not-plan-clause-device g c = keeps_none _ _ _ (λ told. absurd cc)
+returns-then-not-plan-clause-device g c = keeps_none _ _ _ (λ reported. absurd cc)
 
 pub returns-in_default-clause-device : goal.returns-in_default-clause-device
-returns-in_default-clause-device g c = keeps_none _ _ _ (λ told. absurd cc)
+returns-in_default-clause-device g c = keeps_none _ _ _ (λ reported. absurd cc)
 
 pub returns-in_err-admission-clause-device : goal.returns-in_err-admission-clause-device
 returns-in_err-admission-clause-device g c =
     let e = c.in_err-admission.field-0.0 in
     let r : c.front_of.result ≡ Err e = search rules in
     let d : c.from_residual.result ≡ Err (stop_of e) = search rules in
-    keeps_told _ _ _ _ _ _
-    (λ told. r ∙ ap Err (stop_failed e (one_told c.from_residual.result (stop_of e) stops.Failed d told)))
-    (λ failed. d ∙ ap Err (ap stop_of (one_told c.front_of.result e applies.Fault r failed)))
+    keeps_reported _ _ _ _ _ _
+    (λ reported. r ∙ ap Err (stop_failed e (one_reported c.from_residual.result (stop_of e) stops.Failed d reported)))
+    (λ failed. d ∙ ap Err (ap stop_of (one_reported c.front_of.result e applies.Fault r failed)))
     c.front_of.ensures.device
 
 pub returns-clause-device : goal.returns-clause-device
 returns-clause-device g c =
     let r : c.front_of.result ≡ Ok c.in_ok-admission.admission = search rules in
-    keeps_told _ _ _ _ _ _ (λ told. absurd cc) (λ failed. absurd (done_not_told c.front_of.result c.in_ok-admission.admission applies.Fault r failed)) c.front_of.ensures.device
+    keeps_reported _ _ _ _ _ _ (λ reported. absurd cc) (λ failed. absurd (done_not_reported c.front_of.result c.in_ok-admission.admission applies.Fault r failed)) c.front_of.ensures.device

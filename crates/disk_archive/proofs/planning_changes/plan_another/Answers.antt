@@ -6,8 +6,8 @@ use Rattle.disk_archive.specs.declared.stop.Stop.TheVariants as stops
 use Rattle.disk_archive.specs.declared.planning_changes.Plan.{Plan}
 use Rattle.disk_archive.specs.inner.Applications.{IsPlan, Reached, stop_of}
 use Rattle.disk_archive.proofs.Failing.{stop_failed, reports_first, reports_none, reports_then, reports_as}
-use Rattle.disk_archive.proofs.Faults.{done_not_told, one_told}
-use Rattle.disk_archive.proofs.Keeping.{keeps_told}
+use Rattle.disk_archive.proofs.Faults.{done_not_reported, one_reported}
+use Rattle.disk_archive.proofs.Keeping.{keeps_reported}
 use Rattle.disk_archive.proofs.Reaching.{reached_grown, reaches_one, reaches_same}
 use Rattle.disk_archive.proofs.planning_changes.plan_another.Goals as goal
 
@@ -30,7 +30,7 @@ returns-in_err-plan_step-clause-reaches g c start h honest r =
     let old = P.shows c.find_front.new.pages start in
     let new = P.shows c.plan_step.new.pages start in
     let seen : Reached count c.args.settings few (P.shows c.level_of.new.pages start) c.args.sequencer.now c.args.plan.now h =
-    record { pages = r.pages; shown = c.level_of.ensures.reads start r.pages r.shown; bears = r.bears; mirrors = r.mirrors; first = r.first } in
+    record { pages = r.pages; shown = c.level_of.ensures.reads start r.pages r.shown; head_represents = r.head_represents; mirrors = r.mirrors; first = r.first } in
     let found = c.find_front.ensures.reached count (O.model (pen_of c.args.shelf.now)) start h seen in
     let e = c.in_err-plan_step.ensures in
     reaches_same count c.args.settings many new c.args.sequencer.now c.plan_step.new.plan h
@@ -44,15 +44,15 @@ returns-clause-reaches g c start h honest r =
     let count = O.block_count (disk_of c.args.shelf.now) in
     let few = settled_in (O.model (pen_of c.args.shelf.now)) in
     let seen : Reached count c.args.settings few (P.shows c.level_of.new.pages start) c.args.sequencer.now c.args.plan.now h =
-    record { pages = r.pages; shown = c.level_of.ensures.reads start r.pages r.shown; bears = r.bears; mirrors = r.mirrors; first = r.first } in
+    record { pages = r.pages; shown = c.level_of.ensures.reads start r.pages r.shown; head_represents = r.head_represents; mirrors = r.mirrors; first = r.first } in
     let found = c.find_front.ensures.reached count (O.model (pen_of c.args.shelf.now)) start h seen in
     reaches_one count c.args.settings (settled_in (O.model (pen_of c.plan_step.new.shelf))) (P.shows c.plan_step.new.pages start) c.args.sequencer.now c.plan_step.new.plan h (c.in_ok-plan_step.ensures.moves start h honest found)
 
 pub returns-in_err-plan_step-clause-shelf : goal.returns-in_err-plan_step-clause-shelf
-returns-in_err-plan_step-clause-shelf g c = keeps_told g.O.OnceDisk 2 c.args.shelf.now c.plan_step.new.shelf _ ⊥ (λ never. absurd never) c.plan_step.ensures.shelf
+returns-in_err-plan_step-clause-shelf g c = keeps_reported g.O.OnceDisk 2 c.args.shelf.now c.plan_step.new.shelf _ ⊥ (λ never. absurd never) c.plan_step.ensures.shelf
 
 pub returns-clause-shelf : goal.returns-clause-shelf
-returns-clause-shelf g c = keeps_told g.O.OnceDisk 2 c.args.shelf.now c.plan_step.new.shelf _ ⊥ (λ never. absurd never) c.plan_step.ensures.shelf
+returns-clause-shelf g c = keeps_reported g.O.OnceDisk 2 c.args.shelf.now c.plan_step.new.shelf _ ⊥ (λ never. absurd never) c.plan_step.ensures.shelf
 
 pub returns-in_err-plan_step-clause-shows : goal.returns-in_err-plan_step-clause-shows
 returns-in_err-plan_step-clause-shows g c start shown s = c.plan_step.ensures.shows start shown (c.find_front.ensures.reads start shown (c.level_of.ensures.reads start shown s))
@@ -75,42 +75,42 @@ returns-in_err-level-clause-failed g c =
     let e = c.in_err-level.field-0.0 in
     let r : c.level_of.result ≡ Err e = search rules in
     let d : c.from_residual.result ≡ Err e = search rules in
-    reports_as _ _ _ _ _ _ (λ told. r ∙ ap Err (one_told c.from_residual.result e stops.Failed d told)) (λ failed. d ∙ ap Err (one_told c.level_of.result e stops.Failed r failed)) (reports_first _ _ _ _ _ _ c.level_of.ensures.device)
+    reports_as _ _ _ _ _ _ (λ reported. r ∙ ap Err (one_reported c.from_residual.result e stops.Failed d reported)) (λ failed. d ∙ ap Err (one_reported c.level_of.result e stops.Failed r failed)) (reports_first _ _ _ _ _ _ c.level_of.ensures.device)
 
 pub returns-then-not-has_room-clause-failed : goal.returns-then-not-has_room-clause-failed
 returns-then-not-has_room-clause-failed g c =
     let level : c.level_of.result ≡ Ok c.in_ok-level.level = search rules in
-    let quiet = c.level_of.ensures.device.quiet (done_not_told c.level_of.result c.in_ok-level.level stops.Failed level) in
-    reports_then _ _ _ _ _ _ _ (quiet, refl) (reports_none _ _ _ (λ told. absurd cc))
+    let quiet = c.level_of.ensures.device.quiet (done_not_reported c.level_of.result c.in_ok-level.level stops.Failed level) in
+    reports_then _ _ _ _ _ _ _ (quiet, refl) (reports_none _ _ _ (λ reported. absurd cc))
 
 pub returns-in_err-find_front-clause-failed : goal.returns-in_err-find_front-clause-failed
 returns-in_err-find_front-clause-failed g c =
     let level : c.level_of.result ≡ Ok c.in_ok-level.level = search rules in
-    let quiet = c.level_of.ensures.device.quiet (done_not_told c.level_of.result c.in_ok-level.level stops.Failed level) in
+    let quiet = c.level_of.ensures.device.quiet (done_not_reported c.level_of.result c.in_ok-level.level stops.Failed level) in
     let e = c.in_err-find_front.field-0.0 in
     let r : c.find_front.result ≡ Err e = search rules in
     let d : c.from_residual-in_err-find_front.result ≡ Err e = search rules in
     reports_then _ _ _ _ _ _ _ (quiet, refl)
-    (reports_as _ _ _ _ _ _ (λ told. r ∙ ap Err (one_told c.from_residual-in_err-find_front.result e stops.Failed d told)) (λ failed. d ∙ ap Err (one_told c.find_front.result e stops.Failed r failed)) (reports_first _ _ _ _ _ _ c.find_front.ensures.device))
+    (reports_as _ _ _ _ _ _ (λ reported. r ∙ ap Err (one_reported c.from_residual-in_err-find_front.result e stops.Failed d reported)) (λ failed. d ∙ ap Err (one_reported c.find_front.result e stops.Failed r failed)) (reports_first _ _ _ _ _ _ c.find_front.ensures.device))
 
 pub returns-in_err-plan_step-clause-failed : goal.returns-in_err-plan_step-clause-failed
 returns-in_err-plan_step-clause-failed g c =
     let level : c.level_of.result ≡ Ok c.in_ok-level.level = search rules in
-    let quiet = c.level_of.ensures.device.quiet (done_not_told c.level_of.result c.in_ok-level.level stops.Failed level) in
+    let quiet = c.level_of.ensures.device.quiet (done_not_reported c.level_of.result c.in_ok-level.level stops.Failed level) in
     let front : c.find_front.result ≡ Ok tt = search rules in
-    let found = c.find_front.ensures.device.quiet (done_not_told c.find_front.result tt stops.Failed front) in
+    let found = c.find_front.ensures.device.quiet (done_not_reported c.find_front.result tt stops.Failed front) in
     let e = c.in_err-plan_step.field-0.0 in
     let r : c.plan_step.result ≡ Err e = search rules in
     let d : c.from_residual-in_err-plan_step.result ≡ Err (stop_of e) = search rules in
     reports_then _ _ _ _ _ _ _ (found ∙ quiet, refl)
-    (reports_as _ _ _ _ _ _ (λ told. r ∙ ap Err (stop_failed e (one_told c.from_residual-in_err-plan_step.result (stop_of e) stops.Failed d told))) (λ failed. d ∙ ap Err (ap stop_of (one_told c.plan_step.result e applies.Fault r failed))) c.plan_step.ensures.failed)
+    (reports_as _ _ _ _ _ _ (λ reported. r ∙ ap Err (stop_failed e (one_reported c.from_residual-in_err-plan_step.result (stop_of e) stops.Failed d reported))) (λ failed. d ∙ ap Err (ap stop_of (one_reported c.plan_step.result e applies.Fault r failed))) c.plan_step.ensures.failed)
 
 pub returns-clause-failed : goal.returns-clause-failed
 returns-clause-failed g c =
     let level : c.level_of.result ≡ Ok c.in_ok-level.level = search rules in
-    let quiet = c.level_of.ensures.device.quiet (done_not_told c.level_of.result c.in_ok-level.level stops.Failed level) in
+    let quiet = c.level_of.ensures.device.quiet (done_not_reported c.level_of.result c.in_ok-level.level stops.Failed level) in
     let front : c.find_front.result ≡ Ok tt = search rules in
-    let found = c.find_front.ensures.device.quiet (done_not_told c.find_front.result tt stops.Failed front) in
+    let found = c.find_front.ensures.device.quiet (done_not_reported c.find_front.result tt stops.Failed front) in
     let r : c.plan_step.result ≡ Ok tt = search rules in
     reports_then _ _ _ _ _ _ _ (found ∙ quiet, refl)
-    (reports_as _ _ _ _ _ _ (λ told. absurd cc) (λ failed. absurd (done_not_told c.plan_step.result tt applies.Fault r failed)) c.plan_step.ensures.failed)
+    (reports_as _ _ _ _ _ _ (λ reported. absurd cc) (λ failed. absurd (done_not_reported c.plan_step.result tt applies.Fault r failed)) c.plan_step.ensures.failed)

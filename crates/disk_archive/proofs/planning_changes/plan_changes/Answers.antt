@@ -7,16 +7,16 @@ use Rattle.page_tx.specs.Images.{joined}
 use Rattle.archive_head.specs.Head.{Contents, head_octets}
 use Rattle.tsb_tree.specs.Opened.{HasRootLevel}
 use Rattle.archive_pages.specs.Refusals.{HeadRefusal}
-use Rattle.archive_pages.specs.Carried.{Bears}
-use Rattle.disk_archive.specs.Trees.{TreeLies}
+use Rattle.archive_pages.specs.Represented.{HeadRepresents}
+use Rattle.disk_archive.specs.Trees.{TreeLocated}
 use Rattle.disk_archive.specs.inner.Applications.{Advances, FrontRefusal, IsPlan, Reached, Reaches}
 use Rattle.disk_archive.specs.declared.apply_error.ApplyError.TheVariants as applies
 use Rattle.disk_archive.proofs.Failing.{no_err, reports_first, reports_then, reports_as}
-use Rattle.disk_archive.proofs.Faults.{done_not_told, one_told, told_as}
-use Rattle.disk_archive.proofs.Keeping.{joined_few, keeps_none, keeps_then, keeps_fewer, keeps_told}
+use Rattle.disk_archive.proofs.Faults.{done_not_reported, one_reported, reported_as}
+use Rattle.disk_archive.proofs.Keeping.{joined_few, keeps_none, keeps_then, keeps_fewer, keeps_reported}
 use Rattle.disk_archive.proofs.Reaching.{advances_then, plans_move}
 use Rattle.disk_archive.proofs.Lacking.{front_applies, front_lacks, front_limits, head_reads, lacks_at, room_at}
-use Rattle.disk_archive.proofs.Limited.{limits_as, on_told}
+use Rattle.disk_archive.proofs.Limited.{limits_as, on_reported}
 use Rattle.disk_archive.proofs.planning_changes.plan_changes.Goals as goal
 
 pub plan_step-requires-clause-fits : goal.plan_step-requires-clause-fits
@@ -51,10 +51,10 @@ returns-in_err-plan-clause-sound g c start shown h shows honest b m page bad =
     c.begin_plan.ensures.sound (g.O.OnceDisk.block_count (disk_of c.args.shelf.now)) (g.O.OnceDisk.model (pen_of c.args.shelf.now)) start shown h shows b m page (search (rules, bad))
 
 pub returns-in_err-plan-clause-shelf : goal.returns-in_err-plan-clause-shelf
-returns-in_err-plan-clause-shelf g c = keeps_none g.O.OnceDisk 2000 c.args.shelf.now _ (λ full. let is = told_as c.from_residual.result c.in_err-plan.field-0.0 applies.OnceFull c.from_residual.ensures.1 full in subst (FrontRefusal _) is c.in_err-plan.ensures.refused)
+returns-in_err-plan-clause-shelf g c = keeps_none g.O.OnceDisk 2000 c.args.shelf.now _ (λ full. let is = reported_as c.from_residual.result c.in_err-plan.field-0.0 applies.OnceFull c.from_residual.ensures.1 full in subst (FrontRefusal _) is c.in_err-plan.ensures.refused)
 
 pub returns-in_err-plan-clause-refused : goal.returns-in_err-plan-clause-refused
-returns-in_err-plan-clause-refused g c = on_told c.from_residual.result c.in_err-plan.field-0.0 _ c.from_residual.ensures.1 (front_applies _ c.in_err-plan.field-0.0 c.in_err-plan.ensures.refused)
+returns-in_err-plan-clause-refused g c = on_reported c.from_residual.result c.in_err-plan.field-0.0 _ c.from_residual.ensures.1 (front_applies _ c.in_err-plan.field-0.0 c.in_err-plan.ensures.refused)
 
 pub returns-in_err-plan_step-clause-sound : goal.returns-in_err-plan_step-clause-sound
 returns-in_err-plan_step-clause-sound g c start shown h shows honest b m page bad =
@@ -63,7 +63,7 @@ returns-in_err-plan_step-clause-sound g c start shown h shows honest b m page ba
 
 pub returns-in_err-plan_step-clause-shelf : goal.returns-in_err-plan_step-clause-shelf
 returns-in_err-plan_step-clause-shelf g c =
-    keeps_fewer g.O.OnceDisk 2 2000 c.args.shelf.now c.plan_step.new.shelf _ (omega arith) (keeps_told g.O.OnceDisk 2 c.args.shelf.now c.plan_step.new.shelf _ _ (λ full. search (rules, full)) c.plan_step.ensures.shelf)
+    keeps_fewer g.O.OnceDisk 2 2000 c.args.shelf.now c.plan_step.new.shelf _ (omega arith) (keeps_reported g.O.OnceDisk 2 c.args.shelf.now c.plan_step.new.shelf _ _ (λ full. search (rules, full)) c.plan_step.ensures.shelf)
 
 pub returns-in_err-plan_step-clause-shows : goal.returns-in_err-plan_step-clause-shows
 returns-in_err-plan_step-clause-shows g c start shown s = c.plan_step.ensures.shows start shown (c.begin_plan.ensures.reads start shown s)
@@ -91,12 +91,12 @@ returns-in-Ok-clause-planned g c start shown h shows honest b m =
 
 pub returns-in-Ok-clause-shelf : goal.returns-in-Ok-clause-shelf
 returns-in-Ok-clause-shelf g c =
-    keeps_told g.O.OnceDisk 2000 c.args.shelf.now c.plan_more.new.shelf ⊥ _ (λ full. absurd cc)
+    keeps_reported g.O.OnceDisk 2000 c.args.shelf.now c.plan_more.new.shelf ⊥ _ (λ full. absurd cc)
     (keeps_then g.O.OnceDisk 2 1998 c.args.shelf.now c.plan_step.new.shelf c.plan_more.new.shelf ⊥ _ c.plan_step.ensures.shelf c.plan_more.ensures.shelf)
 
 pub returns-in-Err-clause-shelf : goal.returns-in-Err-clause-shelf
 returns-in-Err-clause-shelf g c =
-    keeps_told g.O.OnceDisk 2000 c.args.shelf.now c.plan_more.new.shelf ⊥ _ (λ full. c.of_pages.ensures.once cc)
+    keeps_reported g.O.OnceDisk 2000 c.args.shelf.now c.plan_more.new.shelf ⊥ _ (λ full. c.of_pages.ensures.once cc)
     (keeps_then g.O.OnceDisk 2 1998 c.args.shelf.now c.plan_step.new.shelf c.plan_more.new.shelf ⊥ _ c.plan_step.ensures.shelf c.plan_more.ensures.shelf)
 
 pub returns-in-Ok-clause-shows : goal.returns-in-Ok-clause-shows
@@ -111,13 +111,13 @@ returns-in-Err-clause-refused g c = c.of_pages.ensures.refused _ (λ e. absurd (
 -- ---- what is too much
 
 pub returns-in_err-plan-clause-high : goal.returns-in_err-plan-clause-high
-returns-in_err-plan-clause-high g c start shown shows told = let is = told_as c.from_residual.result c.in_err-plan.field-0.0 applies.TooHigh c.from_residual.ensures.1 told in absurd (subst (FrontRefusal _) is c.in_err-plan.ensures.refused)
+returns-in_err-plan-clause-high g c start shown shows reported = let is = reported_as c.from_residual.result c.in_err-plan.field-0.0 applies.TooHigh c.from_residual.ensures.1 reported in absurd (subst (FrontRefusal _) is c.in_err-plan.ensures.refused)
 
 pub returns-in_err-plan-clause-limits : goal.returns-in_err-plan-clause-limits
-returns-in_err-plan-clause-limits g c = on_told c.from_residual.result c.in_err-plan.field-0.0 _ c.from_residual.ensures.1 (front_limits _ _ _ _ c.in_err-plan.field-0.0 c.in_err-plan.ensures.refused)
+returns-in_err-plan-clause-limits g c = on_reported c.from_residual.result c.in_err-plan.field-0.0 _ c.from_residual.ensures.1 (front_limits _ _ _ _ c.in_err-plan.field-0.0 c.in_err-plan.ensures.refused)
 
 pub returns-in_err-plan-clause-lacks : goal.returns-in_err-plan-clause-lacks
-returns-in_err-plan-clause-lacks g c start shown h shows honest b m = on_told c.from_residual.result c.in_err-plan.field-0.0 _ c.from_residual.ensures.1 (front_lacks _ _ shown _ _ c.in_err-plan.field-0.0 c.in_err-plan.ensures.refused)
+returns-in_err-plan-clause-lacks g c start shown h shows honest b m = on_reported c.from_residual.result c.in_err-plan.field-0.0 _ c.from_residual.ensures.1 (front_lacks _ _ shown _ _ c.in_err-plan.field-0.0 c.in_err-plan.ensures.refused)
 
 pub returns-in_err-plan_step-clause-lacks : goal.returns-in_err-plan_step-clause-lacks
 returns-in_err-plan_step-clause-lacks g c start shown h shows honest b m =
@@ -127,8 +127,8 @@ returns-in_err-plan_step-clause-lacks g c start shown h shows honest b m =
     let head = c.in_ok-plan.ensures.head in
     let was = c.in_ok-plan.ensures.reached count (g.O.OnceDisk.model (pen_of c.args.shelf.now)) start shown h shows b m in
     let r : Reached count c.args.settings settled (g.P.Pages.shows c.begin_plan.new.pages start) c.args.sequencer.now c.in_ok-plan.plan h =
-    record { pages = shown; shown = c.begin_plan.ensures.reads start shown shows; bears = subst (λ (x : Contents). Bears (TreeLies count) c.args.settings settled x shown h) (sym head) b; mirrors = was.mirrors; first = was.first } in
-    on_told c.from_residual-in_err-plan_step.result e _ c.from_residual-in_err-plan_step.ensures.1
+    record { pages = shown; shown = c.begin_plan.ensures.reads start shown shows; head_represents = subst (λ (x : Contents). HeadRepresents (TreeLocated count) c.args.settings settled x shown h) (sym head) b; mirrors = was.mirrors; first = was.first } in
+    on_reported c.from_residual-in_err-plan_step.result e _ c.from_residual-in_err-plan_step.ensures.1
     (lacks_at _ shown _ _ _ _ e (let homes = c.begin_plan.ensures.homes in let next = c.begin_plan.ensures.next in omega (arith, homes, next)) (ap (λ (x : Contents). x.root) head) (c.in_err-plan_step.ensures.lacks start h honest r))
 
 pub returns-in-Err-clause-lacks : goal.returns-in-Err-clause-lacks
@@ -140,13 +140,13 @@ returns-in-Err-clause-lacks g c start shown h shows honest b m =
     (λ many. let over = subst (HeadRefusal (length images)) many c.in-Err.ensures.refused in absurd (omega (arith, over, most, few))) c.in-Err.ensures.refused))
 
 pub returns-in_err-plan_step-clause-high : goal.returns-in_err-plan_step-clause-high
-returns-in_err-plan_step-clause-high g c start shown shows told =
-    subst (λ (x : Contents). HasRootLevel shown x.root 7) c.in_ok-plan.ensures.head (c.plan_step.ensures.high start shown (c.begin_plan.ensures.reads start shown shows) (search (rules, told)))
+returns-in_err-plan_step-clause-high g c start shown shows reported =
+    subst (λ (x : Contents). HasRootLevel shown x.root 7) c.in_ok-plan.ensures.head (c.plan_step.ensures.high start shown (c.begin_plan.ensures.reads start shown shows) (search (rules, reported)))
 
 pub returns-in_err-plan_step-clause-limits : goal.returns-in_err-plan_step-clause-limits
 returns-in_err-plan_step-clause-limits g c =
     let e = c.in_err-plan_step.field-0.0 in
-    on_told c.from_residual-in_err-plan_step.result e _ c.from_residual-in_err-plan_step.ensures.1
+    on_reported c.from_residual-in_err-plan_step.result e _ c.from_residual-in_err-plan_step.ensures.1
     (limits_as _ _ _ _ _ _ e c.begin_plan.ensures.homes c.begin_plan.ensures.next (ap (λ (x : Contents). x.applied) c.in_ok-plan.ensures.head) c.in_err-plan_step.ensures.limits)
 
 pub returns-in-Err-clause-limits : goal.returns-in-Err-clause-limits
@@ -159,7 +159,7 @@ returns-in-Ok-clause-room g c start shown h shows honest b m =
     let head = c.in_ok-plan.ensures.head in
     let was = c.in_ok-plan.ensures.reached count (g.O.OnceDisk.model (pen_of c.args.shelf.now)) start shown h shows b m in
     let r : Reached count c.args.settings settled (g.P.Pages.shows c.begin_plan.new.pages start) c.args.sequencer.now c.in_ok-plan.plan h =
-    record { pages = shown; shown = c.begin_plan.ensures.reads start shown shows; bears = subst (λ (x : Contents). Bears (TreeLies count) c.args.settings settled x shown h) (sym head) b; mirrors = was.mirrors; first = was.first } in
+    record { pages = shown; shown = c.begin_plan.ensures.reads start shown shows; head_represents = subst (λ (x : Contents). HeadRepresents (TreeLocated count) c.args.settings settled x shown h) (sym head) b; mirrors = was.mirrors; first = was.first } in
     room_at _ shown _ _ _ _ _ _ _ (let homes = c.begin_plan.ensures.homes in let next = c.begin_plan.ensures.next in omega (arith, homes, next)) (ap (λ (x : Contents). x.root) head) (ap (λ (x : Contents). x.applied) head)
     (c.in_ok-plan_step.ensures.room start h honest r)
 
@@ -170,7 +170,7 @@ returns-in_err-plan_more-clause-sound g c start shown h shows honest b m page ba
 
 pub returns-in_err-plan_more-clause-shelf : goal.returns-in_err-plan_more-clause-shelf
 returns-in_err-plan_more-clause-shelf g c =
-    keeps_told g.O.OnceDisk 2000 c.args.shelf.now c.plan_more.new.shelf ⊥ _ (λ full. search (rules, full))
+    keeps_reported g.O.OnceDisk 2000 c.args.shelf.now c.plan_more.new.shelf ⊥ _ (λ full. search (rules, full))
     (keeps_then g.O.OnceDisk 2 1998 c.args.shelf.now c.plan_step.new.shelf c.plan_more.new.shelf ⊥ _ c.plan_step.ensures.shelf c.plan_more.ensures.shelf)
 
 pub returns-in_err-plan_more-clause-shows : goal.returns-in_err-plan_more-clause-shows
@@ -185,45 +185,45 @@ returns-in_err-plan-clause-failed g c =
     let e = c.in_err-plan.field-0.0 in
     let r : c.begin_plan.result ≡ Err e = search rules in
     let d : c.from_residual.result ≡ Err e = search rules in
-    reports_as _ _ _ _ _ _ (λ told. r ∙ ap Err (one_told c.from_residual.result e applies.Fault d told)) (λ failed. d ∙ ap Err (one_told c.begin_plan.result e applies.Fault r failed)) (reports_first _ _ _ _ _ _ c.begin_plan.ensures.device)
+    reports_as _ _ _ _ _ _ (λ reported. r ∙ ap Err (one_reported c.from_residual.result e applies.Fault d reported)) (λ failed. d ∙ ap Err (one_reported c.begin_plan.result e applies.Fault r failed)) (reports_first _ _ _ _ _ _ c.begin_plan.ensures.device)
 
 pub returns-in_err-plan_step-clause-failed : goal.returns-in_err-plan_step-clause-failed
 returns-in_err-plan_step-clause-failed g c =
     let begun : c.begin_plan.result ≡ Ok c.in_ok-plan.plan = search rules in
-    let first = c.begin_plan.ensures.device.quiet (done_not_told c.begin_plan.result c.in_ok-plan.plan applies.Fault begun) in
+    let first = c.begin_plan.ensures.device.quiet (done_not_reported c.begin_plan.result c.in_ok-plan.plan applies.Fault begun) in
     let e = c.in_err-plan_step.field-0.0 in
     let r : c.plan_step.result ≡ Err e = search rules in
     let d : c.from_residual-in_err-plan_step.result ≡ Err e = search rules in
     reports_then _ _ _ _ _ _ _ (first, refl)
-    (reports_as _ _ _ _ _ _ (λ told. r ∙ ap Err (one_told c.from_residual-in_err-plan_step.result e applies.Fault d told)) (λ failed. d ∙ ap Err (one_told c.plan_step.result e applies.Fault r failed)) c.plan_step.ensures.failed)
+    (reports_as _ _ _ _ _ _ (λ reported. r ∙ ap Err (one_reported c.from_residual-in_err-plan_step.result e applies.Fault d reported)) (λ failed. d ∙ ap Err (one_reported c.plan_step.result e applies.Fault r failed)) c.plan_step.ensures.failed)
 
 pub returns-in_err-plan_more-clause-failed : goal.returns-in_err-plan_more-clause-failed
 returns-in_err-plan_more-clause-failed g c =
     let begun : c.begin_plan.result ≡ Ok c.in_ok-plan.plan = search rules in
-    let first = c.begin_plan.ensures.device.quiet (done_not_told c.begin_plan.result c.in_ok-plan.plan applies.Fault begun) in
+    let first = c.begin_plan.ensures.device.quiet (done_not_reported c.begin_plan.result c.in_ok-plan.plan applies.Fault begun) in
     let step : c.plan_step.result ≡ Ok tt = search rules in
-    let then = c.plan_step.ensures.failed.quiet (done_not_told c.plan_step.result tt applies.Fault step) in
+    let then = c.plan_step.ensures.failed.quiet (done_not_reported c.plan_step.result tt applies.Fault step) in
     let failed : IsErr c.plan_more.result = search rules in
     let d : c.from_residual-in_err-plan_more.result ≡ Err applies.Fault = search rules in
-    reports_then _ _ _ _ _ _ _ (first, refl) (reports_then _ _ _ _ _ _ _ then (reports_as _ _ _ _ _ _ (λ told. failed) (λ f. d) c.plan_more.ensures.failed))
+    reports_then _ _ _ _ _ _ _ (first, refl) (reports_then _ _ _ _ _ _ _ then (reports_as _ _ _ _ _ _ (λ reported. failed) (λ f. d) c.plan_more.ensures.failed))
 
 pub returns-in-Ok-clause-failed : goal.returns-in-Ok-clause-failed
 returns-in-Ok-clause-failed g c =
     let begun : c.begin_plan.result ≡ Ok c.in_ok-plan.plan = search rules in
-    let first = c.begin_plan.ensures.device.quiet (done_not_told c.begin_plan.result c.in_ok-plan.plan applies.Fault begun) in
+    let first = c.begin_plan.ensures.device.quiet (done_not_reported c.begin_plan.result c.in_ok-plan.plan applies.Fault begun) in
     let step : c.plan_step.result ≡ Ok tt = search rules in
-    let then = c.plan_step.ensures.failed.quiet (done_not_told c.plan_step.result tt applies.Fault step) in
+    let then = c.plan_step.ensures.failed.quiet (done_not_reported c.plan_step.result tt applies.Fault step) in
     let more : c.plan_more.result ≡ Ok tt = search rules in
     let last = c.plan_more.ensures.failed.quiet (no_err c.plan_more.result tt more) in
-    reports_then _ _ _ _ _ _ _ (first, refl) (reports_then _ _ _ _ _ _ _ then (reports_then _ _ _ _ _ _ _ last (reports_as _ _ _ _ ⊥ _ (λ told. absurd cc) (λ never. absurd never) (reports_first _ _ _ _ _ _ c.put_head.ensures.device))))
+    reports_then _ _ _ _ _ _ _ (first, refl) (reports_then _ _ _ _ _ _ _ then (reports_then _ _ _ _ _ _ _ last (reports_as _ _ _ _ ⊥ _ (λ reported. absurd cc) (λ never. absurd never) (reports_first _ _ _ _ _ _ c.put_head.ensures.device))))
 
 pub returns-in-Err-clause-failed : goal.returns-in-Err-clause-failed
 returns-in-Err-clause-failed g c =
     let begun : c.begin_plan.result ≡ Ok c.in_ok-plan.plan = search rules in
-    let first = c.begin_plan.ensures.device.quiet (done_not_told c.begin_plan.result c.in_ok-plan.plan applies.Fault begun) in
+    let first = c.begin_plan.ensures.device.quiet (done_not_reported c.begin_plan.result c.in_ok-plan.plan applies.Fault begun) in
     let step : c.plan_step.result ≡ Ok tt = search rules in
-    let then = c.plan_step.ensures.failed.quiet (done_not_told c.plan_step.result tt applies.Fault step) in
+    let then = c.plan_step.ensures.failed.quiet (done_not_reported c.plan_step.result tt applies.Fault step) in
     let more : c.plan_more.result ≡ Ok tt = search rules in
     let last = c.plan_more.ensures.failed.quiet (no_err c.plan_more.result tt more) in
     reports_then _ _ _ _ _ _ _ (first, refl) (reports_then _ _ _ _ _ _ _ then (reports_then _ _ _ _ _ _ _ last
-    (reports_as _ _ _ _ ⊥ _ (λ told. (let is : c.of_pages.result ≡ applies.Fault = cc in subst (HeadRefusal _) (c.of_pages.ensures.fault.0 is) c.in-Err.ensures.refused)) (λ never. absurd never) (reports_first _ _ _ _ _ _ c.put_head.ensures.device))))
+    (reports_as _ _ _ _ ⊥ _ (λ reported. (let is : c.of_pages.result ≡ applies.Fault = cc in subst (HeadRefusal _) (c.of_pages.ensures.fault.0 is) c.in-Err.ensures.refused)) (λ never. absurd never) (reports_first _ _ _ _ _ _ c.put_head.ensures.device))))

@@ -4,7 +4,7 @@ use Rattle.once_store.specs.Shelves.{pen_of}
 use Rattle.disk_archive.specs.inner.Applications.{Reached, Reaches}
 use Rattle.disk_archive.specs.declared.stop.Stop.TheVariants as stops
 use Rattle.disk_archive.proofs.Failing.{reports_none, reports_then, reports_as}
-use Rattle.disk_archive.proofs.Faults.{done_not_told, one_told}
+use Rattle.disk_archive.proofs.Faults.{done_not_reported, one_reported}
 use Rattle.disk_archive.proofs.Keeping.{keeps_none, keeps_then, keeps_fewer}
 use Rattle.disk_archive.proofs.Reaching.{reaches_same, reaches_then}
 use Rattle.disk_archive.proofs.planning_changes.plan_more.Goals as goal
@@ -42,14 +42,14 @@ loop-preserved g c =
       homes = e.homes ∙ i.homes;
       down = e.down ∙ i.down;
       honest = (λ h. e.honest.0 (i.honest.0 h), λ h. i.honest.1 (e.honest.1 h));
-      quiet = (let more = e.failed.quiet (done_not_told c.plan_another.result tt stops.Failed done) in (more.0 ∙ i.quiet.0, more.1 ∙ i.quiet.1));
+      quiet = (let more = e.failed.quiet (done_not_reported c.plan_another.result tt stops.Failed done) in (more.0 ∙ i.quiet.0, more.1 ∙ i.quiet.1));
     }
 
 pub returns-clause-shelf : goal.returns-clause-shelf
 returns-clause-shelf g c = keeps_fewer g.O.OnceDisk (2 * c.loop.counter) 1998 c.args.shelf.now c.loop.shelf ⊥ (let e = c.loop.auto.counter-end in omega (arith, e)) c.loop.invariant.shelf
 
 pub returns-clause-failed : goal.returns-clause-failed
-returns-clause-failed g c = reports_then _ _ _ _ _ _ _ c.loop.invariant.quiet (reports_none _ _ _ (λ told. absurd cc))
+returns-clause-failed g c = reports_then _ _ _ _ _ _ _ c.loop.invariant.quiet (reports_none _ _ _ (λ reported. absurd cc))
 
 -- ---- no further change
 
@@ -75,8 +75,8 @@ pub returns-in-Err-Enough-clause-failed : goal.returns-in-Err-Enough-clause-fail
 returns-in-Err-Enough-clause-failed g c =
     let i = c.loop.invariant in
     let enough : c.plan_another.result ≡ Err stops.Enough = search rules in
-    let more = c.plan_another.ensures.failed.quiet (λ failed. let both : stops.Enough ≡ stops.Failed = one_told c.plan_another.result stops.Enough stops.Failed enough failed in cc) in
-    reports_then _ _ _ _ _ _ _ (more.0 ∙ i.quiet.0, more.1 ∙ i.quiet.1) (reports_none _ _ _ (λ told. absurd cc))
+    let more = c.plan_another.ensures.failed.quiet (λ failed. let both : stops.Enough ≡ stops.Failed = one_reported c.plan_another.result stops.Enough stops.Failed enough failed in cc) in
+    reports_then _ _ _ _ _ _ _ (more.0 ∙ i.quiet.0, more.1 ∙ i.quiet.1) (reports_none _ _ _ (λ reported. absurd cc))
 
 -- ---- a device failed
 
@@ -90,4 +90,4 @@ returns-in-Err-Failed-clause-shelf g c =
 pub returns-in-Err-Failed-clause-failed : goal.returns-in-Err-Failed-clause-failed
 returns-in-Err-Failed-clause-failed g c =
     let failed : c.plan_another.result ≡ Err stops.Failed = search rules in
-    reports_then _ _ _ _ _ _ _ c.loop.invariant.quiet (reports_as _ _ _ _ _ _ (λ told. failed) (λ f. cc) c.plan_another.ensures.failed)
+    reports_then _ _ _ _ _ _ _ c.loop.invariant.quiet (reports_as _ _ _ _ _ _ (λ reported. failed) (λ f. cc) c.plan_another.ensures.failed)

@@ -4,15 +4,15 @@ use Rattle.route_model.specs.Admission.{Admitted}
 use Rattle.archive_pages.specs.Batches.{CanPop}
 use Rattle.archive_head.specs.Head.{Contents}
 use Rattle.archive_head.specs.declared.lane.Lane.{Lane}
-use Rattle.sequencer.specs.Ahead.{behind}
+use Rattle.sequencer.specs.Ahead.{beyond}
 use Rattle.sequencer.specs.First.{IsNext}
 use Rattle.once_store.specs.Shelves.{next_of}
 use Rattle.disk_archive.specs.declared.planning_changes.Plan.{Plan}
 use Rattle.disk_archive.specs.inner.Applications.{IsPlan}
 use Rattle.disk_archive.specs.declared.apply_error.ApplyError.TheVariants as applies
 use Rattle.disk_archive.proofs.Failing.{reports_as}
-use Rattle.disk_archive.proofs.Faults.{done_not_told, one_told}
-use Rattle.disk_archive.proofs.Limited.{on_told}
+use Rattle.disk_archive.proofs.Faults.{done_not_reported, one_reported}
+use Rattle.disk_archive.proofs.Limited.{on_reported}
 use Rattle.disk_archive.proofs.Outcomes.{on_each_err}
 use Rattle.disk_archive.proofs.Reaching.{advances, at_hand}
 use Rattle.disk_archive.proofs.planning_changes.plan_step.Goals as goal
@@ -28,9 +28,9 @@ returns-clause-moves g c start h honest r =
     let f = at_hand h c.args.plan.now.front c.admission-admission.result.now (r.first c.requires.hand) (sym c.admission-admission.ensures) in
     let hand = c.requires.fits.hand c.requires.hand in
     advances _ c.args.settings _ _ (g.P.Pages.shows c.args.pages.now start) (g.P.Pages.shows c.plan_change.new.pages start) c.args.sequencer.now c.args.plan.now _ h r (r.first c.requires.hand)
-    (let n = r.bears.number in let m = r.bears.lanes_number in let lt = hand.inside in omega (arith, n, m, lt)) refl
-    c.pass_whole.ensures.leaves (λ part. ap (λ (ns : List ℕ). behind ns c.args.sequencer.now) (c.pass_whole.ensures.stays part))
-    (c.in_ok-whole.ensures.moves start r.pages h f.later r.shown honest r.bears f.here f.below)
+    (let n = r.head_represents.number in let m = r.head_represents.lanes_number in let lt = hand.inside in omega (arith, n, m, lt)) refl
+    c.pass_whole.ensures.leaves (λ part. ap (λ (ns : List ℕ). beyond ns c.args.sequencer.now) (c.pass_whole.ensures.stays part))
+    (c.in_ok-whole.ensures.moves start r.pages h f.later r.shown honest r.head_represents f.here f.below)
 
 pub returns-clause-fits : goal.returns-clause-fits
 returns-clause-fits g c =
@@ -44,7 +44,7 @@ returns-clause-fits g c =
       hand = λ part. (
           let same = c.in_ok-whole.ensures.stays part in
           record {
-            next = subst (λ (ns : List ℕ). IsNext (behind ns c.args.sequencer.now) c.args.plan.now.front.collector) (sym (c.pass_whole.ensures.stays part)) hand.next;
+            next = subst (λ (ns : List ℕ). IsNext (beyond ns c.args.sequencer.now) c.args.plan.now.front.collector) (sym (c.pass_whole.ensures.stays part)) hand.next;
             inside = (let lt = hand.inside in let n = c.plan_change.ensures.lanes in omega (arith, lt, n));
             fits = λ lane at. hand.fits lane (ap (λ (ls : List Lane). slice_get ls c.args.plan.now.front.collector) (sym same) ∙ at);
           });
@@ -71,20 +71,20 @@ returns-in_err-whole-clause-as_before g c = on_each_err _ _ (ap (λ (x : Content
 pub returns-in_err-whole-clause-sound : goal.returns-in_err-whole-clause-sound
 returns-in_err-whole-clause-sound g c most start h honest r page bad =
     let f = at_hand h c.args.plan.now.front c.admission-admission.result.now (r.first c.requires.hand) (sym c.admission-admission.ensures) in
-    c.plan_change.ensures.sound most start r.pages h f.later r.shown honest r.bears f.here page (search (rules, bad))
+    c.plan_change.ensures.sound most start r.pages h f.later r.shown honest r.head_represents f.here page (search (rules, bad))
 
 pub returns-in_err-whole-clause-high : goal.returns-in_err-whole-clause-high
-returns-in_err-whole-clause-high g c start shown shows told = c.plan_change.ensures.high start shown shows (search (rules, told))
+returns-in_err-whole-clause-high g c start shown shows reported = c.plan_change.ensures.high start shown shows (search (rules, reported))
 
 pub returns-in_err-whole-clause-lacks : goal.returns-in_err-whole-clause-lacks
 returns-in_err-whole-clause-lacks g c start h honest r =
     let f = at_hand h c.args.plan.now.front c.admission-admission.result.now (r.first c.requires.hand) (sym c.admission-admission.ensures) in
-    on_told c.from_residual.result c.in_err-whole.field-0.0 _ c.from_residual.ensures.1 (c.in_err-whole.ensures.lacks start r.pages h f.later r.shown honest r.bears f.here)
+    on_reported c.from_residual.result c.in_err-whole.field-0.0 _ c.from_residual.ensures.1 (c.in_err-whole.ensures.lacks start r.pages h f.later r.shown honest r.head_represents f.here)
 
 pub returns-clause-room : goal.returns-clause-room
 returns-clause-room g c start h honest r =
     let f = at_hand h c.args.plan.now.front c.admission-admission.result.now (r.first c.requires.hand) (sym c.admission-admission.ensures) in
-    c.in_ok-whole.ensures.room start r.pages h f.later r.shown honest r.bears f.here
+    c.in_ok-whole.ensures.room start r.pages h f.later r.shown honest r.head_represents f.here
 
 -- ---- how often both disks failed
 
@@ -93,9 +93,9 @@ returns-in_err-whole-clause-failed g c =
     let e = c.in_err-whole.field-0.0 in
     let r : c.plan_change.result ≡ Err e = search rules in
     let d : c.from_residual.result ≡ Err e = search rules in
-    reports_as _ _ _ _ _ _ (λ told. r ∙ ap Err (one_told c.from_residual.result e applies.Fault d told)) (λ failed. d ∙ ap Err (one_told c.plan_change.result e applies.Fault r failed)) c.plan_change.ensures.failed
+    reports_as _ _ _ _ _ _ (λ reported. r ∙ ap Err (one_reported c.from_residual.result e applies.Fault d reported)) (λ failed. d ∙ ap Err (one_reported c.plan_change.result e applies.Fault r failed)) c.plan_change.ensures.failed
 
 pub returns-clause-failed : goal.returns-clause-failed
 returns-clause-failed g c =
     let r : c.plan_change.result ≡ Ok c.in_ok-whole.whole = search rules in
-    reports_as _ _ _ _ _ _ (λ told. absurd cc) (λ failed. absurd (done_not_told c.plan_change.result c.in_ok-whole.whole applies.Fault r failed)) c.plan_change.ensures.failed
+    reports_as _ _ _ _ _ _ (λ reported. absurd cc) (λ failed. absurd (done_not_reported c.plan_change.result c.in_ok-whole.whole applies.Fault r failed)) c.plan_change.ensures.failed

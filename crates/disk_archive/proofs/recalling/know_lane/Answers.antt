@@ -8,7 +8,7 @@ use Rattle.disk_archive.proofs.Recalled.{greatest_within, known_marks, known_tim
 use Rattle.disk_archive.proofs.recalling.know_lane.Goals as goal
 
 pub returns-then-not-is_empty-clause-sound : goal.returns-then-not-is_empty-clause-sound
-returns-then-not-is_empty-clause-sound c rises all page told =
+returns-then-not-is_empty-clause-sound c rises all page reported =
     let lanes = c.args.sequencer.now in
     let number = c.from-number.ensures in
     let mark0 = subst (λ n. slice_get (marks lanes) n ≡ Some 0) (sym number) c.requires.unknown.mark in
@@ -37,7 +37,7 @@ returns-in-Ok-clause-times c =
     known_times lanes c.sieve.new.self c.take_in.new.self c.raise.new.self c.from-number.result c.args.collector c.args.times.now c.in_ok-sieved.sieved number c.requires.unknown s none c.sieve.ensures.same c.take_in.ensures.taken c.in-Ok.ensures.raised.times
 
 pub returns-clause-sound : goal.returns-clause-sound
-returns-clause-sound c rises all page told =
+returns-clause-sound c rises all page reported =
     let lanes = c.args.sequencer.now in
     let number = c.from-number.ensures in
     let mark0 = subst (λ n. slice_get (marks lanes) n ≡ Some 0) (sym number) c.requires.unknown.mark in

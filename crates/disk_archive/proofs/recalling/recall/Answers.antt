@@ -21,14 +21,14 @@ loop-collector-init g c = record {
 pub loop-collector-preserved : goal.loop-collector-preserved
 loop-collector-preserved g c =
     let i = c.loop-collector.invariant in
-    let told = c.args.head.now.lanes in
+    let reported = c.args.head.now.lanes in
     let k = c.loop-collector.collector in
     let lane = c.lane_of-mark.result in
-    let low : k < length told = (let n = c.requires.lanes in omega (arith, n)) in
+    let low : k < length reported = (let n = c.requires.lanes in omega (arith, n)) in
     let times = c.in_ok-know_lane.ensures.times ∙ ap (slice_set (waiting_times c.loop-collector.sequencer) k) c.deref.ensures.value in
     record {
-      marks = knows_more told c.loop-collector.sequencer c.know_lane.new.sequencer k lane c.in_ok-times.times.items i.marks c.lane_of-mark.ensures.lane c.in_ok-know_lane.ensures.marks times;
-      times = λ start shown are. times_more c.args.settings told shown c.loop-collector.sequencer c.know_lane.new.sequencer k c.in_ok-times.times.items i.marks low (i.times start shown are) times
+      marks = knows_more reported c.loop-collector.sequencer c.know_lane.new.sequencer k lane c.in_ok-times.times.items i.marks c.lane_of-mark.ensures.lane c.in_ok-know_lane.ensures.marks times;
+      times = λ start shown are. times_more c.args.settings reported shown c.loop-collector.sequencer c.know_lane.new.sequencer k c.in_ok-times.times.items i.marks low (i.times start shown are) times
           (λ l waits at holds. c.in_ok-times.ensures.times start shown l waits (i.same.shown start shown are) at holds);
       same = reads_as g.P.Pages c.args.pages.now c.waiting_of.new.pages _ ⊥ (reads_then g.P.Pages c.args.pages.now c.loop-collector.pages c.waiting_of.new.pages ⊥ _ i.same (λ no. no) c.waiting_of.ensures.same) (λ e. no_fault c.waiting_of.result c.in_ok-times.times c.in_ok-times.was e) (λ no. absurd no);
     }
@@ -45,8 +45,8 @@ returns-in_err-times-clause-sound g c count o start shown h shows b page is =
     let i = c.loop-collector.invariant in
     let k = c.loop-collector.collector in
     let all = c.requires.lanes in
-    let told : IfErr c.from_residual-in_err-times.result (λ e. e ≡ c.in_err-times.field-0.0) = search rules in
-    let was = passed_on c.from_residual-in_err-times.result c.waiting_of.result c.in_err-times.field-0.0 page told c.in_err-times.was is in
+    let reported : IfErr c.from_residual-in_err-times.result (λ e. e ≡ c.in_err-times.field-0.0) = search rules in
+    let was = passed_on c.from_residual-in_err-times.result c.waiting_of.result c.in_err-times.field-0.0 page reported c.in_err-times.was is in
     let now = i.same.shown start shown shows in
     let lane = lane_at k c.args.head.now.lanes (omega (arith, all)) in
     let own = own_of count c.args.settings o c.args.head.now shown h k lane.0 b lane.1 in
@@ -58,8 +58,8 @@ returns-in_err-know_lane-clause-sound g c count o start shown h shows b page is 
     let i = c.loop-collector.invariant in
     let k = c.loop-collector.collector in
     let lane = c.lane_of-mark.result in
-    let told : IfErr c.from_residual-in_err-know_lane.result (λ e. e ≡ c.in_err-know_lane.field-0.0) = search rules in
-    let was = passed_on c.from_residual-in_err-know_lane.result c.know_lane.result c.in_err-know_lane.field-0.0 page told c.in_err-know_lane.was is in
+    let reported : IfErr c.from_residual-in_err-know_lane.result (λ e. e ≡ c.in_err-know_lane.field-0.0) = search rules in
+    let was = passed_on c.from_residual-in_err-know_lane.result c.know_lane.result c.in_err-know_lane.field-0.0 page reported c.in_err-know_lane.was is in
     let now = i.same.shown start shown shows in
     let own = own_of count c.args.settings o c.args.head.now shown h k lane b c.lane_of-mark.ensures.lane in
     let items = c.deref.ensures.value ∙ c.in_ok-times.ensures.times start shown lane (part k (waiting h)) now c.lane_of-mark.ensures.lane own.stands.holds in

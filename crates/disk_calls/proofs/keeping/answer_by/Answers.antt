@@ -2,7 +2,7 @@ use Rattle.std.proofs.Common.{IfOk, subst, sym}
 use Rattle.route_meaning.specs.History.{History, applied}
 use Rattle.interleaving_core.specs.Headline.{IsAnswered}
 use Rattle.disk_archive.specs.Archives.{Holds, IsHonest}
-use Rattle.disk_calls.specs.Carried.{KeepsFrom}
+use Rattle.disk_calls.specs.Represented.{KeepsFrom}
 use Rattle.disk_calls.proofs.Serving.{if_ok}
 use Rattle.disk_calls.proofs.keeping.answer_by.Goals as goal
 
@@ -15,7 +15,7 @@ pub returns-in-None-clause-answered : goal.returns-in-None-clause-answered
 returns-in-None-clause-answered g c =
     let a = c.args.archive.now in
     if_ok c.answer.result (λ answer. IsHonest a → (h : History) → Holds a h → IsAnswered (applied h) c.args.query answer)
-    (λ answer. IsHonest a → (h : History) → Holds a h → KeepsFrom a c.args.reader.now → IsAnswered (applied h) c.args.query answer) (λ answer told honest h holds _. told honest h holds) c.answer.ensures.answered
+    (λ answer. IsHonest a → (h : History) → Holds a h → KeepsFrom a c.args.reader.now → IsAnswered (applied h) c.args.query answer) (λ answer reported honest h holds _. reported honest h holds) c.answer.ensures.answered
 
 pub returns-in-Some-clause-reads : goal.returns-in-Some-clause-reads
 returns-in-Some-clause-reads g c = λ honest h holds reads. c.answer_with.ensures.reads honest h holds (subst (λ o. KeepsFrom c.args.archive.now o) c.in-Some.is reads)

@@ -3,7 +3,7 @@ use Rattle.std.proofs.lemmas.Result.{on_ok_weaker}
 use Rattle.disk_models.proofs.api.Moments.{leaves_then}
 use Rattle.page_journal.specs.Identity.{HoldsNone}
 use Rattle.page_journal.specs.Layout.{pages_of}
-use Rattle.page_journal.proofs.Creating.{after_first, range_crash, range_unnamed, pages_crash, pages_unnamed, sync_crash, wants_name}
+use Rattle.page_journal.proofs.Creating.{after_first, range_crash, range_unnamed, pages_crash, pages_unnamed, sync_crash, lacks_name}
 use Rattle.page_journal.proofs.create.lay.Goals as goal
 
 pub returns-in_err-close_all-clause-crash : goal.returns-in_err-close_all-clause-crash
@@ -56,7 +56,7 @@ returns-clause-laid g c h note is =
     let h2 = c.write_pages.ensures.serves.honest.0 h1 in
     let h3 = c.write_at.ensures.honest.0 h2 in
     on_ok_weaker c.sync.result
-    (λ synced. wants_name c.args.homes _ note c.args.identity.now _ c.args.first.now (g.D.EraseDisk.model c.args.disk.now) (g.D.EraseDisk.model c.close_all.new.disk) (g.D.EraseDisk.model c.write_pages.new.disk)
+    (λ synced. lacks_name c.args.homes _ note c.args.identity.now _ c.args.first.now (g.D.EraseDisk.model c.args.disk.now) (g.D.EraseDisk.model c.close_all.new.disk) (g.D.EraseDisk.model c.write_pages.new.disk)
     (g.D.EraseDisk.model c.write_at.new.self) (g.D.EraseDisk.model c.sync.new.self) is
     (c.close_all.ensures.within h) (c.in_ok-close_all.ensures.closed h)
     (c.write_pages.ensures.writes h1) (c.in_ok-write_pages.ensures.laid h1)

@@ -20,5 +20,5 @@ returns-in-None c = λ q only.
     let h = subst (IsPeerFirst at) c.in-Some.is c.peer_first.ensures in
     let first : first_key c.in-Some.first ≡ c.in-Some.first = first_is at c.in-Some.first h.0 in
     let l : IsLeast at c.in-Some.first c.args.address.now (1 + 8 * length (octets c.args.address.now)) None = subst (λ (n : ℕ). IsLeast at n c.args.address.now (1 + 8 * length (octets c.args.address.now)) None) first (subst (IsLeast at (first_key c.in-Some.first) c.args.address.now (1 + 8 * length (octets c.args.address.now))) c.in-None.is c.least_candidate.ensures) in
-    subst (LeapsTo q at) (sym (c.behind.ensures ∙ ap (λ (n : ℕ). suc n) c.last_of_peer.ensures.key ∙ last_is c.in-Some.first first))
+    subst (LeapsTo q at) (sym (c.beyond.ensures ∙ ap (λ (n : ℕ). suc n) c.last_of_peer.ensures.key ∙ last_is c.in-Some.first first))
     (no_candidate q c.args.address.now only c.in-Some.first at h.0 h.1 (omega (arith, h.0)) l)

@@ -3,7 +3,7 @@ use Rattle.std.proofs.lemmas.Bool.{ltb-true, ltb-false}
 use Rattle.route_model.specs.PeerKeys.{last_key}
 use Rattle.route_history.specs.Fronts.{number_at}
 use Rattle.route_history.specs.Walks.{LeapsTo}
-use Rattle.route_history.proofs.Leaping.{to_session, behind_peer}
+use Rattle.route_history.proofs.Leaping.{to_session, after_peer}
 use Rattle.route_history.proofs.leap.to_peer.Goals as goal
 
 pub returns-then-not-has_passed : goal.returns-then-not-has_passed
@@ -13,5 +13,5 @@ returns-then-not-has_passed c = λ q only.
 
 pub returns-then-has_passed : goal.returns-then-has_passed
 returns-then-has_passed c = λ q only.
-    behind_peer q c.args.peer.now (number_at c.args.front) only
+    after_peer q c.args.peer.now (number_at c.args.front) only
     (let lt = ltb-true _ _ (sym c.has_passed-else-not-has_passed.ensures ∙ c.if-has_passed.true) in subst (λ (n : ℕ). n < number_at c.args.front) (c.last_of_peer.ensures.key ∙ ap last_key c.session-first.ensures.key) lt)

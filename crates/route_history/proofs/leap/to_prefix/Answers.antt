@@ -10,7 +10,7 @@ pub returns-then-has_passed : goal.returns-then-has_passed
 returns-then-has_passed c = λ q only.
     let h = subst (IsPeerFirst (number_at c.args.front)) c.in-Some.is c.peer_first.ensures in
     let first : first_key c.in-Some.first ≡ c.in-Some.first = first_is (number_at c.args.front) c.in-Some.first h.0 in
-    subst (LeapsTo q (number_at c.args.front)) (sym (c.behind.ensures ∙ ap (λ (n : ℕ). suc n) c.last_of_peer.ensures.key ∙ last_is c.in-Some.first first))
+    subst (LeapsTo q (number_at c.args.front)) (sym (c.beyond.ensures ∙ ap (λ (n : ℕ). suc n) c.last_of_peer.ensures.key ∙ last_is c.in-Some.first first))
     (next_peer q c.args.prefix.now c.in-Some.first (number_at c.args.front) only h.0
     (let lt = ltb-true _ _ (sym c.has_passed.ensures ∙ c.if-has_passed.true) in omega (arith, lt, c.of_prefix-key.ensures.key, first))
     (omega (arith, h.0)))

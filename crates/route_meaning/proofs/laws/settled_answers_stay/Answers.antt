@@ -15,7 +15,7 @@ returns c = record {
   rows = λ h g q rows more is begins lt.
       let e = until-later h g q.moment is begins lt in
       (λ a. IsAnswer-until (applied h) (all_of g) q rows more e a, λ a. IsAnswer-until (all_of g) (applied h) q rows more (sym e) a);
-  events = λ h g q told more is begins lt.
+  events = λ h g q reported more is begins lt.
       let e = until-later h g q.to is begins lt in
-      (λ a. IsEventsAnswer-until (applied h) (all_of g) q told more e a, λ a. IsEventsAnswer-until (all_of g) (applied h) q told more (sym e) a);
+      (λ a. IsEventsAnswer-until (applied h) (all_of g) q reported more e a, λ a. IsEventsAnswer-until (all_of g) (applied h) q reported more (sym e) a);
 }

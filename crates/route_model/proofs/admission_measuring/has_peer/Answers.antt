@@ -1,6 +1,6 @@
 use Rattle.std.proofs.Common.{◌∙◌, arith, sym, ap}
 use Rattle.std.specs.Str.{bytes_eq}
-use Rattle.route_model.specs.Spelling.{peer_octets}
+use Rattle.route_model.specs.Encoding.{peer_octets}
 use Rattle.route_model.specs.declared.peer.Peer.{Peer}
 use Rattle.route_model.proofs.Sizes.{peer_not_there, peer_there}
 use Rattle.route_model.proofs.admission_measuring.has_peer.Goals as goal

@@ -1,5 +1,5 @@
 use Rattle.std.proofs.Common.{◌≡◌, ◌≤◌, length, map, drop, false}
-use Rattle.route_model.specs.Spelling.{peer_octets}
+use Rattle.route_model.specs.Encoding.{peer_octets}
 use Rattle.route_model.specs.Tables.{has_row}
 use Rattle.route_model.specs.Admission.{peer_of}
 use Rattle.route_model.proofs.admission_measuring.has_peer.Given as goal

@@ -1,6 +1,6 @@
 use Rattle.std.proofs.Common.{◌≡◌, ◌≤◌, length, map, drop, false}
 use Rattle.std.specs.List.{flat_map}
-use Rattle.route_model.specs.Spelling.{route_octets}
+use Rattle.route_model.specs.Encoding.{route_octets}
 use Rattle.route_model.specs.Tables.{has_row}
 use Rattle.route_model.specs.Admission.{announced}
 use Rattle.route_model.proofs.admission_measuring.has_route.Given as goal

@@ -8,7 +8,7 @@ use Rattle.route_model.proofs.admission_reading.read_peers.Goals as goal
 pub returns-in_err-item : goal.returns-in_err-item
 returns-in_err-item c =
     let p = err_from_is_err_and c.from_residual-in_err-item.result c.from_residual-in_err-item.ensures.1 in
-    rw (p.1, p.2) (ends peer_at errors.Unspelled c.loop.items.items c.args.count c.loop.counter c.loop.rest.now (repeat peer_at c.args.count c.args.bytes.now) c.loop-test.true c.in_err-item.ensures c.loop.invariant)
+    rw (p.1, p.2) (ends peer_at errors.Unencoded c.loop.items.items c.args.count c.loop.counter c.loop.rest.now (repeat peer_at c.args.count c.args.bytes.now) c.loop-test.true c.in_err-item.ensures c.loop.invariant)
 
 pub loop-preserved : goal.loop-preserved
 loop-preserved c =

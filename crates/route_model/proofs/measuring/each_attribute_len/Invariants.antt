@@ -1,6 +1,6 @@
 use Rattle.std.proofs.Common.{◌≡◌, ◌≤◌, ◌*◌, length, take}
 use Rattle.std.specs.List.{flat_map, AllByRecursion}
-use Rattle.route_model.specs.Spelling.{attribute, IsAttribute}
+use Rattle.route_model.specs.Encoding.{attribute, IsAttribute}
 use Rattle.route_model.proofs.measuring.each_attribute_len.Given as goal
 
 abbrev pub invariant-loop-a : goal.invariant-loop-a

@@ -1,6 +1,6 @@
 use Rattle.std.proofs.Common.{◌≡◌, ◌≤◌, ◌*◌, length, take}
 use Rattle.std.specs.List.{flat_map, AllByRecursion}
-use Rattle.route_model.specs.Spelling.{segment, IsSegment}
+use Rattle.route_model.specs.Encoding.{segment, IsSegment}
 use Rattle.route_model.proofs.measuring.each_segment_len.Given as goal
 
 abbrev pub invariant-loop-s : goal.invariant-loop-s

@@ -9,7 +9,7 @@ use Rattle.route_model.proofs.reading.read_numbers.Goals as goal
 pub returns-in_err-item-clause-read : goal.returns-in_err-item-clause-read
 returns-in_err-item-clause-read c =
     let p = err_from_is_err_and c.from_residual-in_err-item.result c.from_residual-in_err-item.ensures.1 in
-    rw (p.1, p.2) (ends (number_at w32) errors.Unspelled c.loop.items.items c.args.count c.loop.counter c.loop.rest.now (repeat (number_at w32) c.args.count c.args.bytes.now) c.loop-test.true c.in_err-item.ensures c.loop.invariant.0)
+    rw (p.1, p.2) (ends (number_at w32) errors.Unencoded c.loop.items.items c.args.count c.loop.counter c.loop.rest.now (repeat (number_at w32) c.args.count c.args.bytes.now) c.loop-test.true c.in_err-item.ensures c.loop.invariant.0)
 
 pub loop-preserved : goal.loop-preserved
 loop-preserved c = (

@@ -1,5 +1,5 @@
 use Rattle.std.proofs.Common.{◌≡◌, take, map}
-use Rattle.route_model.specs.Spelling.{peer_octets}
+use Rattle.route_model.specs.Encoding.{peer_octets}
 use Rattle.route_model.specs.Admission.{peer_of}
 use Rattle.route_model.specs.Tables.{distinct}
 use Rattle.route_model.proofs.tables.peer_table.Given as goal

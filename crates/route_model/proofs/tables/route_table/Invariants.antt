@@ -1,6 +1,6 @@
 use Rattle.std.proofs.Common.{◌≡◌, take, map}
 use Rattle.std.specs.List.{flat_map}
-use Rattle.route_model.specs.Spelling.{route_octets}
+use Rattle.route_model.specs.Encoding.{route_octets}
 use Rattle.route_model.specs.Admission.{announced}
 use Rattle.route_model.specs.Tables.{distinct}
 use Rattle.route_model.proofs.tables.route_table.Given as goal

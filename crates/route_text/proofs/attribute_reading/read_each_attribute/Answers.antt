@@ -1,6 +1,6 @@
 use Rattle.std.proofs.Common.{List, [], ◌∷◌, ◌++◌, subst, sym, ap, ◌∙◌, arith, rules, ⊎_elim}
 use Rattle.route_model.specs.declared.attribute.Attribute.{Attribute}
-use Rattle.route_model.specs.Spelling.{IsAttribute}
+use Rattle.route_model.specs.Encoding.{IsAttribute}
 use Rattle.route_text.specs.Octets.{Lacks}
 use Rattle.route_text.specs.RouteText.{attribute_text}
 use Rattle.route_text.proofs.Fields.{is_nil, not_nil, attributes_none, attributes_some, Lacks-attribute_text}

@@ -3,7 +3,7 @@ use Rattle.std.specs.List.{AllByRecursion}
 use denote.Shadow.{shadow}
 use denote.Text.{Utf8}
 use Rattle.route_model.specs.declared.attribute.Attribute.{Attribute}
-use Rattle.route_model.specs.Spelling.{IsAttribute}
+use Rattle.route_model.specs.Encoding.{IsAttribute}
 use Rattle.route_text.specs.RouteText.{attribute_text, attributes_text}
 use Rattle.route_text.proofs.Separated.{Left}
 use Rattle.route_text.proofs.attribute_reading.read_each_attribute.Given as goal

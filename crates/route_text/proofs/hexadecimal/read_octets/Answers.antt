@@ -12,7 +12,7 @@ pub returns-in_default-split_first : goal.returns-in_default-split_first
 returns-in_default-split_first c = record {
   only = λ all octets e.
       let left = c.loop-high.invariant all octets e in
-      let one = c.in-Some.ensures.cases.0 ∙ ap (λ t. c.in-Some.high.now ∷ t) (nil_from_length c.in-Some.behind.now c.in_default-split_first.ensures.cases) in
+      let one = c.in-Some.ensures.cases.0 ∙ ap (λ t. c.in-Some.high.now ∷ t) (nil_from_length c.in-Some.beyond.now c.in_default-split_first.ensures.cases) in
       absurd (octets_odd all c.loop-high.octets.items c.in-Some.high.now (subst (OctetsLeft all c.loop-high.octets.items) one left));
 }
 

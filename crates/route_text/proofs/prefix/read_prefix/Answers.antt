@@ -29,7 +29,7 @@ returns-clause-found c =
     rw c.containing.ensures.prefix (record {
       address = c.in_ok-address.address;
       address_text = c.in-Some.address.now;
-      spelled = c.in-Some.ensures.parts ∙ ap (λ t. c.in-Some.address.now ++ 47 ∷ t) c.in_ok-length.ensures.found ∙ sym (append_assoc c.in-Some.address.now (47 ∷ []) (decimal c.in_ok-length.length));
+      encoded = c.in-Some.ensures.parts ∙ ap (λ t. c.in-Some.address.now ++ 47 ∷ t) c.in_ok-length.ensures.found ∙ sym (append_assoc c.in-Some.address.now (47 ∷ []) (decimal c.in_ok-length.length));
       read = c.in_ok-address.ensures.found;
       fits = (let most = c.in_ok-length.ensures.in_range in omega (arith, c.bit_count.ensures));
       cleared = refl;

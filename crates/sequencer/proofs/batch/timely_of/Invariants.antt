@@ -1,7 +1,7 @@
 use Rattle.std.proofs.Common.{◌≡◌, ℕ, []}
 use Rattle.route_meaning.specs.Holds.{admitted_time}
 use Rattle.sequencer.specs.Late.{lates}
-use Rattle.sequencer.proofs.Told.{IsPassed}
+use Rattle.sequencer.proofs.Reported.{IsPassed}
 use Rattle.sequencer.proofs.batch.timely_of.Given as goal
 
 abbrev pub invariant-loop-index : goal.invariant-loop-index

@@ -1,7 +1,7 @@
-use Rattle.service.proofs.Outputs.{Tells-trans}
+use Rattle.service.proofs.Outputs.{Reports-trans}
 use Rattle.server.proofs.answering.write_number_line.Goals as goal
 
 pub returns : goal.returns
 returns g c = record {
-  line = Tells-trans _ _ _ _ _ (Tells-trans _ _ _ _ _ (Tells-trans _ _ _ _ _ c.text.ensures.tells c.text-2.ensures.tells) c.number.ensures.tells) c.text-3.ensures.tells;
+  line = Reports-trans _ _ _ _ _ (Reports-trans _ _ _ _ _ (Reports-trans _ _ _ _ _ c.text.ensures.reports c.text-2.ensures.reports) c.number.ensures.reports) c.text-3.ensures.reports;
 }

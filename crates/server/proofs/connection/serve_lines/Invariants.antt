@@ -9,5 +9,5 @@ invariant-loop g l = record {
   next : (goal.iterator-loop g).can_next l.iterator';
   finite : (goal.iterator-loop g).is_finite l.iterator';
   reader : IsSome g.N.OnDisk.disk → Among l.reader l.pass.past.blocks;
-  served : Served (IsSome g.N.OnDisk.disk) l.port l.shared.collectors l.initial.lines.behind l.initial.pass l.initial.out (g.R.Read.remaining l.initial.lines.reader) (g.R.Read.remaining l.lines.reader) l.lines.behind l.pass l.out;
+  served : Served (IsSome g.N.OnDisk.disk) l.port l.shared.collectors l.initial.lines.beyond l.initial.pass l.initial.out (g.R.Read.remaining l.initial.lines.reader) (g.R.Read.remaining l.lines.reader) l.lines.beyond l.pass l.out;
 }

@@ -34,4 +34,4 @@ err_is : (a b : CommandError) → ◌≡◌ {A = Result Invocation CommandError}
 err_is a b e = cc
 
 pub returns-in-Err-clause-usage : goal.returns-in-Err-clause-usage
-returns-in-Err-clause-usage g c = λ e shown. shown_kind _ _ c.in-Err.error e _ c.in-Ok.ensures.app c.in-Err.ensures.kinds c.usage.ensures.memory c.usage.ensures.told (err_is _ _ shown)
+returns-in-Err-clause-usage g c = λ e shown. shown_kind _ _ c.in-Err.error e _ c.in-Ok.ensures.app c.in-Err.ensures.kinds c.usage.ensures.memory c.usage.ensures.reported (err_is _ _ shown)

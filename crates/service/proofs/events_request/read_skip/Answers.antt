@@ -4,7 +4,7 @@ use Rattle.service.specs.Requests.{AreNumberWords, AreSkipWords}
 use Rattle.service.proofs.Words.{Words, texts, nothing, rest_of}
 use Rattle.service.proofs.events_request.read_skip.Goals as goal
 
--- words of which those behind the first are no number say no number of events
+-- words of which those after the first are no number say no number of events
 none : (words named : Words) (word : Bor (List ℕ)) (r : Result ℕ BadText) → words ≡ word ∷ named
     → OnErr r ((number : ℕ) → AreNumberWords 18446744073709551615 (texts named) number → ⊥) → OnErr r ((skip : ℕ) → AreSkipWords (texts words) skip → ⊥)
 none words named word (Ok number) is h = tt

@@ -24,7 +24,7 @@ returns-clause-found c =
     let parts = split_parts 58 c.args.text.now (Some (c.in-Some.address, c.in-Some.port)) c.in-Some.ensures.cases (omega arith) in
     record {
       address = c.in-Some.address.now;
-      spelled = parts.0 ∙ ap (λ (t : List ℕ). c.in-Some.address.now ++ 58 ∷ t) (c.in_ok-port.ensures.found ∙ ap decimal (sym c.new.ensures.port)) ∙ sym (append_assoc c.in-Some.address.now (codes ":") (decimal (v4_port c.new.result)));
+      encoded = parts.0 ∙ ap (λ (t : List ℕ). c.in-Some.address.now ++ 58 ∷ t) (c.in_ok-port.ensures.found ∙ ap decimal (sym c.new.ensures.port)) ∙ sym (append_assoc c.in-Some.address.now (codes ":") (decimal (v4_port c.new.result)));
       is_address = subst (IsDotted c.in-Some.address.now) (sym (ap ipv4_octets c.new.ensures.ip ∙ c.from_octets.ensures)) c.in_ok-octets.ensures.found;
       is_port = (let most = c.in_ok-port.ensures.in_range in omega (arith, c.new.ensures.port));
     }

@@ -1,7 +1,7 @@
-use Rattle.service.proofs.Outputs.{Tells-trans}
+use Rattle.service.proofs.Outputs.{Reports-trans}
 use Rattle.service.proofs.refusal.write_reason.Goals as goal
 
 pub returns : goal.returns
 returns g c = record {
-  line = Tells-trans _ _ _ _ _ (Tells-trans _ _ _ _ _ (Tells-trans _ _ _ _ _ c.write_error_head.ensures.head c.text.ensures.tells) c.text-2.ensures.tells) c.text-3.ensures.tells;
+  line = Reports-trans _ _ _ _ _ (Reports-trans _ _ _ _ _ (Reports-trans _ _ _ _ _ c.write_error_head.ensures.head c.text.ensures.reports) c.text-2.ensures.reports) c.text-3.ensures.reports;
 }

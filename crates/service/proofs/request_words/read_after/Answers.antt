@@ -5,7 +5,7 @@ use Rattle.service.specs.Requests.{AreSpotWords, AreAfterWords}
 use Rattle.service.proofs.Words.{Words, texts}
 use Rattle.service.proofs.request_words.read_after.Goals as goal
 
--- words of which those behind the first name no spot are no `after PEER PREFIX`
+-- words of which those after the first name no spot are no `after PEER PREFIX`
 none : (words named : Words) (word : Bor (List ℕ)) (after : Option Spot) → words ≡ word ∷ named → ((spot : Spot) → AreSpotWords (texts named) spot → ⊥) → AreAfterWords (texts words) after → ⊥
 none words named word None is refused h = let empty = ap texts is in absurd cc
 none words named word (Some spot) is refused h =

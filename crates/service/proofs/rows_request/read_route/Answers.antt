@@ -5,7 +5,7 @@ use Rattle.service.specs.Requests.{AreSpotWords, AreRouteWords}
 use Rattle.service.proofs.Words.{rest_of}
 use Rattle.service.proofs.rows_request.read_route.Goals as goal
 
--- where the words behind `route` name no spot, all of them ask for no route
+-- where the words after `route` name no spot, all of them ask for no route
 none : (words named : List (List ℕ)) (r : Result Spot BadText) → words ≡ codes "route" ∷ named
     → OnErr r ((spot : Spot) → AreSpotWords named spot → ⊥) → OnErr r ((spot : Spot) → AreRouteWords words spot → ⊥)
 none words named (Ok spot) is h = tt

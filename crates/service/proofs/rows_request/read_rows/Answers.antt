@@ -9,4 +9,4 @@ returns-in_err-moment-clause-none c =
     let p = err_from_is_err_and c.from_residual.result c.from_residual.ensures.1 in
     rw p.1 (λ q h.
     c.in_err-moment.ensures.none q.moment
-    (subst (λ (t : List ℕ). IsMomentText t q.moment) (sym (second_word c.args.words.now c.in-Some.behind.now c.in-Some-split_first.wanted.now _ h.moment c.in-Some-split_first.text.now h.wanted c.in-Some.ensures.found c.in-Some-split_first.ensures.cases.0 h.are)) h.moment_is))
+    (subst (λ (t : List ℕ). IsMomentText t q.moment) (sym (second_word c.args.words.now c.in-Some.beyond.now c.in-Some-split_first.asked.now _ h.moment c.in-Some-split_first.text.now h.asked c.in-Some.ensures.found c.in-Some-split_first.ensures.cases.0 h.are)) h.moment_is))

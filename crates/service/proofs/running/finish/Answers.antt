@@ -17,6 +17,6 @@ returns g c =
             let least = few c.args.ended in
             omega (arith, first, one, m, least);
         quiet = written.quiet;
-        told = written.told;
+        reported = written.reported;
       };
     }

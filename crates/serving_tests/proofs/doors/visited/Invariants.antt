@@ -2,5 +2,5 @@ use Rattle.board.specs.Opened.{name_of}
 use Rattle.serving_tests.proofs.doors.visited.Given as goal
 
 -- the board that was opened
-abbrev pub ghosts-serve_behind : goal.ghosts-serve_behind
-ghosts-serve_behind g a = record { table = name_of a.opened }
+abbrev pub ghosts-serve_after : goal.ghosts-serve_after
+ghosts-serve_after g a = record { table = name_of a.opened }

@@ -8,8 +8,8 @@ use Rattle.query_threads.specs.declared.refusal.AdmitError.{AdmitError as AdmitR
 use Rattle.disk_archive.specs.Archives.{is_down, settings_of}
 use Rattle.shared_archive.proofs.Serving.{crowded, here, honest_of, not_taken, number_of, on_same_blocks, only_full, same_blocks, taken}
 use Rattle.query_threads.specs.Troubles.{OnAdmitTrouble}
-use Rattle.shared_archive.specs.Told.{Tells}
-use Rattle.shared_archive.proofs.Telling.{admit_tells}
+use Rattle.shared_archive.specs.Reported.{Reports}
+use Rattle.shared_archive.proofs.Reporting.{admit_reports}
 use Rattle.shared_archive.proofs.calls.admit.Goals as goal
 
 pub returns-in-Ok-clause-done : goal.returns-in-Ok-clause-done
@@ -48,10 +48,10 @@ returns-in-Err-clause-done g c = λ p k.
     )
 
 pub returns-in-Err-clause-full : goal.returns-in-Err-clause-full
-returns-in-Err-clause-full g c = λ p k told.
+returns-in-Err-clause-full g c = λ p k reported.
     let a = c.args.archive.now in
     let h = p.history in
-    let full = only_full c.in-Err.refusal (sym c.admit_refusal.ensures.why ∙ (let t = told in search (rules, t))) in
+    let full = only_full c.in-Err.refusal (sym c.admit_refusal.ensures.why ∙ (let t = reported in search (rules, t))) in
     let is = (c.in-Err.ensures.intake_full (honest_of a p k) h (λ _. k.goes_on)).0 (ap Err full) in
     crowded a h c.args.collector c.args.batch.now is.3
 
@@ -59,5 +59,5 @@ pub returns-in-Err-clause-trouble : goal.returns-in-Err-clause-trouble
 returns-in-Err-clause-trouble g c =
     let a = c.args.archive.now in
     let e = c.in-Err.ensures in
-    subst (λ (r : AdmitRefusal). OnAdmitTrouble (λ t. Tells a t c.admit.new.self) r) (sym c.admit_refusal.ensures.why)
-    (admit_tells a c.admit.new.self c.in-Err.refusal e.recovery e.counted e.falls (λ honest h holds page is. e.undamaged honest h holds page (ap Err is)))
+    subst (λ (r : AdmitRefusal). OnAdmitTrouble (λ t. Reports a t c.admit.new.self) r) (sym c.admit_refusal.ensures.why)
+    (admit_reports a c.admit.new.self c.in-Err.refusal e.recovery e.counted e.falls (λ honest h holds page is. e.undamaged honest h holds page (ap Err is)))

@@ -5,8 +5,8 @@ use Rattle.shared_archive.proofs.Blocks.{listed}
 use Rattle.query_threads.specs.Troubles.{BlamesNone}
 use Rattle.query_threads.specs.declared.refusal.Trouble.{Trouble}
 use Rattle.shared_archive.proofs.Serving.{applying_blames_none, honest_of, more_blocks, moves_on, moves_some, on_more_blocks, right_of}
-use Rattle.shared_archive.specs.Told.{Tells}
-use Rattle.shared_archive.proofs.Telling.{apply_tells}
+use Rattle.shared_archive.specs.Reported.{Reports}
+use Rattle.shared_archive.proofs.Reporting.{apply_reports}
 use Rattle.shared_archive.proofs.calls.apply_step.Goals as goal
 
 pub returns-in-Ok-Applied-clause-done : goal.returns-in-Ok-Applied-clause-done
@@ -55,6 +55,6 @@ pub returns-in-Err-clause-trouble : goal.returns-in-Err-clause-trouble
 returns-in-Err-clause-trouble g c =
     let a = c.args.archive.now in
     let e = c.in-Err.ensures in
-    subst (λ (t : Trouble). Tells a t c.apply_step.new.self) (sym c.apply_trouble.ensures.why)
-    (apply_tells a c.apply_step.new.self c.in-Err.refusal e.recovery e.failed e.falls (λ honest h holds is. e.counter_full honest h holds (ap Err is)) (λ is. e.pages_full (ap Err is))
+    subst (λ (t : Trouble). Reports a t c.apply_step.new.self) (sym c.apply_trouble.ensures.why)
+    (apply_reports a c.apply_step.new.self c.in-Err.refusal e.recovery e.failed e.falls (λ honest h holds is. e.counter_full honest h holds (ap Err is)) (λ is. e.pages_full (ap Err is))
     (λ honest pages has is. e.too_high honest pages has (ap Err is)) (λ honest is. e.full honest (ap Err is)) (λ honest h holds page is. e.sound honest h holds page (ap Err is)))

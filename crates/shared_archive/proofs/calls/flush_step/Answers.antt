@@ -3,8 +3,8 @@ use Rattle.route_meaning.proofs.api.Beginning.{Begins-refl}
 use Rattle.query_threads.specs.Troubles.{IsOutside}
 use Rattle.query_threads.specs.declared.refusal.Trouble.{Trouble}
 use Rattle.shared_archive.proofs.Serving.{flushing_is_outside, honest_of, on_same_blocks, same_blocks}
-use Rattle.shared_archive.specs.Told.{Tells}
-use Rattle.shared_archive.proofs.Telling.{flush_tells}
+use Rattle.shared_archive.specs.Reported.{Reports}
+use Rattle.shared_archive.proofs.Reporting.{flush_reports}
 use Rattle.shared_archive.proofs.calls.flush_step.Goals as goal
 
 pub returns-in-Ok-Flushed-clause-done : goal.returns-in-Ok-Flushed-clause-done
@@ -41,7 +41,7 @@ pub returns-in-Err-clause-trouble : goal.returns-in-Err-clause-trouble
 returns-in-Err-clause-trouble g c =
     let a = c.args.archive.now in
     let e = c.in-Err.ensures in
-    subst (λ (t : Trouble). Tells a t c.flush_step.new.self) (sym c.flush_trouble.ensures.why) (flush_tells a c.flush_step.new.self c.in-Err.refusal e.recovery e.counted)
+    subst (λ (t : Trouble). Reports a t c.flush_step.new.self) (sym c.flush_trouble.ensures.why) (flush_reports a c.flush_step.new.self c.in-Err.refusal e.recovery e.counted)
 
 pub returns-in-Ok-Flushed-clause-flushes : goal.returns-in-Ok-Flushed-clause-flushes
 returns-in-Ok-Flushed-clause-flushes g c = c.in-Ok-Flushed.ensures.flushed c.in-Ok-Flushed.field-0-is

@@ -7,8 +7,8 @@ use Rattle.query_threads.specs.declared.refusal.MarkError.{MarkError as MarkRefu
 use Rattle.disk_archive.specs.Archives.{is_down, settings_of}
 use Rattle.shared_archive.proofs.Serving.{here, honest_of, not_marked, number_of, on_same_blocks, same_blocks}
 use Rattle.query_threads.specs.Troubles.{OnMarkTrouble}
-use Rattle.shared_archive.specs.Told.{Tells}
-use Rattle.shared_archive.proofs.Telling.{mark_tells}
+use Rattle.shared_archive.specs.Reported.{Reports}
+use Rattle.shared_archive.proofs.Reporting.{mark_reports}
 use Rattle.shared_archive.proofs.calls.mark.Goals as goal
 
 pub returns-in-Ok-clause-done : goal.returns-in-Ok-clause-done
@@ -43,4 +43,4 @@ pub returns-in-Err-clause-trouble : goal.returns-in-Err-clause-trouble
 returns-in-Err-clause-trouble g c =
     let a = c.args.archive.now in
     let e = c.in-Err.ensures in
-    subst (λ (r : MarkRefusal). OnMarkTrouble (λ t. Tells a t c.mark.new.self) r) (sym c.mark_refusal.ensures.why) (mark_tells a c.mark.new.self c.in-Err.refusal e.recovery e.counted e.falls)
+    subst (λ (r : MarkRefusal). OnMarkTrouble (λ t. Reports a t c.mark.new.self) r) (sym c.mark_refusal.ensures.why) (mark_reports a c.mark.new.self c.in-Err.refusal e.recovery e.counted e.falls)

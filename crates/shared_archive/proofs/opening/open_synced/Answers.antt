@@ -6,9 +6,9 @@ use Rattle.query_threads.specs.Looks.{AreTheSettled}
 use Rattle.query_threads.specs.declared.refusal.Trouble.{Trouble}
 use Rattle.disk_archive.specs.Archives.{is_down}
 use Rattle.disk_archive.specs.Sites.{Site}
-use Rattle.shared_archive.specs.Carried.{CarriesPast}
+use Rattle.shared_archive.specs.Represented.{RepresentsPast}
 use Rattle.shared_archive.specs.Reopened.{Fails}
-use Rattle.shared_archive.proofs.Renewing.{carried_on, open_fails, rest_reads}
+use Rattle.shared_archive.proofs.Renewing.{represented_on, open_fails, rest_reads}
 use Rattle.shared_archive.proofs.opening.open_synced.Goals as goal
 
 pub returns-in-Ok-clause-opened : goal.returns-in-Ok-clause-opened
@@ -17,9 +17,9 @@ returns-in-Ok-clause-opened g c settled p r =
     let k = rest_reads g.E.EraseDisk once c.args.disks c.args.ring p r in
     let e = c.in-Ok.ensures in
     let q : Past = record { history = k.0; blocks = p.blocks } in
-    let carried = carried_on c.in-Ok.archive k.0 p c.args.disks.once.value (once.model c.args.disks.pen) (e.opened r.erasable r.burnable r.site k.0 k.2) e.disk (e.unburnt r.burnable) r.blocks in
+    let represented = represented_on c.in-Ok.archive k.0 p c.args.disks.once.value (once.model c.args.disks.pen) (e.opened r.erasable r.burnable r.site k.0 k.2) e.disk (e.unburnt r.burnable) r.blocks in
     let up = (e.opened r.erasable r.burnable r.site k.0 k.2).maps.keeps.usable in
-    IfOk-weaker c.with_ring.result _ _ (λ x same. (ap is_down same ∙ up, q, k.1, refl, subst (λ y. CarriesPast y q) (sym same) carried)) c.with_ring.ensures.same
+    IfOk-weaker c.with_ring.result _ _ (λ x same. (ap is_down same ∙ up, q, k.1, refl, subst (λ y. RepresentsPast y q) (sym same) represented)) c.with_ring.ensures.same
 
 pub returns-in-Ok-clause-kept : goal.returns-in-Ok-clause-kept
 returns-in-Ok-clause-kept g c settled p r =

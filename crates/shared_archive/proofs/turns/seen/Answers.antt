@@ -4,13 +4,13 @@ use Rattle.query_threads.specs.Looks.{AreTheSettled}
 use Rattle.std.proofs.Common.{ℕ, List, Option, inr, refl, subst, sym}
 use Rattle.shared_archive.proofs.turns.seen.Goals as goal
 
-pub returns-in-Ok-clause-carries : goal.returns-in-Ok-clause-carries
-returns-in-Ok-clause-carries g c = λ p k.
+pub returns-in-Ok-clause-represents : goal.returns-in-Ok-clause-represents
+returns-in-Ok-clause-represents g c = λ p k.
     let honest = honest_of c.args.archive.now p k in
     same_blocks c.args.archive.now p k c.seen.new.self p.history c.seen.ensures.disk (c.seen.ensures.blocks honest) (c.seen.ensures.holds p.history (λ _. k.goes_on) (c.seen.ensures.honest.0 honest))
 
-pub returns-in-Err-clause-carries : goal.returns-in-Err-clause-carries
-returns-in-Err-clause-carries g c = λ p k.
+pub returns-in-Err-clause-represents : goal.returns-in-Err-clause-represents
+returns-in-Err-clause-represents g c = λ p k.
     let honest = honest_of c.args.archive.now p k in
     same_blocks c.args.archive.now p k c.seen.new.self p.history c.seen.ensures.disk (c.seen.ensures.blocks honest) (c.seen.ensures.holds p.history (λ _. k.goes_on) (c.seen.ensures.honest.0 honest))
 

@@ -4,7 +4,7 @@ use Rattle.std.proofs.lemmas.Result.{err_from_is_err_and}
 use Rattle.service.specs.Turns.{turns_for}
 use Rattle.service.specs.declared.limits.BatchLimits.{BatchLimits}
 use Rattle.shared_feed.specs.SharedFeeds.{limits_of}
-use Rattle.shared_feed.proofs.Following.{behind_none}
+use Rattle.shared_feed.proofs.Following.{after_none}
 use Rattle.shared_feed.proofs.GivingUp.{stops_last}
 use Rattle.shared_feed.proofs.Streams.{reads_none, all_taken_in}
 use Rattle.shared_feed.proofs.Limits.{one_fits, few_fit}
@@ -19,12 +19,12 @@ returns g c = record {
       let v = c.args.pass.now in
       let was = c.args.out.now in
       let new = c.new-feeding.ensures in
-      let begun = reads_none p k limit v c.new-framer.result c.new-feeding.result v was c.new-framer.ensures.empty (behind_none p k limit v c.new-feeding.result was new.collector (new.limit ∙ c.limits_of.ensures.limit ∙ ap (limits_of c.args.limit) c.ring.ensures) new.fed new.none new.empty new.octets new.counts (one_fits c.args.limit c.args.shared.now.ring) (few_fit c.args.limit c.args.shared.now.ring)) in
+      let begun = reads_none p k limit v c.new-framer.result c.new-feeding.result v was c.new-framer.ensures.empty (after_none p k limit v c.new-feeding.result was new.collector (new.limit ∙ c.limits_of.ensures.limit ∙ ap (limits_of c.args.limit) c.ring.ensures) new.fed new.none new.empty new.octets new.counts (one_fits c.args.limit c.args.shared.now.ring) (few_fit c.args.limit c.args.shared.now.ring)) in
       let read = c.in_ok-take_stream.ensures.read k limit v [] was begun in (
         read.0,
         read.1,
         all_taken_in p k limit v read.0 c.take_stream.new.framer c.cut_of-cut.result c.take_stream.new.self c.offer_rest.new.self c.take_stream.new.pass c.offer_rest.new.pass was _ _ _
-            read.2 c.cut_of-cut.ensures.cut c.offer_rest.ensures.same (λ turns same d. c.in_ok-offer_rest.ensures.done k v turns was same d) c.tell_end.ensures.told,
+            read.2 c.cut_of-cut.ensures.cut c.offer_rest.ensures.same (λ turns same d. c.in_ok-offer_rest.ensures.done k v turns was same d) c.report_end.ensures.reported,
       );
   given_up = tt;
 }
@@ -38,7 +38,7 @@ returns-in_err-take_stream-clause-given_up g c =
     let v = c.args.pass.now in
     let was = c.args.out.now in
     let new = c.new-feeding.ensures in
-    let begun = reads_none p k limit v c.new-framer.result c.new-feeding.result v was c.new-framer.ensures.empty (behind_none p k limit v c.new-feeding.result was new.collector (new.limit ∙ c.limits_of.ensures.limit ∙ ap (limits_of c.args.limit) c.ring.ensures) new.fed new.none new.empty new.octets new.counts (one_fits c.args.limit c.args.shared.now.ring) (few_fit c.args.limit c.args.shared.now.ring)) in
+    let begun = reads_none p k limit v c.new-framer.result c.new-feeding.result v was c.new-framer.ensures.empty (after_none p k limit v c.new-feeding.result was new.collector (new.limit ∙ c.limits_of.ensures.limit ∙ ap (limits_of c.args.limit) c.ring.ensures) new.fed new.none new.empty new.octets new.counts (one_fits c.args.limit c.args.shared.now.ring) (few_fit c.args.limit c.args.shared.now.ring)) in
     rw e.1 (rw e.2 (c.in_err-take_stream.ensures.given_up k limit v [] was begun))
 
 pub returns-in_err-offer_rest-clause-given_up : goal.returns-in_err-offer_rest-clause-given_up
@@ -50,12 +50,12 @@ returns-in_err-offer_rest-clause-given_up g c =
     let v = c.args.pass.now in
     let was = c.args.out.now in
     let new = c.new-feeding.ensures in
-    let begun = reads_none p k limit v c.new-framer.result c.new-feeding.result v was c.new-framer.ensures.empty (behind_none p k limit v c.new-feeding.result was new.collector (new.limit ∙ c.limits_of.ensures.limit ∙ ap (limits_of c.args.limit) c.ring.ensures) new.fed new.none new.empty new.octets new.counts (one_fits c.args.limit c.args.shared.now.ring) (few_fit c.args.limit c.args.shared.now.ring)) in
+    let begun = reads_none p k limit v c.new-framer.result c.new-feeding.result v was c.new-framer.ensures.empty (after_none p k limit v c.new-feeding.result was new.collector (new.limit ∙ c.limits_of.ensures.limit ∙ ap (limits_of c.args.limit) c.ring.ensures) new.fed new.none new.empty new.octets new.counts (one_fits c.args.limit c.args.shared.now.ring) (few_fit c.args.limit c.args.shared.now.ring)) in
     let read = c.in_ok-take_stream.ensures.read k limit v [] was begun in
     let r = read.2.1.reads in
     rw e.1 (rw e.2 (
       read.0,
       read.1,
       stops_last p k limit v read.0 _ c.take_stream.new.self c.take_stream.new.pass c.offer_rest.new.pass was _ _ _ r
-          (c.in_err-offer_rest.ensures.given_up k v (turns_for limit 0 [] r.behind.results) was r.behind.collector r.behind.counted r.behind.done),
+          (c.in_err-offer_rest.ensures.given_up k v (turns_for limit 0 [] r.beyond.results) was r.beyond.collector r.beyond.counted r.beyond.done),
     ))

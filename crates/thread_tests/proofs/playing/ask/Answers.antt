@@ -7,4 +7,4 @@ pub returns-in-Err-clause-reply : goal.returns-in-Err-clause-reply
 returns-in-Err-clause-reply g c = λ named. subst IsOutside (sym c.in-Err.ensures.memory) tt
 
 pub returns-clause-reply : goal.returns-clause-reply
-returns-clause-reply g c = λ named. reply_over c.ask.new.pass.past.history c.args.query c.ask.result (c.ask.ensures.answer named) (c.ask.ensures.settled named) (c.ask.ensures.told named)
+returns-clause-reply g c = λ named. reply_over c.ask.new.pass.past.history c.args.query c.ask.result (c.ask.ensures.answer named) (c.ask.ensures.settled named) (c.ask.ensures.reported named)

@@ -4,8 +4,8 @@ use Rattle.interleaving_core.specs.Steps.{empty}
 use Rattle.thread_tests.proofs.Starting.{only_empty}
 use Rattle.thread_tests.proofs.sharing.share_new.Goals as goal
 
-pub share-requires-clause-carried : goal.share-requires-clause-carried
-share-requires-clause-carried g c κs within = (empty c.args.settings.collectors, inl (c.in-Ok.ensures.created tt tt))
+pub share-requires-clause-represented : goal.share-requires-clause-represented
+share-requires-clause-represented g c κs within = (empty c.args.settings.collectors, inl (c.in-Ok.ensures.created tt tt))
 
 pub returns-in-Ok : goal.returns-in-Ok
 returns-in-Ok g c = record {

@@ -3,9 +3,9 @@ use Rattle.route_meaning.specs.declared.question.EventsQuestion.{EventsQuestion}
 use Rattle.version_model.specs.Entries.{versions_of}
 use Rattle.version_model.specs.Looks.{IsPart}
 use Rattle.tsb_walk.specs.Looked.{IsParted}
-use Rattle.route_history.specs.Spans.{TellsEvents}
-use Rattle.tree_questions.specs.inner.Telling.{TellsOn}
-use Rattle.tree_questions.proofs.Turned.{events_told, rose_at}
+use Rattle.route_history.specs.Spans.{ReportsEvents}
+use Rattle.tree_questions.specs.inner.Reporting.{ReportsOn}
+use Rattle.tree_questions.proofs.Turned.{events_reported, rose_at}
 use Rattle.tree_questions.proofs.events_turns.events_turn.Goals as goal
 
 pub returns-in_err-route-clause-blames : goal.returns-in_err-route-clause-blames
@@ -19,24 +19,24 @@ returns-in_err-session-clause-blames g c = λ store all r.
     search (rules, b)
 
 pub returns-in_ok-take_parts-in-Here-Here-clause-turn : goal.returns-in_ok-take_parts-in-Here-Here-clause-turn
-returns-in_ok-take_parts-in-Here-Here-clause-turn g c = λ store all ps r t told.
+returns-in_ok-take_parts-in-Here-Here-clause-turn g c = λ store all ps r t reported.
     let from = c.in-Some.from in
     let h = c.in-Here-Here in
     let one = subst (IsParted store.blocks all c.prefix-route_key.result from) h.is-0 (c.in_ok-route.ensures.part store all r) in
     let two = subst (IsParted store.blocks all c.session-session_key.result from) h.is-1 (c.in_ok-session.ensures.part store all (c.look.ensures.stays store all r)) in
-    let a = subst (λ (n : ℕ). IsPart all n from (versions_of h.route.entries.items) h.route.told) c.prefix-route_key.ensures.key one in
-    let b = subst (λ (n : ℕ). IsPart all n from (versions_of h.session.entries.items) h.session.told) c.session-session_key.ensures.key two in
-    let taken = c.in_ok-take_parts-in-Here-Here.ensures.taken from all ps c.in-Some.is t told a b in
-    let rose = rose_at c.args.cursor.now.at c.take_parts.new.self.at from c.in-Some.is (c.in_ok-take_parts-in-Here-Here.ensures.rose from c.in-Some.is (subst (TellsOn from) h.is-0 c.in_ok-route.ensures.onward) (subst (TellsOn from) h.is-1 c.in_ok-session.ensures.onward)) in
-    events_told store.blocks all ps c.args.cursor.now c.take_parts.new.self c.tell.new.cursor c.tell.result (c.tell.ensures.told all ps taken) c.tell.ensures.goes_on c.take_parts.ensures.question rose
+    let a = subst (λ (n : ℕ). IsPart all n from (versions_of h.route.entries.items) h.route.reported) c.prefix-route_key.ensures.key one in
+    let b = subst (λ (n : ℕ). IsPart all n from (versions_of h.session.entries.items) h.session.reported) c.session-session_key.ensures.key two in
+    let taken = c.in_ok-take_parts-in-Here-Here.ensures.taken from all ps c.in-Some.is t reported a b in
+    let rose = rose_at c.args.cursor.now.at c.take_parts.new.self.at from c.in-Some.is (c.in_ok-take_parts-in-Here-Here.ensures.rose from c.in-Some.is (subst (ReportsOn from) h.is-0 c.in_ok-route.ensures.onward) (subst (ReportsOn from) h.is-1 c.in_ok-session.ensures.onward)) in
+    events_reported store.blocks all ps c.args.cursor.now c.take_parts.new.self c.report.new.cursor c.report.result (c.report.ensures.reported all ps taken) c.report.ensures.goes_on c.take_parts.ensures.question rose
 
 pub returns-in_ok-take_parts-in-Here-Here-clause-gathered : goal.returns-in_ok-take_parts-in-Here-Here-clause-gathered
-returns-in_ok-take_parts-in-Here-Here-clause-gathered g c = λ store all ps r t told.
+returns-in_ok-take_parts-in-Here-Here-clause-gathered g c = λ store all ps r t reported.
     let from = c.in-Some.from in
     let h = c.in-Here-Here in
     let one = subst (IsParted store.blocks all c.prefix-route_key.result from) h.is-0 (c.in_ok-route.ensures.part store all r) in
     let two = subst (IsParted store.blocks all c.session-session_key.result from) h.is-1 (c.in_ok-session.ensures.part store all (c.look.ensures.stays store all r)) in
-    let a = subst (λ (n : ℕ). IsPart all n from (versions_of h.route.entries.items) h.route.told) c.prefix-route_key.ensures.key one in
-    let b = subst (λ (n : ℕ). IsPart all n from (versions_of h.session.entries.items) h.session.told) c.session-session_key.ensures.key two in
-    let taken = c.in_ok-take_parts-in-Here-Here.ensures.taken from all ps c.in-Some.is t told a b in
-    c.tell.ensures.gathered all ps (subst (λ (q : EventsQuestion). TellsEvents all ps q) (sym c.take_parts.ensures.question) t) taken
+    let a = subst (λ (n : ℕ). IsPart all n from (versions_of h.route.entries.items) h.route.reported) c.prefix-route_key.ensures.key one in
+    let b = subst (λ (n : ℕ). IsPart all n from (versions_of h.session.entries.items) h.session.reported) c.session-session_key.ensures.key two in
+    let taken = c.in_ok-take_parts-in-Here-Here.ensures.taken from all ps c.in-Some.is t reported a b in
+    c.report.ensures.gathered all ps (subst (λ (q : EventsQuestion). ReportsEvents all ps q) (sym c.take_parts.ensures.question) t) taken

@@ -3,7 +3,7 @@ use Rattle.once_store.specs.Readers.{reader_disk}
 use Rattle.route_meaning.specs.declared.question.EventsQuestion.{EventsQuestion}
 use Rattle.tsb_walk.proofs.Untouched.{reads_none, reads_then, reads_as}
 use Rattle.tsb_walk.proofs.Walking.{honest_on}
-use Rattle.route_history.specs.Spans.{TellsEvents}
+use Rattle.route_history.specs.Spans.{ReportsEvents}
 use Rattle.tree_questions.proofs.events_walk.events.Goals as goal
 
 pub loop-cursor-init : goal.loop-cursor-init
@@ -11,7 +11,7 @@ loop-cursor-init g c = record {
   pages = reads_none g.P.Pages c.args.pages.now ⊥ (λ never. never);
   stays = λ all r. r;
   question = c.start-cursor.ensures.question;
-  told = λ all ps r t. c.start-cursor.ensures.nothing all ps t;
+  reported = λ all ps r t. c.start-cursor.ensures.nothing all ps t;
   known = λ h. refl;
   disk = refl;
   capacity = refl;
@@ -27,7 +27,7 @@ loop-cursor-preserved g c =
       pages = reads_then g.P.Pages c.args.pages.now c.loop-cursor.pages c.take_look.new.pages ⊥ ⊥ i.pages (λ never. never) (reads_as g.P.Pages c.loop-cursor.pages c.take_look.new.pages _ ⊥ c.in_ok-goes_on.ensures.same (λ e. absurd (cc)) (λ never. absurd never));
       stays = λ all r. c.in_ok-goes_on.ensures.stays all (i.stays all r);
       question = c.in_ok-goes_on.ensures.question ∙ i.question;
-      told = λ all ps r t. c.in_ok-goes_on.ensures.told all ps (i.stays all r) (subst (λ (q : EventsQuestion). TellsEvents all ps q) (sym i.question) t) (i.told all ps r t);
+      reported = λ all ps r t. c.in_ok-goes_on.ensures.reported all ps (i.stays all r) (subst (λ (q : EventsQuestion). ReportsEvents all ps q) (sym i.question) t) (i.reported all ps r t);
       known = λ h. c.in_ok-goes_on.ensures.known (subst (λ d. H d c.loop-cursor.seen) (sym i.disk) (i.honest.0 h)) ∙ i.known h;
       disk = c.in_ok-goes_on.ensures.disk ∙ i.disk;
       capacity = c.in_ok-goes_on.ensures.capacity ∙ i.capacity;

@@ -5,13 +5,13 @@ use Rattle.tree_questions.specs.inner.Left.{stamps_left}
 use Rattle.tree_questions.proofs.Going.{less_stamps}
 use Rattle.tree_questions.proofs.events_walk.take_look.Goals as goal
 
-pub returns-clause-told : goal.returns-clause-told
-returns-clause-told g c = λ all ps r t told.
+pub returns-clause-reported : goal.returns-clause-reported
+returns-clause-reported g c = λ all ps r t reported.
     let q = c.args.cursor.now.question in
     let r' = c.part_from.ensures.stays all r in
-    let a = subst (λ (n : ℕ). IsPart all n c.in-Some.from (versions_of c.in_ok-route.route.entries.items) c.in_ok-route.route.told) c.prefix-route_key.ensures.key (c.in_ok-route.ensures.part all r) in
-    let b = subst (λ (n : ℕ). IsPart all n c.in-Some.from (versions_of c.in_ok-session.session.entries.items) c.in_ok-session.session.told) c.session-session_key.ensures.key (c.in_ok-session.ensures.part all r') in
-    c.in_ok-take_parts.ensures.taken c.in-Some.from all ps c.in-Some.is t told a b
+    let a = subst (λ (n : ℕ). IsPart all n c.in-Some.from (versions_of c.in_ok-route.route.entries.items) c.in_ok-route.route.reported) c.prefix-route_key.ensures.key (c.in_ok-route.ensures.part all r) in
+    let b = subst (λ (n : ℕ). IsPart all n c.in-Some.from (versions_of c.in_ok-session.session.entries.items) c.in_ok-session.session.reported) c.session-session_key.ensures.key (c.in_ok-session.ensures.part all r') in
+    c.in_ok-take_parts.ensures.taken c.in-Some.from all ps c.in-Some.is t reported a b
 
 pub returns-clause-onward : goal.returns-clause-onward
 returns-clause-onward g c = λ e.

@@ -3,7 +3,7 @@ use Rattle.once_store.specs.Readers.{reader_disk}
 use Rattle.route_meaning.specs.declared.question.RowsQuestion.{RowsQuestion}
 use Rattle.tsb_walk.proofs.Untouched.{reads_none, reads_then, reads_as}
 use Rattle.tsb_walk.proofs.Walking.{honest_on}
-use Rattle.route_history.specs.Walks.{Tells}
+use Rattle.route_history.specs.Walks.{Reports}
 use Rattle.tree_questions.proofs.rows_walk.rows.Goals as goal
 
 pub loop-cursor-init : goal.loop-cursor-init
@@ -27,7 +27,7 @@ loop-cursor-preserved g c =
       pages = reads_then g.P.Pages c.args.pages.now c.loop-cursor.pages c.take_look.new.pages ⊥ ⊥ i.pages (λ never. never) (reads_as g.P.Pages c.loop-cursor.pages c.take_look.new.pages _ ⊥ c.in_ok-goes_on.ensures.same (λ e. absurd (cc)) (λ never. absurd never));
       stays = λ all r. c.in_ok-goes_on.ensures.stays all (i.stays all r);
       question = c.in_ok-goes_on.ensures.question ∙ i.question;
-      gathered = λ all ps r t. c.in_ok-goes_on.ensures.gathered all ps (i.stays all r) (subst (λ (q : RowsQuestion). Tells all ps q.moment) (sym i.question) t) (i.gathered all ps r t);
+      gathered = λ all ps r t. c.in_ok-goes_on.ensures.gathered all ps (i.stays all r) (subst (λ (q : RowsQuestion). Reports all ps q.moment) (sym i.question) t) (i.gathered all ps r t);
       known = λ h. c.in_ok-goes_on.ensures.known (subst (λ d. H d c.loop-cursor.seen) (sym i.disk) (i.honest.0 h)) ∙ i.known h;
       disk = c.in_ok-goes_on.ensures.disk ∙ i.disk;
       capacity = c.in_ok-goes_on.ensures.capacity ∙ i.capacity;

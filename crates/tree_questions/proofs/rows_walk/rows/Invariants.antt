@@ -5,7 +5,7 @@ use Rattle.route_meaning.specs.Merged.{Placed}
 use Rattle.version_model.specs.Versions.{Version}
 use Rattle.tsb_walk.specs.Refusals.{OnlyReads}
 use Rattle.route_history.specs.Fronts.{front_number}
-use Rattle.route_history.specs.Walks.{Tells, Gathered, left_of}
+use Rattle.route_history.specs.Walks.{Reports, Gathered, left_of}
 use Rattle.tree_questions.specs.Reading.{ReadsTree}
 use Rattle.tree_questions.proofs.rows_walk.rows.Given as goal
 
@@ -14,7 +14,7 @@ invariant-loop-cursor g l = record {
   pages : OnlyReads g.P.Pages l.initial.pages l.pages ⊥;
   stays : (all : List Version) → ReadsTree g.P.Pages l.initial.pages g.O.OnceDisk l.initial.reader l.initial.seen l.root l.burnt all → ReadsTree g.P.Pages l.pages g.O.OnceDisk l.reader l.seen l.root l.burnt all;
   question : l.cursor.question ≡ l.fn.question;
-  gathered : (all : List Version) (ps : List (Placed Admitted)) → ReadsTree g.P.Pages l.initial.pages g.O.OnceDisk l.initial.reader l.initial.seen l.root l.burnt all → Tells all ps l.fn.question.moment → Gathered all ps l.cursor;
+  gathered : (all : List Version) (ps : List (Placed Admitted)) → ReadsTree g.P.Pages l.initial.pages g.O.OnceDisk l.initial.reader l.initial.seen l.root l.burnt all → Reports all ps l.fn.question.moment → Gathered all ps l.cursor;
   known : g.O.OnceDisk.honest_seen (reader_disk l.initial.reader) l.initial.seen → g.O.OnceDisk.known l.seen ≡ g.O.OnceDisk.known l.initial.seen;
   disk : reader_disk l.reader ≡ reader_disk l.initial.reader;
   capacity : capacity_of l.reader ≡ capacity_of l.initial.reader;

@@ -5,7 +5,7 @@ use Rattle.tsb_walk.specs.Answers.{reached_as}
 use Rattle.tsb_runs.specs.Runs.{IsRun}
 use Rattle.route_history.specs.Fronts.{front_number}
 use Rattle.route_history.specs.Stamps.{last_stamp}
-use Rattle.route_history.specs.Walks.{Tells}
+use Rattle.route_history.specs.Walks.{Reports}
 use Rattle.tree_questions.proofs.Going.{less_keys}
 use Rattle.tree_questions.proofs.rows_walk.take_look.Goals as goal
 
@@ -13,7 +13,7 @@ pub returns-clause-gathered : goal.returns-clause-gathered
 returns-clause-gathered g c = λ all ps r t gathered.
     let d = c.next_look.new.self in
     let same = c.next_look.ensures.question in
-    let t' : Tells all ps d.question.moment = subst (λ (q : RowsQuestion). Tells all ps q.moment) (sym same) t in
+    let t' : Reports all ps d.question.moment = subst (λ (q : RowsQuestion). Reports all ps q.moment) (sym same) t in
     let now = c.next_look.ensures.gathered all ps t gathered in
     let reached = c.in_ok-reached.ensures.next all r in
     let then = c.next_key.ensures.stays all r in

@@ -5,7 +5,7 @@ use Rattle.version_model.specs.Ranges.{high_or}
 use Rattle.tsb_walk.specs.Answers.{reached_as}
 use Rattle.route_history.specs.Fronts.{front_number}
 use Rattle.route_history.specs.Stamps.{last_stamp}
-use Rattle.route_history.specs.Walks.{Tells, Gathered, IsSame, Rose}
+use Rattle.route_history.specs.Walks.{Reports, Gathered, IsSame, Rose}
 use Rattle.tree_questions.specs.inner.Taking.{IsOnward}
 use Rattle.tree_questions.proofs.Turned.{rows_same}
 use Rattle.tree_questions.proofs.Onward.{onward_over, onward_back, onward_on, onward_rose, from_below, none_from, either_way, ok_weaker}
@@ -30,7 +30,7 @@ returns-in-Some-past_from-clause-taken c = λ from all ps on t gathered none.
     let at = c.in-Some.look.from in
     let s = last_stamp c.args.cursor.now.question.moment in
     let same = c.next_look.ensures.question in
-    let t' : Tells all ps d.question.moment = subst (λ (q : RowsQuestion). Tells all ps q.moment) (sym same) t in
+    let t' : Reports all ps d.question.moment = subst (λ (q : RowsQuestion). Reports all ps q.moment) (sym same) t in
     let now = c.next_look.ensures.gathered all ps t gathered in
     let up : from ≤ at = from_below from c.args.last.now (front_number c.args.cursor.now.front) at on c.in-Some.ensures.onward (c.is_above.ensures.0 (cc c.if-not-is_above.false)) in
     let past : IsReached all s at (reached_as c.in-Some-past_from.reached) = c.in-Some-past_from.ensures.past all s (none_from all s from at (high_or c.args.high.now) up none) in

@@ -5,7 +5,7 @@ use Rattle.version_model.specs.Versions.{found_at}
 use Rattle.version_model.specs.Looks.{IsReached, At as ReachAt}
 use Rattle.route_history.specs.Fronts.{front_number}
 use Rattle.route_history.specs.Stamps.{last_stamp}
-use Rattle.route_history.specs.Walks.{Tells, Gathered, IsSame, Rose}
+use Rattle.route_history.specs.Walks.{Reports, Gathered, IsSame, Rose}
 use Rattle.tree_questions.specs.inner.Taking.{IsOnward}
 use Rattle.tree_questions.proofs.Turned.{rows_same}
 use Rattle.tree_questions.proofs.Onward.{onward_over, onward_back, onward_on, onward_rose, from_below, reached_from, either_way, ok_weaker}
@@ -37,7 +37,7 @@ returns-clause-taken c = λ from all ps on t gathered reached.
     let key = c.args.row.key in
     let found = found_at c.args.row.found.stamp c.args.row.found.value.items in
     let same = c.next_look.ensures.question in
-    let t' : Tells all ps d.question.moment = subst (λ (q : RowsQuestion). Tells all ps q.moment) (sym same) t in
+    let t' : Reports all ps d.question.moment = subst (λ (q : RowsQuestion). Reports all ps q.moment) (sym same) t in
     let now = c.next_look.ensures.gathered all ps t gathered in
     let up : from ≤ at = from_below from c.args.last.now (front_number c.args.cursor.now.front) at on c.in-Some.ensures.onward (c.is_above.ensures.0 (cc c.if-not-is_above.false)) in
     let above : at ≤ key = elim (cases_lt key at) [ inl lt ↦ absurd (cc (c.is_past.ensures.1 lt, c.if-is_past.false)) | inr ge ↦ ge ] in

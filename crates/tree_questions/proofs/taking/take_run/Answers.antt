@@ -8,7 +8,7 @@ use Rattle.tsb_runs.specs.declared.live.LiveKey.{LiveKey}
 use Rattle.tsb_runs.specs.Runs.{AreLive}
 use Rattle.route_history.specs.Fronts.{front_number}
 use Rattle.route_history.specs.Stamps.{last_stamp}
-use Rattle.route_history.specs.Walks.{Tells}
+use Rattle.route_history.specs.Walks.{Reports}
 use Rattle.tree_questions.proofs.Onward.{onward_on}
 use Rattle.tree_questions.proofs.taking.take_run.Goals as goal
 
@@ -23,7 +23,7 @@ returns-then-not-take_row-clause-taken c = λ from all ps on t gathered run.
     let same = c.loop-row.invariant.question in
     let so = c.loop-row.invariant.taken from all ps on t gathered run in
     let live = subst (AreLive all s so.0 (high_or c.args.run.high)) c.in-Some.ensures.steps.0 so.3 in
-    let t' = subst (λ (q : RowsQuestion). Tells all ps q.moment) (sym same) t in
+    let t' = subst (λ (q : RowsQuestion). Reports all ps q.moment) (sym same) t in
     c.take_row.ensures.taken so.0 all ps so.1 t' so.2 (subst (λ (q : RowsQuestion). IsReached all (last_stamp q.moment) so.0 (ReachAt row.key (found_at row.found.stamp row.found.value.items))) (sym same) (live.0, live.2, live.3))
 
 pub loop-row-preserved : goal.loop-row-preserved
@@ -36,7 +36,7 @@ loop-row-preserved c = record {
       let same = c.loop-row.invariant.question in
       let so = c.loop-row.invariant.taken from all ps on t gathered run in
       let live = subst (AreLive all s so.0 (high_or c.args.run.high)) c.in-Some.ensures.steps.0 so.3 in
-      let t' = subst (λ (q : RowsQuestion). Tells all ps q.moment) (sym same) t in
+      let t' = subst (λ (q : RowsQuestion). Reports all ps q.moment) (sym same) t in
       let taken = c.take_row.ensures.taken so.0 all ps so.1 t' so.2 (subst (λ (q : RowsQuestion). IsReached all (last_stamp q.moment) so.0 (ReachAt row.key (found_at row.found.stamp row.found.value.items))) (sym same) (live.0, live.2, live.3)) in
       (suc row.key, refl, taken, live.4);
 }
@@ -50,5 +50,5 @@ returns-clause-taken c = λ from all ps on t gathered run.
     let step = c.in-None.ensures.steps in
     let gone : into_iter_items c.loop-row.row-iterator ≡ [] = no_rows (into_iter_items c.loop-row.row-iterator) (omega (arith, c.loop-row.row-iterator.rest.ok, step.0)) in
     let none : NoneWithin all s so.0 high = subst (AreLive all s so.0 high) gone so.3 in
-    let t' = subst (λ (q : RowsQuestion). Tells all ps q.moment) (sym same) t in
+    let t' = subst (λ (q : RowsQuestion). Reports all ps q.moment) (sym same) t in
     c.take_end.ensures.taken so.0 all ps so.1 t' so.2 (subst (λ (q : RowsQuestion). NoneWithin all (last_stamp q.moment) so.0 high) (sym same) none)

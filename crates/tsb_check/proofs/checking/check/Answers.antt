@@ -3,7 +3,7 @@ use Rattle.once_store.specs.Readers.{reader_disk}
 use Rattle.tsb_walk.specs.declared.error.NodeError.TheVariants.{BadNode, Damaged}
 use Rattle.tsb_walk.specs.declared.page_place.PagePlace.{PagePlace}
 use Rattle.tsb_check.specs.InUse.{AreInUse, IsUnusedUnder}
-use Rattle.tsb_check.specs.Pages.{TellsTree, IsBadUnder, IsUnknownUnder, IsDamagedUnder}
+use Rattle.tsb_check.specs.Pages.{ReportsTree, IsBadUnder, IsUnknownUnder, IsDamagedUnder}
 use Rattle.tsb_check.proofs.Standing.{none_bad, none_unknown_under, none_damaged_under}
 use Rattle.tsb_check.proofs.Checked.{all_counted}
 use Rattle.tsb_check.proofs.Used.{none_unused}
@@ -15,14 +15,14 @@ returns-clause-counted g c = λ start shown shows s all are keys tree well known
     let N = g.O.OnceDisk.block_count (reader_disk c.args.reader.now) in
     let one : c.in_ok-places.places.items ≡ c.args.root.now ∷ [] = search rules in
     all_counted shown s all are K N known c.args.root.now keys tree c.count_under.result
-    (subst (λ (ps : List PagePlace). IfOk c.count_under.result (λ n. TellsTree shown K N ps n ⊎ IsUnknownUnder shown K N ps)) one (c.count_under.ensures.checked start shown shows well))
+    (subst (λ (ps : List PagePlace). IfOk c.count_under.result (λ n. ReportsTree shown K N ps n ⊎ IsUnknownUnder shown K N ps)) one (c.count_under.ensures.checked start shown shows well))
 
 pub returns-clause-checked : goal.returns-clause-checked
 returns-clause-checked g c = λ start shown shows well.
     let K = g.O.OnceDisk.known c.args.seen.now in
     let N = g.O.OnceDisk.block_count (reader_disk c.args.reader.now) in
     let one : c.in_ok-places.places.items ≡ c.args.root.now ∷ [] = search rules in
-    subst (λ (ps : List PagePlace). IfOk c.count_under.result (λ n. TellsTree shown K N ps n ⊎ IsUnknownUnder shown K N ps)) one (c.count_under.ensures.checked start shown shows well)
+    subst (λ (ps : List PagePlace). IfOk c.count_under.result (λ n. ReportsTree shown K N ps n ⊎ IsUnknownUnder shown K N ps)) one (c.count_under.ensures.checked start shown shows well)
 
 pub returns-clause-bad : goal.returns-clause-bad
 returns-clause-bad g c = λ start shown shows page e.

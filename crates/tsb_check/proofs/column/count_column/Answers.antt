@@ -4,12 +4,12 @@ use Rattle.tsb_walk.specs.declared.error.NodeError.TheVariants.{BadNode, Damaged
 use Rattle.tsb_walk.specs.Refusals.{of_block}
 use Rattle.tsb_walk.proofs.Gathering.{of_damaged}
 use Rattle.tsb_check.specs.inner.Columns.{IsColumnAt}
-use Rattle.tsb_check.proofs.Columns.{tells_column, damaged_in, reads_in}
+use Rattle.tsb_check.proofs.Columns.{reports_column, damaged_in, reads_in}
 use Rattle.tsb_check.proofs.column.count_column.Goals as goal
 
 pub returns-clause-checked : goal.returns-clause-checked
 returns-clause-checked g c = λ start shown shows well.
-    tells_column shown (g.O.OnceDisk.known c.args.seen.now) (g.O.OnceDisk.block_count (reader_disk c.args.reader.now)) c.args.place.now c.in_ok-said.said c.in_ok-said.current c.in_ok-past.past c.saturating_add.result
+    reports_column shown (g.O.OnceDisk.known c.args.seen.now) (g.O.OnceDisk.block_count (reader_disk c.args.reader.now)) c.args.place.now c.in_ok-said.said c.in_ok-said.current c.in_ok-past.past c.saturating_add.result
     (c.in_ok-said.ensures.says start shown shows) c.saturating_add.ensures (c.in_ok-past.ensures.checked well)
 
 pub returns-in_err-past-clause-damaged : goal.returns-in_err-past-clause-damaged

@@ -20,7 +20,7 @@ pub returns-in_err-check_page-clause-bad : goal.returns-in_err-check_page-clause
 returns-in_err-check_page-clause-bad c = λ n e.
     let is : c.from_residual.result ≡ Err c.in_err-check_page.field-0.0 = search rules in
     let above = c.in_err-check_page.ensures.above in
-    let told = above.0 in
+    let reported = above.0 in
     let same : c.args.in_use.now.recorded_on ≡ n = cc in
     subst (λ (m : ℕ). IsColumnUnused c.args.in_use.now c.args.page c.args.said.now.parts.items c.args.said.now.current.page m) same (page_unused above.1)
 
@@ -28,7 +28,7 @@ pub returns-in_err-check_page-2-clause-bad : goal.returns-in_err-check_page-2-cl
 returns-in_err-check_page-2-clause-bad c = λ n e.
     let is : c.from_residual-in_err-check_page-2.result ≡ Err c.in_err-check_page-2.field-0.0 = search rules in
     let above = c.in_err-check_page-2.ensures.above in
-    let told = above.0 in
+    let reported = above.0 in
     let same : c.args.in_use.now.recorded_on ≡ n = cc in
     subst (λ (m : ℕ). IsColumnUnused c.args.in_use.now c.args.page c.args.said.now.parts.items c.args.said.now.current.page m) same (leaf_unused above.1)
 

@@ -23,32 +23,32 @@ loop-place-preserved g c =
     let H = g.O.OnceDisk.honest_seen in
     record {
       went = went_on g.O.OnceDisk c.args.places.items c.args.reader.now c.args.seen.now c.loop-place.reader c.loop-place.seen c.loop-place.left.items c.pop.new.self.items c.in-Some.place c.loop-place.count i.same i.disk i.went c.in-Some.ensures.items
-          c.told_at.new.reader c.told_at.new.seen c.take.new.left.items c.in_ok-count.count c.in_ok-told.told (λ well octets is. c.in_ok-told.ensures.told well octets is) (λ well octets is. c.told_at.ensures.reads well octets is) c.in_ok-count.ensures.taken;
-      same = λ h. c.told_at.ensures.same (subst (λ d. H d c.loop-place.seen) (sym i.disk) (i.honest.0 h)) ∙ i.same h;
-      disk = c.told_at.ensures.disk ∙ i.disk;
-      capacity = c.told_at.ensures.capacity ∙ i.capacity;
-      honest = honest_on H (reader_disk c.args.reader.now) (reader_disk c.loop-place.reader) c.args.seen.now c.loop-place.seen c.told_at.new.seen i.disk i.honest c.told_at.ensures.honest;
-      faults = c.in_ok-told.ensures.quiet (λ e. absurd (cc)) ∙ i.faults;
+          c.reported_at.new.reader c.reported_at.new.seen c.take.new.left.items c.in_ok-count.count c.in_ok-reported.reported (λ well octets is. c.in_ok-reported.ensures.reported well octets is) (λ well octets is. c.reported_at.ensures.reads well octets is) c.in_ok-count.ensures.taken;
+      same = λ h. c.reported_at.ensures.same (subst (λ d. H d c.loop-place.seen) (sym i.disk) (i.honest.0 h)) ∙ i.same h;
+      disk = c.reported_at.ensures.disk ∙ i.disk;
+      capacity = c.reported_at.ensures.capacity ∙ i.capacity;
+      honest = honest_on H (reader_disk c.args.reader.now) (reader_disk c.loop-place.reader) c.args.seen.now c.loop-place.seen c.reported_at.new.seen i.disk i.honest c.reported_at.ensures.honest;
+      faults = c.in_ok-reported.ensures.quiet (λ e. absurd (cc)) ∙ i.faults;
     }
 
-pub returns-in_err-told-clause-reads : goal.returns-in_err-told-clause-reads
-returns-in_err-told-clause-reads g c =
+pub returns-in_err-reported-clause-reads : goal.returns-in_err-reported-clause-reads
+returns-in_err-reported-clause-reads g c =
     let i = c.loop-place.invariant in
     reads_or g.O.OnceDisk c.args.places.items c.args.reader.now c.args.seen.now c.loop-place.reader c.loop-place.seen c.loop-place.left.items c.pop.new.self.items c.in-Some.place c.loop-place.count i.same i.disk i.went c.in-Some.ensures.items
-    c.told_at.new.reader c.told_at.new.seen (λ well octets is. c.told_at.ensures.reads well octets is)
+    c.reported_at.new.reader c.reported_at.new.seen (λ well octets is. c.reported_at.ensures.reads well octets is)
 
-pub returns-in_err-told-clause-damaged : goal.returns-in_err-told-clause-damaged
-returns-in_err-told-clause-damaged g c = λ well block e.
-    let d : c.told_at.result ≡ Err (Damaged block) = search rules in
+pub returns-in_err-reported-clause-damaged : goal.returns-in_err-reported-clause-damaged
+returns-in_err-reported-clause-damaged g c = λ well block e.
+    let d : c.reported_at.result ≡ Err (Damaged block) = search rules in
     let i = c.loop-place.invariant in
     damaged_or g.O.OnceDisk c.args.places.items c.args.reader.now c.args.seen.now c.loop-place.reader c.loop-place.seen c.loop-place.left.items c.pop.new.self.items c.in-Some.place c.loop-place.count i.same i.disk i.went c.in-Some.ensures.items
-    block (c.told_at.ensures.number block d) (λ w octets is sound. c.told_at.ensures.unsound w octets is block d sound) well
+    block (c.reported_at.ensures.number block d) (λ w octets is sound. c.reported_at.ensures.unsound w octets is block d sound) well
 
 pub returns-in_err-count-clause-reads : goal.returns-in_err-count-clause-reads
 returns-in_err-count-clause-reads g c =
     let i = c.loop-place.invariant in
     reads_or g.O.OnceDisk c.args.places.items c.args.reader.now c.args.seen.now c.loop-place.reader c.loop-place.seen c.loop-place.left.items c.pop.new.self.items c.in-Some.place c.loop-place.count i.same i.disk i.went c.in-Some.ensures.items
-    c.told_at.new.reader c.told_at.new.seen (λ well octets is. c.told_at.ensures.reads well octets is)
+    c.reported_at.new.reader c.reported_at.new.seen (λ well octets is. c.reported_at.ensures.reads well octets is)
 
 pub returns-clause-checked : goal.returns-clause-checked
 returns-clause-checked g c = λ well.

@@ -3,7 +3,7 @@ use Rattle.once_store.specs.Readers.{capacity_of, reader_disk}
 use Rattle.tsb_walk.specs.Knowing.{ReadsWell}
 use Rattle.tsb_check.specs.Counted.{MeetUnknown}
 use Rattle.tsb_check.specs.inner.Going.{GoesOn}
-use Rattle.tsb_check.specs.inner.Told.{weight}
+use Rattle.tsb_check.specs.inner.Reported.{weight}
 use Rattle.tsb_check.proofs.past.count_past.Given as goal
 
 abbrev pub invariant-loop-place : goal.invariant-loop-place

@@ -1,9 +1,9 @@
 use Rattle.std.proofs.Common.{ℕ, List, ◌++◌, ◌∷◌, [], ◌<◌, ◌∙◌, ap, sym, subst, refl}
 use Rattle.version_model.specs.declared.part.Place.{Place}
 use Rattle.version_model.specs.declared.part.Part.{Part}
-use Rattle.tsb_check.specs.declared.block.Told.{Told}
+use Rattle.tsb_check.specs.declared.block.Reported.{Reported}
 use Rattle.tsb_check.specs.Counted.{places_of}
-use Rattle.tsb_check.specs.inner.Told.{GoesLower, IsTaken, weight}
+use Rattle.tsb_check.specs.inner.Reported.{GoesLower, IsTaken, weight}
 use Rattle.tsb_check.proofs.Weights.{falls, ends}
 use Rattle.tsb_check.proofs.past.take.Goals as goal
 
@@ -15,7 +15,7 @@ returns-in_ok-append-in-Parts-clause-taken c =
     let p = c.args.place.now in
     let parts = c.in_ok-more-in-Parts.ensures ∙ ap (λ (ps : List Part). places_of p.bounds ps) c.deref.ensures.value in
     let new = c.in_ok-append-in-Parts.ensures.items ∙ ap (λ (xs : List Place). c.args.left.now.items ++ xs) parts in
-    subst (λ (t : Told). IsTaken p t c.args.left.now.items c.append.new.self.items c.args.count c.args.count) (sym c.in-Parts.is) (new, refl)
+    subst (λ (t : Reported). IsTaken p t c.args.left.now.items c.append.new.self.items c.args.count c.args.count) (sym c.in-Parts.is) (new, refl)
 
 pub returns-in_ok-append-in-Parts-clause-falls : goal.returns-in_ok-append-in-Parts-clause-falls
 returns-in_ok-append-in-Parts-clause-falls c =

@@ -6,4 +6,4 @@ use Rattle.tsb_node.proofs.column_reading.part_at_front.Goals as goal
 
 pub returns-then-bytes-lt25-clause-none : goal.returns-then-bytes-lt25-clause-none
 returns-then-bytes-lt25-clause-none c = λ p front.
-    omega (arith, ap length front.spelled, length-append (part_octets p) (drop 25 c.args.bytes.now), part-size p, c.if-bytes-lt25.true)
+    omega (arith, ap length front.encoded, length-append (part_octets p) (drop 25 c.args.bytes.now), part-size p, c.if-bytes-lt25.true)

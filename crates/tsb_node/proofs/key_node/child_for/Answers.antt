@@ -19,7 +19,7 @@ returns-then-at-count c =
       under = λ node is within. under_last node c.args.octets.now c.number2-count.result c.args.key at c.key_at-low.result c.number8-page.result is within c.number2-count.ensures.number
           (subst (λ (t : List ℕ). IsChildBefore c.number2-count.result t c.args.key at) there c.child_before-at.ensures.before)
           (c.key_at-low.ensures.number ∙ ap (number_in 40 (48 * at)) there) (c.number8-page.ensures.number ∙ ap (number_in 8 (48 * at + 40)) there)
-          c.high_at-high.result c.if-at-count.true c.high_at-high.ensures.spelled c.high_at-high.ensures.apart;
+          c.high_at-high.result c.if-at-count.true c.high_at-high.ensures.encoded c.high_at-high.ensures.apart;
     }
 
 pub returns : goal.returns

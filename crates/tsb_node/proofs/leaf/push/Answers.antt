@@ -2,7 +2,7 @@ use Rattle.std.proofs.Common.{◌≡◌, ◌∙◌, ◌+◌, ℕ, List, length, 
 use Rattle.std.specs.Option.{option_map}
 use Rattle.tsb_node.specs.Numbers.{octets_of}
 use Rattle.tsb_node.specs.inner.Fields.{number_in}
-use Rattle.tsb_node.specs.Leaves.{entry, entries, value_spelled}
+use Rattle.tsb_node.specs.Leaves.{entry, entries, value_encoded}
 use Rattle.tsb_node.specs.inner.Laying.{laid}
 use Rattle.tsb_node.specs.Pushing.{version}
 use Rattle.tsb_node.proofs.Entries.{entry-size}
@@ -31,7 +31,7 @@ returns-clause-pushed c = λ leaf page is above.
     let used : c.number2-used.result ≡ length (entries leaf.versions) = c.number2-used.ensures.number ∙ ap (number_in 2 6) c.octets-2.ensures.value ∙ says.used_is in
     let size : 59 + length c.octets_in.result.now ≡ length (entry v) = omega (arith, entry-size v, ap length c.octets_in.ensures.value) in
     let sum : c.number2-used.result + (59 + length c.octets_in.result.now) ≡ c.number2-used.result + length (entry v) = ap (λ (n : ℕ). c.number2-used.result + n) size in
-    let each : AreOctets (value_spelled (option_map (λ x. x.now) c.args.value)) = subst AreOctets c.octets_in.ensures.value c.octets_in.ensures.octets in
+    let each : AreOctets (value_encoded (option_map (λ x. x.now) c.args.value)) = subst AreOctets c.octets_in.ensures.value c.octets_in.ensures.octets in
     let one = c.put_entry.ensures in
     let two = laid_is 4 c.two_octets.result c.put_entry.new.page c.put.new.self c.put.ensures ∙ ap (λ (t : List ℕ). laid 4 t c.put_entry.new.page) c.two_octets.ensures in
     let three = laid_is 6 c.two_octets-2.result c.put.new.self c.put-2.new.self c.put-2.ensures

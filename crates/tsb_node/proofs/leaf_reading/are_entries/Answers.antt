@@ -1,7 +1,7 @@
 use Rattle.std.proofs.Common.{arith, ◌≡◌, ◌∙◌, ℕ, length, sym, subst, refl}
 use Rattle.std.proofs.lemmas.Bool.{eqb-true, eq-eqb}
 use Rattle.tsb_node.specs.inner.Checking.{IsAfter}
-use Rattle.tsb_node.proofs.CheckingLaws.{Checked, check_start, check_on, check_end, entry_stands, stamp_stands, nothing_behind}
+use Rattle.tsb_node.proofs.CheckingLaws.{Checked, check_start, check_on, check_end, entry_stands, stamp_stands, nothing_after}
 use Rattle.tsb_node.proofs.leaf_reading.are_entries.Goals as goal
 
 pub loop-init : goal.loop-init
@@ -32,5 +32,5 @@ returns c =
     let done : c.loop.counter ≡ c.args.count = omega (arith, c.loop-test.false, c.loop.auto.counter-end) in
     let checked = subst (λ (n : ℕ). Checked c.args.bounds.now c.args.bytes.now c.loop.rest.now n c.loop.last) done c.loop.invariant in (
       λ yes. check_end c.args.bounds.now c.args.bytes.now c.loop.rest.now c.args.count c.loop.last checked (eqb-true (length c.loop.rest.now) 0 (sym c.is_empty.ensures ∙ yes)),
-      λ are. (let none = nothing_behind c.args.bounds.now c.args.count c.args.bytes.now c.loop.rest.now are checked.at in c.is_empty.ensures ∙ eq-eqb (length c.loop.rest.now) 0 none),
+      λ are. (let none = nothing_after c.args.bounds.now c.args.count c.args.bytes.now c.loop.rest.now are checked.at in c.is_empty.ensures ∙ eq-eqb (length c.loop.rest.now) 0 none),
     )

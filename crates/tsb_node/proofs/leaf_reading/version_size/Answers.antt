@@ -3,22 +3,22 @@ use Rattle.std.proofs.lemmas.Bool.{cases_order, cases_lt}
 use Rattle.tsb_node.specs.inner.Fields.{number_in}
 use Rattle.tsb_node.specs.inner.Reading.{value_size, version_in}
 use Rattle.tsb_node.proofs.Scanning.{key_said}
-use Rattle.tsb_node.proofs.CheckingLaws.{spelled_here, spelled_reads, tag-le, end_is_empty, high_along}
+use Rattle.tsb_node.proofs.CheckingLaws.{encoded_here, encoded_reads, tag-le, end_is_empty, high_along}
 use Rattle.tsb_node.proofs.leaf_reading.version_size.Goals as goal
 
 pub returns-then-size-clause-none : goal.returns-then-size-clause-none
 returns-then-size-clause-none c = λ sp.
-    let r = spelled_reads c.args.bounds.now c.args.bytes.now sp in
+    let r = encoded_reads c.args.bounds.now c.args.bytes.now sp in
     omega (arith, r.1, sp.valid.short.size, c.in_ok-size.ensures.found.0, c.if-size.true)
 
 pub returns-then-bytes-gt1-clause-none : goal.returns-then-bytes-gt1-clause-none
 returns-then-bytes-gt1-clause-none c = λ sp.
-    let r = spelled_reads c.args.bounds.now c.args.bytes.now sp in
+    let r = encoded_reads c.args.bounds.now c.args.bytes.now sp in
     omega (arith, r.0, tag-le (version_in c.args.bytes.now).value, c.if-bytes-gt1.true)
 
 pub returns-then-is_end_with_octets-clause-none : goal.returns-then-is_end_with_octets-clause-none
 returns-then-is_end_with_octets-clause-none c = λ sp.
-    let r = spelled_reads c.args.bounds.now c.args.bytes.now sp in
+    let r = encoded_reads c.args.bounds.now c.args.bytes.now sp in
     let is = c.if-is_end_with_octets.ensures.0 refl in
     omega (arith, r.1, end_is_empty (version_in c.args.bytes.now).value (sym r.0 ∙ is.0), is.1, c.in_ok-size.ensures.found.0)
 
@@ -46,4 +46,4 @@ returns-clause-found c =
       | inr ge ↦ omega (arith, ge, c.key_at-key.ensures.number)
     ] in
     let high = high_along c.key_at-key.result (number_in 40 0 bytes) b.high c.key_at-key.ensures.number (c.is_below_high.ensures.0 (cc c.if-not-is_below_high.false)) in
-    (found.0, spelled_here b bytes (λ i. let lt = c.type_inv.bytes i in omega arith) found.1 small (omega (arith, c.if-bytes-gt1.false)) end low high)
+    (found.0, encoded_here b bytes (λ i. let lt = c.type_inv.bytes i in omega arith) found.1 small (omega (arith, c.if-bytes-gt1.false)) end low high)

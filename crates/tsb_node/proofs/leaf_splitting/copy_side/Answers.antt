@@ -4,7 +4,7 @@ use Rattle.tsb_node.specs.Leaves.{LeafNode, BeginsAsLeaf, entry}
 use Rattle.tsb_node.specs.inner.Reading.{area}
 use Rattle.tsb_node.specs.inner.Scanning.{IsWholeVersion}
 use Rattle.tsb_node.specs.inner.Laying.{laid}
-use Rattle.tsb_node.specs.inner.Sides.{lies_within, side_of}
+use Rattle.tsb_node.specs.inner.Sides.{located_within, side_of}
 use Rattle.tsb_node.proofs.ViewLaws.{side_is}
 use Rattle.tsb_node.proofs.Leaves.{leaf_says}
 use Rattle.tsb_node.proofs.Laying.{laid_is}
@@ -54,7 +54,7 @@ loop-preserved c =
             let n = next_version leaf octets rest c.loop.counter is (few leaf is) c.loop.invariant.3 in
             let here : c.split_at-in-loop.result.0.now ≡ entry n.v = c.split_at-in-loop.ensures.front ∙ ap (λ (k : ℕ). take k rest) found.0 ∙ n.front in
             let key = c.key_at.ensures.number ∙ key_of_entry leaf.bounds n.v c.split_at-in-loop.result.0.now n.valid here in
-            let within : lies_within b n.v.key ≡ true = ap (lies_within b) (sym key) ∙ sym c.is_within.ensures ∙ w.if-is_within.true in
+            let within : located_within b n.v.key ≡ true = ap (located_within b) (sym key) ∙ sym c.is_within.ensures ∙ w.if-is_within.true in
             let size : c.in-Some.size ≡ length (entry n.v) = sym (ap length (c.split_at-in-loop.ensures.front) ∙ (let e : length (take c.in-Some.size rest) ≡ c.in-Some.size = omega (arith, length-take c.in-Some.size rest, found.0, found.1) in e)) ∙ ap length here in
             let put = laid_is c.loop.at c.split_at-in-loop.result.0.now c.loop.fresh w.put.new.self w.put.ensures ∙ ap (λ (t : List ℕ). laid c.loop.at t c.loop.fresh) here in
             rw (w.fresh-is, w.at-is, w.kept-is, put, size)
@@ -70,7 +70,7 @@ loop-preserved c =
             let n = next_version leaf octets rest c.loop.counter is (few leaf is) c.loop.invariant.3 in
             let here : c.split_at-in-loop.result.0.now ≡ entry n.v = c.split_at-in-loop.ensures.front ∙ ap (λ (k : ℕ). take k rest) found.0 ∙ n.front in
             let key = c.key_at.ensures.number ∙ key_of_entry leaf.bounds n.v c.split_at-in-loop.result.0.now n.valid here in
-            let out : lies_within b n.v.key ≡ false = ap (lies_within b) (sym key) ∙ sym c.is_within.ensures ∙ w.if-is_within.false in
+            let out : located_within b n.v.key ≡ false = ap (located_within b) (sym key) ∙ sym c.is_within.ensures ∙ w.if-is_within.false in
             rw (w.fresh-is, w.at-is, w.kept-is) (copied_skip leaf b c.loop.counter c.loop.at c.loop.kept c.loop.fresh n.v n.is out (c.loop.invariant.4 leaf is))
             ),
       )

@@ -1,7 +1,7 @@
 use Rattle.std.proofs.Common.{arith, ◌∙◌, ◌++◌, ◌∷◌, [], List, length, take, ap, sym, subst}
 use Rattle.version_model.specs.Versions.{Version}
 use Rattle.version_model.specs.Entries.{versions_of, version_of}
-use Rattle.tsb_node.specs.Leaves.{LeafNode, IsLeafPage, value_spelled, entry}
+use Rattle.tsb_node.specs.Leaves.{LeafNode, IsLeafPage, value_encoded, entry}
 use Rattle.tsb_node.specs.Pushing.{version}
 use Rattle.tsb_node.proofs.SplittingLaws.{take_version}
 use Rattle.tsb_node.proofs.WholeLeaves.{version_read, whole_valid, whole_within, whole_above, whole_fits}
@@ -14,7 +14,7 @@ push-requires c =
     let i = c.loop-entry.entry-index in
     let e = c.entry-item.result in
     let at = version_read c.args.entries.now i e c.loop-entry-test.true c.entry-item.is in
-    record { short = omega (arith, (whole_valid leaf c.requires.valid i (version_of e) at).size, ap (λ o. length (value_spelled o)) c.octets_of_value.ensures) }
+    record { short = omega (arith, (whole_valid leaf c.requires.valid i (version_of e) at).size, ap (λ o. length (value_encoded o)) c.octets_of_value.ensures) }
 
 pub unreachable-requires : goal.unreachable-requires
 unreachable-requires c =

@@ -5,13 +5,13 @@ use Rattle.std.proofs.lemmas.Result.{err_from_is_err_and}
 use Rattle.version_model.specs.declared.child.Child.{Child}
 use Rattle.tsb_node.specs.Views.{keys_between}
 use Rattle.tsb_walk.specs.Shown.{keys_at}
-use Rattle.tsb_tree.specs.KeyNodes.{BeginsBehind}
+use Rattle.tsb_tree.specs.KeyNodes.{BeginsAfter}
 use Rattle.tsb_tree.specs.Plans.{CanBeLaid}
 use Rattle.tsb_tree.specs.Puts.{PutsChild}
 use Rattle.tsb_tree.specs.inner.Uses.{UsesForHalf}
 use Rattle.tsb_tree.proofs.Needing.{read_never_full}
-use Rattle.tsb_tree.proofs.Raising.{said_behind, said_below, said_puts}
-use Rattle.tsb_tree.proofs.Wanting.{no_half}
+use Rattle.tsb_tree.proofs.Raising.{said_after, said_below, said_puts}
+use Rattle.tsb_tree.proofs.LackingRoom.{no_half}
 use Rattle.tsb_tree.proofs.descent.raise.Goals as goal
 
 pub returns-in_err-node-in-Some-clause-honest : goal.returns-in_err-node-in-Some-clause-honest
@@ -26,7 +26,7 @@ returns-in-Ok-clause-puts g c start shown new room shows some =
     let node = c.in_ok-node-in-Some.node in
     let said = (c.in_ok-node-in-Some.ensures.says start shown place.level (keys_at place) room.children shows room.says).0 in
     let same : c.in-Some.new ≡ new = same_Some _ _ (sym c.in-Some.is ∙ some) in
-    let puts = subst (λ (n : Child). BeginsBehind node.children.items room.at n.low → PutsChild place.page node.level (keys_between node.bounds) (insert node.children.items (suc room.at) n) c.args.change c.in-Ok.put) same (c.in-Ok.ensures.puts room.at) (said_behind node shown place new room said) in
+    let puts = subst (λ (n : Child). BeginsAfter node.children.items room.at n.low → PutsChild place.page node.level (keys_between node.bounds) (insert node.children.items (suc room.at) n) c.args.change c.in-Ok.put) same (c.in-Ok.ensures.puts room.at) (said_after node shown place new room said) in
     said_puts node shown place new room c.args.change c.in-Ok.put said puts
 
 pub returns-in-Ok-clause-laid : goal.returns-in-Ok-clause-laid
@@ -42,7 +42,7 @@ returns-in-Err-clause-honest g c start shown shows room =
     let new = c.in-Some.new in
     let r = room new c.in-Some.is in
     let said = (c.in_ok-node-in-Some.ensures.says start shown place.level (keys_at place) r.children shows r.says).0 in
-    c.in-Err.ensures.honest r.at (said_behind node shown place new r said) (said_below node shown place new r said)
+    c.in-Err.ensures.honest r.at (said_after node shown place new r said) (said_below node shown place new r said)
 
 pub returns-in-None-clause-uses : goal.returns-in-None-clause-uses
 returns-in-None-clause-uses g c start shown level k children shows says some = no_half _ c.in-None.is some
@@ -54,14 +54,14 @@ returns-in-Ok-clause-uses g c start shown level k children shows says some =
     let same : node.children.items ≡ children = cc in
     subst (λ (cs : List Child). UsesForHalf (length cs) c.args.change.unused c.in-Ok.put.unused c.in-Ok.put.new) same c.in-Ok.ensures.uses
 
-pub returns-in_err-node-in-Some-clause-wants_pages : goal.returns-in_err-node-in-Some-clause-wants_pages
-returns-in_err-node-in-Some-clause-wants_pages g c start shown level k children shows says is =
+pub returns-in_err-node-in-Some-clause-lacks_pages : goal.returns-in_err-node-in-Some-clause-lacks_pages
+returns-in_err-node-in-Some-clause-lacks_pages g c start shown level k children shows says is =
     let p = err_from_is_err_and c.from_residual.result c.from_residual.ensures.1 in
     absurd (read_never_full _ (g.P.Pages.down c.args.pages.now) c.in_err-node-in-Some.ensures.refused (cc))
 
-pub returns-in-Err-clause-wants_pages : goal.returns-in-Err-clause-wants_pages
-returns-in-Err-clause-wants_pages g c start shown level k children shows says is =
+pub returns-in-Err-clause-lacks_pages : goal.returns-in-Err-clause-lacks_pages
+returns-in-Err-clause-lacks_pages g c start shown level k children shows says is =
     let node = c.in_ok-node-in-Some.node in
     let said = (c.in_ok-node-in-Some.ensures.says start shown level k children shows says).0 in
     let same : node.children.items ≡ children = cc in
-    ap length (sym same) ∙ c.in-Err.ensures.wants_pages is
+    ap length (sym same) ∙ c.in-Err.ensures.lacks_pages is

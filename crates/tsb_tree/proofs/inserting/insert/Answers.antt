@@ -6,9 +6,9 @@ use Rattle.page_tx.proofs.Laying.{length_pages_of}
 use Rattle.page_tx.specs.Images.{joined}
 use Rattle.page_tx.specs.Refusals.{LayRefusal}
 use Rattle.version_model.specs.Entries.{version_of}
-use Rattle.tsb_tree.specs.NoRoom.{AtRoot, IsForWant, LeadsToFullLeaf}
+use Rattle.tsb_tree.specs.NoRoom.{AtRoot, IsForRoom, LeadsToFullLeaf}
 use Rattle.tsb_tree.specs.Refusals.{InsertRefusal}
-use Rattle.tsb_tree.proofs.Wanting.{lay_never_full, lay_wants_none, page_never_high}
+use Rattle.tsb_tree.proofs.LackingRoom.{lay_never_full, lay_lacks_none, page_never_high}
 use Rattle.tsb_tree.proofs.Needing.{page_never_once}
 use Rattle.tsb_tree.proofs.Insertion.{as_it_was, taken_in, lay_insert, never_back, lay_reads, not_less}
 use Rattle.tsb_tree.proofs.Shelving.{honest_on, spends_none}
@@ -79,21 +79,21 @@ returns-in_err-change-clause-high g c start shown all tree high =
     let p = err_from_is_err_and c.from_residual.result c.from_residual.ensures.1 in
     c.in_err-change.ensures.high start shown all tree later (cc)
 
-pub returns-in_err-change-clause-wants : goal.returns-in_err-change-clause-wants
-returns-in_err-change-clause-wants g c start shown all tree =
+pub returns-in_err-change-clause-lacks : goal.returns-in_err-change-clause-lacks
+returns-in_err-change-clause-lacks g c start shown all tree =
     let later : c.args.place.least ≤ c.args.entry.now.stamp = not_less c.lt.result _ _ c.lt.ensures c.if-lt.false in
-    let h = c.in_err-change.ensures.wants start shown all tree later in
+    let h = c.in_err-change.ensures.lacks start shown all tree later in
     search rules
 
 pub returns-in-Err-clause-high : goal.returns-in-Err-clause-high
 returns-in-Err-clause-high g c start shown all tree high = absurd (page_never_high c.in-Err.refusal (let e = c.from.ensures in cc))
 
-pub returns-in-Err-clause-wants : goal.returns-in-Err-clause-wants
-returns-in-Err-clause-wants g c start shown all tree =
+pub returns-in-Err-clause-lacks : goal.returns-in-Err-clause-lacks
+returns-in-Err-clause-lacks g c start shown all tree =
     let same = c.from.ensures in
     let homes : g.P.Pages.homes c.planned.new.pages ≡ g.P.Pages.homes c.args.pages.now = c.in_ok-change.ensures.reads.homes in
-    let never = lay_wants_none c.in-Err.refusal _ _ _ c.in-Err.ensures.refused (omega (arith, homes, c.in_ok-change.ensures.laid.inside)) in
-    subst (λ e. IsForWant e → AtRoot (LeadsToFullLeaf shown (version_of c.args.entry.now)) c.args.place.root c.args.place.level) (sym same) (λ want. absurd (never want))
+    let never = lay_lacks_none c.in-Err.refusal _ _ _ c.in-Err.ensures.refused (omega (arith, homes, c.in_ok-change.ensures.laid.inside)) in
+    subst (λ e. IsForRoom e → AtRoot (LeadsToFullLeaf shown (version_of c.args.entry.now)) c.args.place.root c.args.place.level) (sym same) (λ need. absurd (never need))
 
 pub returns-in-Ok-clause-images : goal.returns-in-Ok-clause-images
 returns-in-Ok-clause-images g c =
@@ -152,11 +152,11 @@ returns-in-Err-clause-highest g c seven full =
     let homes : g.P.Pages.homes c.planned.new.pages ≡ g.P.Pages.homes c.args.pages.now = c.in_ok-change.ensures.reads.homes in
     absurd (lay_never_full c.in-Err.refusal _ _ _ c.in-Err.ensures.refused (omega (arith, homes, c.in_ok-change.ensures.laid.inside)) (let e = c.from.ensures in cc))
 
-pub returns-in_err-change-clause-wants_pages : goal.returns-in_err-change-clause-wants_pages
-returns-in_err-change-clause-wants_pages g c start shown all tree is =
+pub returns-in_err-change-clause-lacks_pages : goal.returns-in_err-change-clause-lacks_pages
+returns-in_err-change-clause-lacks_pages g c start shown all tree is =
     let later : c.args.place.least ≤ c.args.entry.now.stamp = not_less c.lt.result _ _ c.lt.ensures c.if-lt.false in
     let p = err_from_is_err_and c.from_residual.result c.from_residual.ensures.1 in
-    c.in_err-change.ensures.wants_pages start shown all tree later (cc)
+    c.in_err-change.ensures.lacks_pages start shown all tree later (cc)
 
 pub returns-in_err-change-clause-once : goal.returns-in_err-change-clause-once
 returns-in_err-change-clause-once g c start shown all tree refusal is =
@@ -170,8 +170,8 @@ returns-in-Ok-clause-uses g c start shown all tree =
     let uses = c.in_ok-change.ensures.uses start shown all tree later in
     (uses.0, uses.1, c.in-Ok.ensures.next ∙ uses.2)
 
-pub returns-in-Err-clause-wants_pages : goal.returns-in-Err-clause-wants_pages
-returns-in-Err-clause-wants_pages g c start shown all tree is =
+pub returns-in-Err-clause-lacks_pages : goal.returns-in-Err-clause-lacks_pages
+returns-in-Err-clause-lacks_pages g c start shown all tree is =
     let homes : g.P.Pages.homes c.planned.new.pages ≡ g.P.Pages.homes c.args.pages.now = c.in_ok-change.ensures.reads.homes in
     absurd (lay_never_full c.in-Err.refusal _ _ _ c.in-Err.ensures.refused (omega (arith, homes, c.in_ok-change.ensures.laid.inside)) (let e = c.from.ensures in cc))
 

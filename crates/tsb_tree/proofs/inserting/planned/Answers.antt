@@ -6,16 +6,16 @@ use Rattle.version_model.specs.declared.child.Child.{Child}
 use Rattle.version_model.specs.Entries.{version_of}
 use Rattle.version_model.specs.Ranges.{stamp_end}
 use Rattle.version_model.specs.Versions.{Version}
-use Rattle.tsb_tree.specs.NoRoom.{AtRoot, IsForWant, LeadsToFullColumn, LeadsToFullLeaf}
+use Rattle.tsb_tree.specs.NoRoom.{AtRoot, IsForRoom, LeadsToFullColumn, LeadsToFullLeaf}
 use Rattle.tsb_tree.specs.Outlived.{LeadsToOutdated}
 use Rattle.tsb_tree.specs.Plans.{CanBeLaid}
 use Rattle.tsb_tree.specs.Raises.{TreeCanBeLaid}
-use Rattle.tsb_tree.specs.inner.Uses.{UsesPages, WantsPages}
+use Rattle.tsb_tree.specs.inner.Uses.{UsesPages, LacksPages}
 use Rattle.tsb_tree.proofs.Excluding.{root_stays}
-use Rattle.tsb_tree.proofs.Needing.{tree_wants, tree_same_uses, tree_grown_uses, tree_grown_wants, tree_level, tree_leads, root_full, root_never_once}
+use Rattle.tsb_tree.proofs.Needing.{tree_lacks, tree_same_uses, tree_grown_uses, tree_grown_lacks, tree_level, tree_leads, root_full, root_never_once}
 use Rattle.tsb_tree.proofs.OneWay.{outdated_root}
 use Rattle.tsb_tree.proofs.Outliving.{or_else}
-use Rattle.tsb_tree.proofs.Wanting.{plan_full, plan_never_high}
+use Rattle.tsb_tree.proofs.LackingRoom.{plan_full, plan_never_high}
 use Rattle.tsb_tree.proofs.Insertion.{root_can, root_so, root_plans, tree_same, tree_grown, half_above, not_highest}
 use Rattle.tsb_tree.proofs.inserting.planned.Goals as goal
 
@@ -36,7 +36,7 @@ returns-in_default-clause-plans g c start shown all tree later =
     let change = c.in_ok-change.change in
     let plans = root_plans g.O.OnceDisk c.plan_under.new.shelf homes tree.store v root.result place.root place.level change root.ensures.page root.ensures.level (c.in_ok-change.ensures.plans tree.store all can) in
     let in_time : v.stamp < stamp_end = omega (arith, c.requires.end) in
-    tree_same g.O.OnceDisk c.plan_under.new.shelf homes tree.store all v place.root place.level place.least tree.has later c.requires.inside in_time change plans c.in_default.is _ refl refl c.stamp_behind-least.ensures.behind
+    tree_same g.O.OnceDisk c.plan_under.new.shelf homes tree.store all v place.root place.level place.least tree.has later c.requires.inside in_time change plans c.in_default.is _ refl refl c.stamp_after-least.ensures.beyond
 
 pub returns-in_err-change-2-clause-honest : goal.returns-in_err-change-2-clause-honest
 returns-in_err-change-2-clause-honest g c start shown all tree later =
@@ -71,7 +71,7 @@ returns-clause-plans g c start shown all tree later =
     let grows = c.in_ok-change-2.ensures.grows in
     let room : change.unused < homes = omega (arith, same, laid.inside, grows.unused) in
     let low : place.level < 7 = not_highest place.level made c.in_ok-change-2.ensures.high c.requires.few in
-    tree_grown g.O.OnceDisk c.plan_under.new.shelf homes tree.store all v place.root place.level place.least tree.has later c.requires.inside in_time change plans c.in-Some.new c.in-Some.is made grows room low _ refl refl c.stamp_behind-least.ensures.behind
+    tree_grown g.O.OnceDisk c.plan_under.new.shelf homes tree.store all v place.root place.level place.least tree.has later c.requires.inside in_time change plans c.in-Some.new c.in-Some.is made grows room low _ refl refl c.stamp_after-least.ensures.beyond
 
 pub returns-clause-laid : goal.returns-clause-laid
 returns-clause-laid g c =
@@ -91,13 +91,13 @@ returns-in_err-change-clause-high g c start shown all tree later high =
     let p = err_from_is_err_and c.from_residual.result c.from_residual.ensures.1 in
     absurd (plan_never_high _ _ _ _ _ c.in_err-change.ensures.refused (cc))
 
-pub returns-in_err-change-clause-wants : goal.returns-in_err-change-clause-wants
-returns-in_err-change-clause-wants g c start shown all tree later =
+pub returns-in_err-change-clause-lacks : goal.returns-in_err-change-clause-lacks
+returns-in_err-change-clause-lacks g c start shown all tree later =
     let root = c.root-root in
     let place = c.args.place in
     let v : Version = version_of c.args.entry.now in
     let can = root_can g.P.Pages c.args.pages.now g.O.OnceDisk c.args.shelf.now start shown all root.result place.root place.level place.least v root.ensures.page root.ensures.level root.ensures.keys tree later c.requires.inside in
-    let h : IsForWant c.in_err-change.field-0.0 → AtRoot (LeadsToFullLeaf shown v) place.root place.level = λ want. root_so g.P.Pages c.args.pages.now g.O.OnceDisk c.args.shelf.now start shown all root.result place.root place.level place.least v (λ pages at. LeadsToFullLeaf pages v at) root.ensures.page root.ensures.level root.ensures.keys tree later c.requires.inside (c.in_err-change.ensures.wants tree.store all can want) in
+    let h : IsForRoom c.in_err-change.field-0.0 → AtRoot (LeadsToFullLeaf shown v) place.root place.level = λ need. root_so g.P.Pages c.args.pages.now g.O.OnceDisk c.args.shelf.now start shown all root.result place.root place.level place.least v (λ pages at. LeadsToFullLeaf pages v at) root.ensures.page root.ensures.level root.ensures.keys tree later c.requires.inside (c.in_err-change.ensures.lacks tree.store all can need) in
     search rules
 
 pub returns-in_err-change-2-clause-high : goal.returns-in_err-change-2-clause-high
@@ -112,8 +112,8 @@ returns-in_err-change-2-clause-high g c start shown all tree later high =
     let some = subst (λ (o : Option Child). IsSome o) (sym c.in-Some.is) refl in
     tree_level shown v place.root place.level next change.unused change.new uses some
 
-pub returns-in_err-change-2-clause-wants : goal.returns-in_err-change-2-clause-wants
-returns-in_err-change-2-clause-wants g c start shown all tree later =
+pub returns-in_err-change-2-clause-lacks : goal.returns-in_err-change-2-clause-lacks
+returns-in_err-change-2-clause-lacks g c start shown all tree later =
     let root = c.root-root in
     let place = c.args.place in
     let v : Version = version_of c.args.entry.now in
@@ -233,8 +233,8 @@ returns-in_err-change-2-clause-highest g c seven full =
     let high = c.in_err-change-2.ensures.high.1 seven in
     absurd (cc)
 
-pub returns-in_err-change-clause-wants_pages : goal.returns-in_err-change-clause-wants_pages
-returns-in_err-change-clause-wants_pages g c start shown all tree later is =
+pub returns-in_err-change-clause-lacks_pages : goal.returns-in_err-change-clause-lacks_pages
+returns-in_err-change-clause-lacks_pages g c start shown all tree later is =
     let root = c.root-root in
     let place = c.args.place in
     let v : Version = version_of c.args.entry.now in
@@ -242,7 +242,7 @@ returns-in_err-change-clause-wants_pages g c start shown all tree later is =
     let p = err_from_is_err_and c.from_residual.result c.from_residual.ensures.1 in
     let homes : ℕ = g.P.Pages.homes c.args.pages.now in
     let next : ℕ = g.P.Pages.next c.args.pages.now in
-    tree_wants shown v place.root place.level homes next (root_so g.P.Pages c.args.pages.now g.O.OnceDisk c.args.shelf.now start shown all root.result place.root place.level place.least v (λ pages at. WantsPages pages v at homes next) root.ensures.page root.ensures.level root.ensures.keys tree later c.requires.inside (c.in_err-change.ensures.wants_pages tree.store all can (cc)))
+    tree_lacks shown v place.root place.level homes next (root_so g.P.Pages c.args.pages.now g.O.OnceDisk c.args.shelf.now start shown all root.result place.root place.level place.least v (λ pages at. LacksPages pages v at homes next) root.ensures.page root.ensures.level root.ensures.keys tree later c.requires.inside (c.in_err-change.ensures.lacks_pages tree.store all can (cc)))
 
 pub returns-in_err-change-clause-once : goal.returns-in_err-change-clause-once
 returns-in_err-change-clause-once g c start shown all tree later refusal is =
@@ -264,8 +264,8 @@ returns-in_default-clause-uses g c start shown all tree later =
     let uses = root_so g.P.Pages c.args.pages.now g.O.OnceDisk c.args.shelf.now start shown all root.result place.root place.level place.least v (λ pages at. UsesPages pages v at next change.unused change.new) root.ensures.page root.ensures.level root.ensures.keys tree later c.requires.inside (c.in_ok-change.ensures.uses tree.store all can) in
     tree_same_uses shown v place.root place.level next change.unused change.new uses c.in_default.is
 
-pub returns-in_err-change-2-clause-wants_pages : goal.returns-in_err-change-2-clause-wants_pages
-returns-in_err-change-2-clause-wants_pages g c start shown all tree later is =
+pub returns-in_err-change-2-clause-lacks_pages : goal.returns-in_err-change-2-clause-lacks_pages
+returns-in_err-change-2-clause-lacks_pages g c start shown all tree later is =
     let root = c.root-root in
     let place = c.args.place in
     let v : Version = version_of c.args.entry.now in
@@ -277,7 +277,7 @@ returns-in_err-change-2-clause-wants_pages g c start shown all tree later is =
     let p = err_from_is_err_and c.from_residual-in_err-change-2.result c.from_residual-in_err-change-2.ensures.1 in
     let same : c.home_pages.result ≡ g.P.Pages.homes c.args.pages.now = c.home_pages.ensures ∙ c.in_ok-change.ensures.reads.homes in
     let few = root_full _ _ _ _ c.in_err-change-2.ensures.refused (cc) in
-    tree_grown_wants shown v place.root place.level next change.unused change.new uses some (g.P.Pages.homes c.args.pages.now) (omega (arith, few, same))
+    tree_grown_lacks shown v place.root place.level next change.unused change.new uses some (g.P.Pages.homes c.args.pages.now) (omega (arith, few, same))
 
 pub returns-in_err-change-2-clause-once : goal.returns-in_err-change-2-clause-once
 returns-in_err-change-2-clause-once g c start shown all tree later refusal is =

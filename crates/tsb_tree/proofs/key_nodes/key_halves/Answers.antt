@@ -12,9 +12,9 @@ pub returns : goal.returns
 returns c =
     let node = c.args.node in
     let xs = node.children.items in
-    let b = c.in_ok-behind.behind.items in
-    let tail : b ≡ drop 169 xs = c.in_ok-behind.ensures.tail in
-    let items : c.split_off.new.self.items ≡ take 169 xs = c.in_ok-behind.ensures.items in
+    let b = c.in_ok-beyond.beyond.items in
+    let tail : b ≡ drop 169 xs = c.in_ok-beyond.ensures.tail in
+    let items : c.split_off.new.self.items ≡ take 169 xs = c.in_ok-beyond.ensures.items in
     let front_long : length c.split_off.new.self.items ≡ 169 = ap length items ∙ length-take-le 169 xs (let h : 169 ≤ length xs = omega (arith, c.requires.many) in h) in
     let back_long : length b ≡ 170 = omega (arith, ap length tail, length-drop 169 xs, c.requires.many) in
     let mid : Child = c.index.result.now in
@@ -24,7 +24,7 @@ returns c =
     let first = c.bounds_between.ensures in
     let second = c.bounds_between-2.ensures in
     let front : KeyNodeSaid = record { level = node.level; bounds = c.bounds_between.result; children = c.split_off.new.self } in
-    let back : KeyNodeSaid = record { level = node.level; bounds = c.bounds_between-2.result; children = c.in_ok-behind.behind } in
+    let back : KeyNodeSaid = record { level = node.level; bounds = c.bounds_between-2.result; children = c.in_ok-beyond.beyond } in
     let halves : AreKeyHalves node front back = record {
       place = 169;
       mid = mid;

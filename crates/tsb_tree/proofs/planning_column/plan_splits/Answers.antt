@@ -14,11 +14,11 @@ use Rattle.tsb_tree.specs.Wholes.{IsAt}
 use Rattle.tsb_tree.specs.inner.Uses.{UsesPages}
 use Rattle.tsb_tree.proofs.Columns.{is_at, ok_both}
 use Rattle.tsb_tree.proofs.LayingOut.{plans_taken, read_plan, keeps_none}
-use Rattle.tsb_tree.proofs.Needing.{column_read, leaf_read, filled_read, leaf_uses, leaf_wants, outdated_read, outdated_whole, read_never_full, read_never_once}
+use Rattle.tsb_tree.proofs.Needing.{column_read, leaf_read, filled_read, leaf_uses, leaf_lacks, outdated_read, outdated_whole, read_never_full, read_never_once}
 use Rattle.tsb_tree.proofs.Outliving.{or_else}
 use Rattle.tsb_tree.proofs.Pushing.{whole_among, whole_forward}
 use Rattle.tsb_tree.proofs.Shelving.{spends_none, spends_same}
-use Rattle.tsb_tree.proofs.Wanting.{ok_then}
+use Rattle.tsb_tree.proofs.LackingRoom.{ok_then}
 use Rattle.tsb_tree.proofs.planning_column.plan_splits.Goals as goal
 
 pub returns-in_err-whole-clause-refused : goal.returns-in_err-whole-clause-refused
@@ -55,7 +55,7 @@ returns-clause-plans g c s all can at_leaf =
     let w = c.in_ok-whole.whole in
     let homes = g.P.Pages.homes c.args.pages.now in
     let says = c.in_ok-whole.ensures.column can.start can.shown can.is.shows in
-    let at : IsAt s.nodes place.page leaf.page w = is_at s all place can.shown c.requires.level can.is.tells can.stands w leaf.page _ says at_leaf c.in_ok-whole.ensures.leaf in
+    let at : IsAt s.nodes place.page leaf.page w = is_at s all place can.shown c.requires.level can.is.reports can.stands w leaf.page _ says at_leaf c.in_ok-whole.ensures.leaf in
     let homes_is : c.home_pages.result ≡ homes = c.home_pages.ensures ∙ c.in_ok-whole.ensures.reads.homes in
     let next_is : c.next_page.result ≡ g.P.Pages.next c.args.pages.now = c.next_page.ensures ∙ c.in_ok-whole.ensures.reads.next in
     let keys_is = c.in_ok-whole.ensures.keys in
@@ -81,7 +81,7 @@ returns-clause-honest g c s all can of filled =
     let w = c.in_ok-whole.whole in
     let says = c.in_ok-whole.ensures.column can.start can.shown can.is.shows in
     let page = c.in_ok-whole.ensures.leaf in
-    let at : IsAt s.nodes place.page leaf.page w = is_at s all place can.shown c.requires.level can.is.tells can.stands w leaf.page _ says of.at page in
+    let at : IsAt s.nodes place.page leaf.page w = is_at s all place can.shown c.requires.level can.is.reports can.stands w leaf.page _ says of.at page in
     let among : (x : Version) → Has w.leaf x → Has all x = whole_among s all place leaf.page leaf.image w v at can.stands page in
     c.split_column.ensures.honest (record { above = λ x h. can.above.above x (among x h) }) (whole_forward s all place leaf.page leaf.image w v at can.stands page can.above c.requires.small filled)
     (λ x h. can.bounded x (among x h)) can.inside
@@ -90,8 +90,8 @@ pub returns-clause-burns : goal.returns-clause-burns
 returns-clause-burns g c =
     or_else (outdated_read c.args.place.now c.args.leaf.now.image (version_of c.args.entry.now) c.in_ok-whole.whole c.in_ok-whole.ensures.keys c.in_ok-whole.ensures.leaf) c.split_column.ensures.burns
 
-pub returns-in_err-whole-clause-wants_pages : goal.returns-in_err-whole-clause-wants_pages
-returns-in_err-whole-clause-wants_pages g c start shown shows at filled is =
+pub returns-in_err-whole-clause-lacks_pages : goal.returns-in_err-whole-clause-lacks_pages
+returns-in_err-whole-clause-lacks_pages g c start shown shows at filled is =
     let p = err_from_is_err_and c.from_residual.result c.from_residual.ensures.1 in
     absurd (read_never_full _ (g.P.Pages.down c.args.pages.now) c.in_err-whole.ensures.refused (cc))
 
@@ -107,8 +107,8 @@ returns-clause-uses g c start shown shows at filled =
     subst (λ (n : ℕ). IfOk c.split_column.result (λ change. UsesPages shown v place n change.unused change.new)) next_is
     (ok_then _ _ c.split_column.result (λ change uses. leaf_uses shown v place w.leaf uses.0 has full uses.1 c.next_page.result change.unused change.new uses.2) c.split_column.ensures.uses)
 
-pub returns-clause-wants_pages : goal.returns-clause-wants_pages
-returns-clause-wants_pages g c start shown shows at filled is =
+pub returns-clause-lacks_pages : goal.returns-clause-lacks_pages
+returns-clause-lacks_pages g c start shown shows at filled is =
     let place = c.args.place.now in
     let v : Version = version_of c.args.entry.now in
     let w = c.in_ok-whole.whole in
@@ -117,9 +117,9 @@ returns-clause-wants_pages g c start shown shows at filled is =
     let full = filled_read place c.args.leaf.now.image v w filled page in
     let homes_is : c.home_pages.result ≡ g.P.Pages.homes c.args.pages.now = c.home_pages.ensures ∙ c.in_ok-whole.ensures.reads.homes in
     let next_is : c.next_page.result ≡ g.P.Pages.next c.args.pages.now = c.next_page.ensures ∙ c.in_ok-whole.ensures.reads.next in
-    let wants = c.split_column.ensures.wants_pages is in
-    let few = wants.3 in
-    leaf_wants shown v place w.leaf wants.0 has full wants.1 (g.P.Pages.homes c.args.pages.now) (g.P.Pages.next c.args.pages.now) wants.2 (omega (arith, few, homes_is, next_is))
+    let lacks = c.split_column.ensures.lacks_pages is in
+    let few = lacks.3 in
+    leaf_lacks shown v place w.leaf lacks.0 has full lacks.1 (g.P.Pages.homes c.args.pages.now) (g.P.Pages.next c.args.pages.now) lacks.2 (omega (arith, few, homes_is, next_is))
 
 pub returns-in_err-whole-clause-once : goal.returns-in_err-whole-clause-once
 returns-in_err-whole-clause-once g c refusal is =

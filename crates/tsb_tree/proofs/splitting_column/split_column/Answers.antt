@@ -21,9 +21,9 @@ returns-in-Err-clause-honest g c above forward bounded inside =
 pub returns-in-Ok-clause-uses : goal.returns-in-Ok-clause-uses
 returns-in-Ok-clause-uses g c = (c.grow.new.whole.leaf, c.in_ok-grow.ensures.stays, c.in-Ok.ensures.uses)
 
-pub returns-in-Err-clause-wants_pages : goal.returns-in-Err-clause-wants_pages
-returns-in-Err-clause-wants_pages g c is =
-    (c.grow.new.whole.leaf, c.in_ok-grow.ensures.stays, c.in-Err.ensures.wants_pages is, layout_full _ _ _ c.in-Err.ensures.refused (cc))
+pub returns-in-Err-clause-lacks_pages : goal.returns-in-Err-clause-lacks_pages
+returns-in-Err-clause-lacks_pages g c is =
+    (c.grow.new.whole.leaf, c.in_ok-grow.ensures.stays, c.in-Err.ensures.lacks_pages is, layout_full _ _ _ c.in-Err.ensures.refused (cc))
 
 pub returns-in-Ok-clause-none_left : goal.returns-in-Ok-clause-none_left
 returns-in-Ok-clause-none_left g c honest none outlived = absurd (false≢true (c.in_ok-grow.ensures.none_left honest none outlived))

@@ -26,7 +26,7 @@ returns-in-Ok-clause-created g c start shown shows =
       shown = laid images shown;
       shows = c.in-Ok.ensures.ok start shown shows;
       nodes = first_pages page;
-      tells = shown_first page images shown first (omega (arith, long, inside));
+      reports = shown_first page images shown first (omega (arith, long, inside));
       own = first_own page;
       has = λ blocks next. created blocks next page (g.P.Pages.next c.lay.new.self) c.in-Ok.ensures.next;
     })

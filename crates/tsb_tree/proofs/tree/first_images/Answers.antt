@@ -1,7 +1,7 @@
 use Rattle.std.proofs.Common.{◌≡◌, ◌+◌, List, ℕ, [], set, length, refl, ◌∙◌, ap, arith, None}
 use Rattle.page_journal.specs.Recovers.{laid}
 use Rattle.tsb_tree.specs.declared.whole.Whole.{Whole}
-use Rattle.tsb_tree.proofs.Beginning.{tells_first}
+use Rattle.tsb_tree.proofs.Beginning.{reports_first}
 use Rattle.tsb_tree.proofs.Creating.{first_column, first_leaf}
 use Rattle.tsb_tree.proofs.tree.first_images.Goals as goal
 
@@ -25,4 +25,4 @@ returns-clause-images c =
     }
 
 pub returns-clause-tree : goal.returns-clause-tree
-returns-clause-tree c = λ shown inside. tells_first c.args.page _ shown (returns-clause-images c) inside
+returns-clause-tree c = λ shown inside. reports_first c.args.page _ shown (returns-clause-images c) inside

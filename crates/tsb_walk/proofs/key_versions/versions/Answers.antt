@@ -11,7 +11,7 @@ use Rattle.tsb_walk.proofs.key_versions.versions.Goals as goal
 pub loop-all-init : goal.loop-all-init
 loop-all-init g c = record {
   pages = reads_none g.P.Pages c.args.pages.now ⊥ (λ never. never);
-  told = λ start shown shows s all rising st well known. none_gathered c.args.key c.new-from.result all c.new-all.result.items c.new-all.ensures.items c.new-from.ensures.number;
+  reported = λ start shown shows s all rising st well known. none_gathered c.args.key c.new-from.result all c.new-all.result.items c.new-all.ensures.items c.new-from.ensures.number;
   reads = λ start shown shows s all rising st well known. well;
   inside = λ k. k;
   known = λ h. refl;
@@ -28,8 +28,8 @@ returns-in-None-clause-versions g c = λ start shown shows s all rising st well 
     let w = i.reads start shown shows s all rising st well known in
     let k = known_on g.O.OnceDisk c.args.reader.now c.loop-all.reader c.args.seen.now c.loop-all.seen s.blocks (i.known well.honest) i.disk known in
     let part = c.in_ok-part.ensures.part start shown shows' s all rising st w k in
-    let new : versions_of c.append.new.self.items ≡ filter (is_of c.args.key 0 (end_or c.in_ok-part.part.told)) all =
-    gathered all c.args.key c.loop-all.from c.in_ok-part.part.told c.loop-all.all.items c.in_ok-part.part.entries.items c.append.new.self.items rising c.in_ok-append.ensures.items (i.told start shown shows s all rising st well known) part in
+    let new : versions_of c.append.new.self.items ≡ filter (is_of c.args.key 0 (end_or c.in_ok-part.part.reported)) all =
+    gathered all c.args.key c.loop-all.from c.in_ok-part.part.reported c.loop-all.all.items c.in_ok-part.part.entries.items c.append.new.self.items rising c.in_ok-append.ensures.items (i.reported start shown shows s all rising st well known) part in
     record { above = omega arith; are = new ∙ ap (λ (t : Option ℕ). filter (is_of c.args.key 0 (end_or t)) all) c.in-None.is }
 
 pub loop-all-preserved : goal.loop-all-preserved
@@ -38,14 +38,14 @@ loop-all-preserved g c =
     let H = g.O.OnceDisk.honest_seen in
     record {
       pages = reads_then g.P.Pages c.args.pages.now c.loop-all.pages c.next_part.new.pages ⊥ ⊥ i.pages (λ never. never) (reads_as g.P.Pages c.loop-all.pages c.next_part.new.pages _ ⊥ c.in_ok-part.ensures.same (λ e. absurd (cc)) (λ never. absurd never));
-      told = λ start shown shows s all rising st well known.
+      reported = λ start shown shows s all rising st well known.
           let i = c.loop-all.invariant in
           let shows' = i.pages.shown start shown shows in
           let w = i.reads start shown shows s all rising st well known in
           let k = known_on g.O.OnceDisk c.args.reader.now c.loop-all.reader c.args.seen.now c.loop-all.seen s.blocks (i.known well.honest) i.disk known in
           let part = c.in_ok-part.ensures.part start shown shows' s all rising st w k in
-          let new : versions_of c.append.new.self.items ≡ filter (is_of c.args.key 0 (end_or c.in_ok-part.part.told)) all =
-          gathered all c.args.key c.loop-all.from c.in_ok-part.part.told c.loop-all.all.items c.in_ok-part.part.entries.items c.append.new.self.items rising c.in_ok-append.ensures.items (i.told start shown shows s all rising st well known) part in
+          let new : versions_of c.append.new.self.items ≡ filter (is_of c.args.key 0 (end_or c.in_ok-part.part.reported)) all =
+          gathered all c.args.key c.loop-all.from c.in_ok-part.part.reported c.loop-all.all.items c.in_ok-part.part.entries.items c.append.new.self.items rising c.in_ok-append.ensures.items (i.reported start shown shows s all rising st well known) part in
           new ∙ ap (λ (t : Option ℕ). filter (is_of c.args.key 0 (end_or t)) all) c.in-Some.is;
       reads = λ start shown shows s all rising st well known.
           let i = c.loop-all.invariant in

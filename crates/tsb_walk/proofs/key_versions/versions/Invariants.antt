@@ -15,7 +15,7 @@ use Rattle.tsb_walk.proofs.key_versions.versions.Given as goal
 abbrev pub invariant-loop-all : goal.invariant-loop-all
 invariant-loop-all g l = record {
   pages : OnlyReads g.P.Pages l.initial.pages l.pages ⊥;
-  told : (start : Start) (shown : List (List ℕ)) → g.P.Pages.shows l.initial.pages start shown → (s : Store) (all : List Version) → IsRising all → StandsShown shown s all l.root
+  reported : (start : Start) (shown : List (List ℕ)) → g.P.Pages.shows l.initial.pages start shown → (s : Store) (all : List Version) → IsRising all → StandsShown shown s all l.root
       → ReadsWell g.O.OnceDisk l.initial.reader l.initial.seen → AreKnown (g.O.OnceDisk.known l.initial.seen) (g.O.OnceDisk.block_count (reader_disk l.initial.reader)) s.blocks
       → versions_of l.all.items ≡ filter (is_of l.key 0 l.from) all;
   reads : (start : Start) (shown : List (List ℕ)) → g.P.Pages.shows l.initial.pages start shown → (s : Store) (all : List Version) → IsRising all → StandsShown shown s all l.root

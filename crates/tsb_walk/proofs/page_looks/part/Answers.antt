@@ -27,7 +27,7 @@ pub returns-in_ok-answer-in-InLeaf-clause-part : goal.returns-in_ok-answer-in-In
 returns-in_ok-answer-in-InLeaf-clause-part g c = λ start shown shows s all rising st.
     let fits : c.args.from < stamp_end = omega (arith, c.stamp_fits.ensures.fits) in
     parted_here shown s all c.args.root.now c.args.key c.args.from c.in_ok-at.at (c.in_ok-at.ensures.there start shown shows) st c.in-InLeaf.current c.in-InLeaf.is fits rising c.in_ok-answer-in-InLeaf.answer
-    (λ versions says. c.in_ok-answer-in-InLeaf.ensures.part start shown (c.column_at.ensures.same.shown start shown shows) versions says) c.in_ok-answer-in-InLeaf.ensures.told
+    (λ versions says. c.in_ok-answer-in-InLeaf.ensures.part start shown (c.column_at.ensures.same.shown start shown shows) versions says) c.in_ok-answer-in-InLeaf.ensures.reported
 
 pub returns-in-InPast-clause-part : goal.returns-in-InPast-clause-part
 returns-in-InPast-clause-part g c = λ start shown shows s all rising st.

@@ -7,5 +7,5 @@ returns c = record {
   none = λ all new s at from to adds. later.none_stays all new s adds at from to;
   one = λ all new s v. later.Adds-later all new v s;
   next = λ all new s at from reached adds. later.next_stays all new s adds at from reached;
-  part = λ all new versions s key from told adds rising rising_new. later.part_stays all new s adds key from versions told rising rising_new;
+  part = λ all new versions s key from reported adds rising rising_new. later.part_stays all new s adds key from versions reported rising rising_new;
 }

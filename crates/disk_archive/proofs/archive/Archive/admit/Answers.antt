@@ -36,32 +36,32 @@ returns-clause-reply g c honest h held i here = if_ok_as c.try_admit.result _ _ 
 pub returns-clause-counter_full : goal.returns-clause-counter_full
 returns-clause-counter_full g c honest h held = ⊎_elim
     (λ k. let e = c.try_admit.ensures.counter_full h k in (λ r. (k.maps.keeps.usable, (e.0 r).0, (e.0 r).1), λ is. e.1 (is.1, is.2)))
-    (λ w. let r = c.try_admit.ensures.told.1 w.unusable in (λ full. absurd (not_both c.try_admit.result admits.CounterFull r (λ e. cc) full), λ is. absurd (true≢false (sym w.unusable ∙ is.0))))
+    (λ w. let r = c.try_admit.ensures.reported.1 w.unusable in (λ full. absurd (not_both c.try_admit.result admits.CounterFull r (λ e. cc) full), λ is. absurd (true≢false (sym w.unusable ∙ is.0))))
     (held honest)
 
 pub returns-clause-intake_full : goal.returns-clause-intake_full
 returns-clause-intake_full g c honest h held = ⊎_elim
     (λ k. let e = c.try_admit.ensures.intake_full h k in (λ r. (let full = e.0 r in (k.maps.keeps.usable, full.0, full.1, full.2)), λ is. e.1 (is.1, is.2, is.3)))
-    (λ w. let r = c.try_admit.ensures.told.1 w.unusable in (λ full. absurd (not_both c.try_admit.result admits.IntakeFull r (λ e. cc) full), λ is. absurd (true≢false (sym w.unusable ∙ is.0))))
+    (λ w. let r = c.try_admit.ensures.reported.1 w.unusable in (λ full. absurd (not_both c.try_admit.result admits.IntakeFull r (λ e. cc) full), λ is. absurd (true≢false (sym w.unusable ∙ is.0))))
     (held honest)
 
 pub returns-clause-undamaged : goal.returns-clause-undamaged
-returns-clause-undamaged g c honest h held page told = ⊎_elim
-    (λ k. c.try_admit.ensures.undamaged h k page told)
-    (λ w. absurd (not_both c.try_admit.result (admits.BadNode page) (c.try_admit.ensures.told.1 w.unusable) (λ e. cc) told))
+returns-clause-undamaged g c honest h held page reported = ⊎_elim
+    (λ k. c.try_admit.ensures.undamaged h k page reported)
+    (λ w. absurd (not_both c.try_admit.result (admits.BadNode page) (c.try_admit.ensures.reported.1 w.unusable) (λ e. cc) reported))
     (held honest)
 
 pub returns-clause-quiet : goal.returns-clause-quiet
 returns-clause-quiet g c other = c.try_admit.ensures.device.quiet other
 
 pub returns-clause-counted : goal.returns-clause-counted
-returns-clause-counted g c told = c.try_admit.ensures.device.counted told
+returns-clause-counted g c reported = c.try_admit.ensures.device.counted reported
 
 pub returns-clause-idle : goal.returns-clause-idle
 returns-clause-idle g c down = down_still c.args.self.now _ down (c.try_admit.ensures.recovery down)
 
 pub returns-clause-memory : goal.returns-clause-memory
-returns-clause-memory g c honest h held told = held_clock c.args.self.now _ h c.try_admit.ensures.recovery (λ k. c.try_admit.ensures.memory h k told) (held honest)
+returns-clause-memory g c honest h held reported = held_clock c.args.self.now _ h c.try_admit.ensures.recovery (λ k. c.try_admit.ensures.memory h k reported) (held honest)
 
 pub returns-clause-empty : goal.returns-clause-empty
 returns-clause-empty g c none = let e = c.try_admit.ensures.empty none in (ap disk_of e.0.journal, e.1)

@@ -10,8 +10,8 @@ use Rattle.disk_archive.proofs.archive.Archive.begin.Goals as goal
 pub make_pages-requires-clause-below : goal.make_pages-requires-clause-below
 make_pages-requires-clause-below g c = subst (λ (l : List Image). AreBelow c.args.homes (pages_of l)) (sym c.deref.ensures.value) (c.in-Ok.ensures.below c.args.homes c.requires.large)
 
-pub returns-in-Ok-make_pages-clause-carries : goal.returns-in-Ok-make_pages-clause-carries
-returns-in-Ok-make_pages-clause-carries g c honest honest_pen =
+pub returns-in-Ok-make_pages-clause-represents : goal.returns-in-Ok-make_pages-clause-represents
+returns-in-Ok-make_pages-clause-represents g c honest honest_pen =
     let s = c.args.settings in
     let count = g.O.OnceDisk.block_count (disk_of c.args.shelf) in
     let octet = (g.E.EraseDisk.model c.args.erase).octet in
@@ -23,7 +23,7 @@ returns-in-Ok-make_pages-clause-carries g c honest honest_pen =
       maps = c.in-Ok-make_pages.ensures.maps honest;
       valid = headed.valid;
       first = headed.first;
-      bears = headed.bears;
+      head_represents = headed.head_represents;
       mirrors = c.in-Ok.ensures.mirrors;
     }
 

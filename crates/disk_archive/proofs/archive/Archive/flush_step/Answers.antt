@@ -1,7 +1,7 @@
 use Rattle.std.proofs.Common.{⊎_elim}
 use Rattle.route_meaning.proofs.api.Beginning.{Begins-refl}
 use Rattle.disk_archive.specs.Archives.{site_of}
-use Rattle.disk_archive.specs.Sites.{LeftCarries, LeftEither, LeftFrom}
+use Rattle.disk_archive.specs.Sites.{LeftRepresents, LeftEither, LeftFrom}
 use Rattle.disk_archive.proofs.Lasting.{down_still, held_err}
 use Rattle.disk_archive.proofs.Steps.{crashes_weaker, lasts_steps}
 use Rattle.disk_archive.proofs.archive.Archive.flush_step.Goals as goal
@@ -12,7 +12,7 @@ returns-clause-holds g c h held = held_err c.args.self.now c.try_flush.new.self 
 pub returns-clause-crash : goal.returns-clause-crash
 returns-clause-crash g c h k =
     let a = c.args.self.now in
-    crashes_weaker a c.try_flush.new.self (LeftEither (site_of a) h h) (LeftCarries (site_of a) h) (λ left either. ⊎_elim (λ was. was) (λ is. is) either) (c.try_flush.ensures.crash h k)
+    crashes_weaker a c.try_flush.new.self (LeftEither (site_of a) h h) (LeftRepresents (site_of a) h) (λ left either. ⊎_elim (λ was. was) (λ is. is) either) (c.try_flush.ensures.crash h k)
 
 pub returns-clause-lasts : goal.returns-clause-lasts
 returns-clause-lasts g c =
@@ -26,7 +26,7 @@ pub returns-clause-quiet : goal.returns-clause-quiet
 returns-clause-quiet g c other = c.try_flush.ensures.device.quiet other
 
 pub returns-clause-counted : goal.returns-clause-counted
-returns-clause-counted g c told = c.try_flush.ensures.device.counted told
+returns-clause-counted g c reported = c.try_flush.ensures.device.counted reported
 
 pub returns-clause-idle : goal.returns-clause-idle
 returns-clause-idle g c down = down_still c.args.self.now _ down (c.try_flush.ensures.idle down)

@@ -4,7 +4,7 @@ use Rattle.route_meaning.proofs.api.Beginning.{Begins-refl}
 use Rattle.route_meaning.specs.History.{History}
 use Rattle.interleaving_core.specs.Steps.{marked, IsMarkAbove}
 use Rattle.interleaving_core.proofs.api.GoingOn.{begins_marked}
-use Rattle.disk_archive.specs.Archives.{Carries, GoesOn, Stands, site_of}
+use Rattle.disk_archive.specs.Archives.{Represents, GoesOn, Stands, site_of}
 use Rattle.disk_archive.specs.Sites.{LeftFrom, LeftMarked}
 use Rattle.disk_archive.proofs.Outcomes.{err_then, from_result, ok_both}
 use Rattle.disk_archive.proofs.Lasting.{down_still, held_clock, held_ok, held_err}
@@ -32,10 +32,10 @@ returns-clause-lasts g c =
     let n = c.args.collector in
     let m = c.args.mark in
     lasts_steps a z g.met.E.EraseDisk.sound c.try_mark.ensures.honest.0 c.try_mark.ensures.idle
-    (λ h k. from_result c.try_mark.result ((IsMarkAbove h n m → ⊥) × ((g : History) → Carries a g → Carries z (marked g n m))) ((g : History) → Carries a g → GoesOn z g) (Stands z h)
+    (λ h k. from_result c.try_mark.result ((IsMarkAbove h n m → ⊥) × ((g : History) → Represents a g → Represents z (marked g n m))) ((g : History) → Represents a g → GoesOn z g) (Stands z h)
     (λ ok. (marked h n m, begins_marked h n m ok.0, inl (ok.1 h k)))
     (λ err. (h, Begins-refl h, err h k))
-    (ok_both c.try_mark.result (IsMarkAbove h n m → ⊥) ((g : History) → Carries a g → Carries z (marked g n m)) ((IsMarkAbove h n m → ⊥) × ((g : History) → Carries a g → Carries z (marked g n m)))
+    (ok_both c.try_mark.result (IsMarkAbove h n m → ⊥) ((g : History) → Represents a g → Represents z (marked g n m)) ((IsMarkAbove h n m → ⊥) × ((g : History) → Represents a g → Represents z (marked g n m)))
     (c.try_mark.ensures.forward h k) c.try_mark.ensures.ok (λ below step. (below, step)))
     c.try_mark.ensures.err)
     (λ h k. crashes_weaker a z (LeftMarked (site_of a) h n m) (LeftFrom (site_of a) h)
@@ -57,10 +57,10 @@ pub returns-clause-quiet : goal.returns-clause-quiet
 returns-clause-quiet g c other = c.try_mark.ensures.device.quiet other
 
 pub returns-clause-counted : goal.returns-clause-counted
-returns-clause-counted g c told = c.try_mark.ensures.device.counted told
+returns-clause-counted g c reported = c.try_mark.ensures.device.counted reported
 
 pub returns-clause-idle : goal.returns-clause-idle
 returns-clause-idle g c down = down_still c.args.self.now _ down (c.try_mark.ensures.idle down)
 
 pub returns-clause-memory : goal.returns-clause-memory
-returns-clause-memory g c honest h held told = held_clock c.args.self.now _ h c.try_mark.ensures.idle (λ k. c.try_mark.ensures.memory h k told) (held honest)
+returns-clause-memory g c honest h held reported = held_clock c.args.self.now _ h c.try_mark.ensures.idle (λ k. c.try_mark.ensures.memory h k reported) (held honest)

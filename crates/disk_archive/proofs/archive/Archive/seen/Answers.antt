@@ -1,6 +1,6 @@
 use Rattle.std.proofs.Common.{refl, sym, subst}
 use Rattle.once_store.specs.Shelves.{pen_of}
-use Rattle.disk_archive.proofs.Telling.{goes_on_same}
+use Rattle.disk_archive.proofs.Reporting.{goes_on_same}
 use Rattle.disk_archive.proofs.archive.Archive.seen.Goals as goal
 
 pub returns-clause-holds : goal.returns-clause-holds

@@ -1,6 +1,6 @@
 use Rattle.std.proofs.Common.{◌∙◌}
 use Rattle.disk_archive.proofs.Mirroring.{mirror_settled}
-use Rattle.disk_archive.proofs.Telling.{mirrors_of}
+use Rattle.disk_archive.proofs.Reporting.{mirrors_of}
 use Rattle.disk_archive.proofs.archive.Archive.settled.Goals as goal
 
 pub returns : goal.returns

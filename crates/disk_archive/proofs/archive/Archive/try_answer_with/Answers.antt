@@ -12,13 +12,13 @@ use Rattle.disk_archive.specs.Archives.{once_of, once_state}
 use Rattle.disk_archive.specs.inner.Asking.{HasTree}
 use Rattle.disk_archive.proofs.Mirroring.{mirror_settled}
 use Rattle.disk_archive.proofs.Calling.{Ready, start_of, grows_none, unwritten, kept}
-use Rattle.disk_archive.proofs.Asking.{rises_applied, lies_known, reads_kept, kept_reads, above_told}
-use Rattle.disk_archive.proofs.Faults.{above_no_fault, done_not_told, keeps_same, need_no_fault, one_told}
+use Rattle.disk_archive.proofs.Asking.{rises_applied, located_known, reads_kept, kept_reads, above_reported}
+use Rattle.disk_archive.proofs.Faults.{above_no_fault, done_not_reported, keeps_same, need_no_fault, one_reported}
 use Rattle.disk_archive.proofs.ReadFaults.{fails_none, fails_pen, fails_read, read_then}
 use Rattle.disk_archive.proofs.archive.Archive.try_answer_with.Goals as goal
 
-pub returns-in_err-begin-clause-carries : goal.returns-in_err-begin-clause-carries
-returns-in_err-begin-clause-carries g c h k =
+pub returns-in_err-begin-clause-represents : goal.returns-in_err-begin-clause-represents
+returns-in_err-begin-clause-represents g c h k =
     absurd (true≢false (sym c.in_err-begin.ensures.down ∙ k.maps.keeps.usable))
 
 pub returns-in_err-begin-clause-crash : goal.returns-in_err-begin-clause-crash
@@ -29,8 +29,8 @@ pub returns-in_err-begin-clause-watermark : goal.returns-in_err-begin-clause-wat
 returns-in_err-begin-clause-watermark g c h k above =
     absurd (true≢false (sym c.in_err-begin.ensures.down ∙ k.maps.keeps.usable))
 
-pub returns-in_err-check_settled-clause-carries : goal.returns-in_err-check_settled-clause-carries
-returns-in_err-check_settled-clause-carries g c h k =
+pub returns-in_err-check_settled-clause-represents : goal.returns-in_err-check_settled-clause-represents
+returns-in_err-check_settled-clause-represents g c h k =
     let a = c.args.self.now in
     let start : Start = start_of a h k in
     let s0 = c.in_ok-begin.ensures.shown k.honest.0 k.pages k.maps in
@@ -47,8 +47,8 @@ returns-in_err-check_settled-clause-crash g c h k =
     let r : Ready a h k c.begin.new.tx k.pages = record { shows = s0; homes = homes0 } in
     unwritten a _ h h k k.pages g.met.E.EraseDisk.sound r (grows_none (once_state a))
 
-pub returns-in_err-seen-clause-carries : goal.returns-in_err-seen-clause-carries
-returns-in_err-seen-clause-carries g c h k =
+pub returns-in_err-seen-clause-represents : goal.returns-in_err-seen-clause-represents
+returns-in_err-seen-clause-represents g c h k =
     let a = c.args.self.now in
     let start : Start = start_of a h k in
     let s0 = c.in_ok-begin.ensures.shown k.honest.0 k.pages k.maps in
@@ -66,8 +66,8 @@ returns-in_err-seen-clause-crash g c h k =
     let r : Ready a h k c.begin.new.tx k.pages = record { shows = s0; homes = homes0 } in
     unwritten a _ h h k k.pages g.met.E.EraseDisk.sound r (subst (λ (o : OnceState). Grows (once_state a) o) (sym (c.seen.ensures.same k.honest.1)) (grows_none (once_state a)))
 
-pub returns-in_err-answer-clause-carries : goal.returns-in_err-answer-clause-carries
-returns-in_err-answer-clause-carries g c h k =
+pub returns-in_err-answer-clause-represents : goal.returns-in_err-answer-clause-represents
+returns-in_err-answer-clause-represents g c h k =
     let a = c.args.self.now in
     let start : Start = start_of a h k in
     let s0 = c.in_ok-begin.ensures.shown k.honest.0 k.pages k.maps in
@@ -88,8 +88,8 @@ returns-in_err-answer-clause-crash g c h k =
     let pen = subst (λ d. g.O.OnceDisk.honest d (pen_of c.seen.new.self)) (sym c.seen.ensures.disk) (c.seen.ensures.honest.0 k.honest.1) in
     unwritten a _ h h k k.pages g.met.E.EraseDisk.sound r (subst (λ (o : OnceState). Grows (once_state a) o) (sym (c.seen.ensures.same k.honest.1)) (grows_none (once_state a)))
 
-pub returns-clause-carries : goal.returns-clause-carries
-returns-clause-carries g c h k =
+pub returns-clause-represents : goal.returns-clause-represents
+returns-clause-represents g c h k =
     let a = c.args.self.now in
     let start : Start = start_of a h k in
     let s0 = c.in_ok-begin.ensures.shown k.honest.0 k.pages k.maps in
@@ -122,10 +122,10 @@ returns-in_err-answer-clause-blames g c h k from =
       well = reads_kept g.O.OnceDisk c.args.reader.now c.in_ok-seen.seen (once_of a) (once_state a) from.disk (c.in_ok-seen.ensures.seen k.honest.1) (c.in_ok-seen.ensures.known k.honest.1) from.kept;
       low = tree_low a.settings;
       stamp = stamp_of a.head.last a.head.applied;
-      versions = k.bears.versions;
-      lies = lies_known g.O.OnceDisk c.args.reader.now c.in_ok-seen.seen (once_of a) (once_state a) k.pages (tree_low a.settings) a.head.root a.head.fresh a.head.block (stamp_of a.head.last a.head.applied) k.bears.versions from.disk (c.in_ok-seen.ensures.known k.honest.1) k.bears.tree;
+      versions = k.head_represents.versions;
+      located = located_known g.O.OnceDisk c.args.reader.now c.in_ok-seen.seen (once_of a) (once_state a) k.pages (tree_low a.settings) a.head.root a.head.fresh a.head.block (stamp_of a.head.last a.head.applied) k.head_represents.versions from.disk (c.in_ok-seen.ensures.known k.honest.1) k.head_represents.tree;
       timely = rises_applied h;
-      kept = k.bears.kept;
+      kept = k.head_represents.kept;
     } in
     let b = c.answer_by.ensures.blames (applied h) tree in
     search (rules, b)
@@ -142,10 +142,10 @@ returns-clause-answered g c h k from =
       well = reads_kept g.O.OnceDisk c.args.reader.now c.in_ok-seen.seen (once_of a) (once_state a) from.disk (c.in_ok-seen.ensures.seen k.honest.1) (c.in_ok-seen.ensures.known k.honest.1) from.kept;
       low = tree_low a.settings;
       stamp = stamp_of a.head.last a.head.applied;
-      versions = k.bears.versions;
-      lies = lies_known g.O.OnceDisk c.args.reader.now c.in_ok-seen.seen (once_of a) (once_state a) k.pages (tree_low a.settings) a.head.root a.head.fresh a.head.block (stamp_of a.head.last a.head.applied) k.bears.versions from.disk (c.in_ok-seen.ensures.known k.honest.1) k.bears.tree;
+      versions = k.head_represents.versions;
+      located = located_known g.O.OnceDisk c.args.reader.now c.in_ok-seen.seen (once_of a) (once_state a) k.pages (tree_low a.settings) a.head.root a.head.fresh a.head.block (stamp_of a.head.last a.head.applied) k.head_represents.versions from.disk (c.in_ok-seen.ensures.known k.honest.1) k.head_represents.tree;
       timely = rises_applied h;
-      kept = k.bears.kept;
+      kept = k.head_represents.kept;
     } in
     c.in_ok-answer.ensures.answer (applied h) tree
 
@@ -156,10 +156,10 @@ returns-clause-below g c h k =
     omega (arith, lt, e)
 
 pub returns-in_err-check_settled-clause-above : goal.returns-in_err-check_settled-clause-above
-returns-in_err-check_settled-clause-above g c h k mark told =
+returns-in_err-check_settled-clause-above g c h k mark reported =
     let e = mirror_settled c.args.self.now.sequencer h k.mirrors in
-    let was : c.check_settled.result ≡ Err (asks.AboveWatermark mark) = search (rules, told) in
-    let f = above_told c.check_settled.result _ (last_moment c.args.query) mark c.check_settled.ensures.above was in
+    let was : c.check_settled.result ≡ Err (asks.AboveWatermark mark) = search (rules, reported) in
+    let f = above_reported c.check_settled.result _ (last_moment c.args.query) mark c.check_settled.ensures.above was in
     (f.0 ∙ e, subst (λ (n : ℕ). n ≤ last_moment c.args.query) e f.1)
 
 pub returns-in_err-check_settled-clause-watermark : goal.returns-in_err-check_settled-clause-watermark
@@ -212,10 +212,10 @@ returns-in_err-answer-clause-reads g c h k from =
       well = reads_kept g.O.OnceDisk c.args.reader.now c.in_ok-seen.seen (once_of a) (once_state a) from.disk (c.in_ok-seen.ensures.seen k.honest.1) (c.in_ok-seen.ensures.known k.honest.1) from.kept;
       low = tree_low a.settings;
       stamp = stamp_of a.head.last a.head.applied;
-      versions = k.bears.versions;
-      lies = lies_known g.O.OnceDisk c.args.reader.now c.in_ok-seen.seen (once_of a) (once_state a) k.pages (tree_low a.settings) a.head.root a.head.fresh a.head.block (stamp_of a.head.last a.head.applied) k.bears.versions from.disk (c.in_ok-seen.ensures.known k.honest.1) k.bears.tree;
+      versions = k.head_represents.versions;
+      located = located_known g.O.OnceDisk c.args.reader.now c.in_ok-seen.seen (once_of a) (once_state a) k.pages (tree_low a.settings) a.head.root a.head.fresh a.head.block (stamp_of a.head.last a.head.applied) k.head_represents.versions from.disk (c.in_ok-seen.ensures.known k.honest.1) k.head_represents.tree;
       timely = rises_applied h;
-      kept = k.bears.kept;
+      kept = k.head_represents.kept;
     } in
     let well = c.answer_by.ensures.keeps (applied h) tree in
     let known = c.answer_by.ensures.known tree.well.honest ∙ c.in_ok-seen.ensures.known k.honest.1 ∙ ap (λ (o : OnceState). o.settled) (sym (c.seen.ensures.same k.honest.1)) in
@@ -233,10 +233,10 @@ returns-clause-reads g c h k from =
       well = reads_kept g.O.OnceDisk c.args.reader.now c.in_ok-seen.seen (once_of a) (once_state a) from.disk (c.in_ok-seen.ensures.seen k.honest.1) (c.in_ok-seen.ensures.known k.honest.1) from.kept;
       low = tree_low a.settings;
       stamp = stamp_of a.head.last a.head.applied;
-      versions = k.bears.versions;
-      lies = lies_known g.O.OnceDisk c.args.reader.now c.in_ok-seen.seen (once_of a) (once_state a) k.pages (tree_low a.settings) a.head.root a.head.fresh a.head.block (stamp_of a.head.last a.head.applied) k.bears.versions from.disk (c.in_ok-seen.ensures.known k.honest.1) k.bears.tree;
+      versions = k.head_represents.versions;
+      located = located_known g.O.OnceDisk c.args.reader.now c.in_ok-seen.seen (once_of a) (once_state a) k.pages (tree_low a.settings) a.head.root a.head.fresh a.head.block (stamp_of a.head.last a.head.applied) k.head_represents.versions from.disk (c.in_ok-seen.ensures.known k.honest.1) k.head_represents.tree;
       timely = rises_applied h;
-      kept = k.bears.kept;
+      kept = k.head_represents.kept;
     } in
     let well = c.answer_by.ensures.keeps (applied h) tree in
     let known = c.answer_by.ensures.known tree.well.honest ∙ c.in_ok-seen.ensures.known k.honest.1 ∙ ap (λ (o : OnceState). o.settled) (sym (c.seen.ensures.same k.honest.1)) in
@@ -259,7 +259,7 @@ pub returns-in_err-begin-clause-failed : goal.returns-in_err-begin-clause-failed
 returns-in_err-begin-clause-failed g c =
     let same = (keeps_same g.E.EraseDisk _ _ c.begin.ensures.same).quiet (λ f. f) in
     let d : c.from_residual.result ≡ Err asks.NeedsRecovery = search rules in
-    fails_none _ _ _ _ same refl (λ told. need_no_fault (one_told c.from_residual.result asks.NeedsRecovery asks.Fault d told))
+    fails_none _ _ _ _ same refl (λ reported. need_no_fault (one_reported c.from_residual.result asks.NeedsRecovery asks.Fault d reported))
 
 pub returns-in_err-check_settled-clause-failed : goal.returns-in_err-check_settled-clause-failed
 returns-in_err-check_settled-clause-failed g c =
@@ -267,7 +267,7 @@ returns-in_err-check_settled-clause-failed g c =
     let above = c.in_err-check_settled.ensures.above in
     let e = c.in_err-check_settled.field-0.0 in
     let d : c.from_residual-in_err-check_settled.result ≡ Err e = search rules in
-    fails_none _ _ _ _ same refl (λ told. above_no_fault e _ above.0 (one_told c.from_residual-in_err-check_settled.result e asks.Fault d told))
+    fails_none _ _ _ _ same refl (λ reported. above_no_fault e _ above.0 (one_reported c.from_residual-in_err-check_settled.result e asks.Fault d reported))
 
 pub returns-in_err-seen-clause-failed : goal.returns-in_err-seen-clause-failed
 returns-in_err-seen-clause-failed g c =
@@ -284,8 +284,8 @@ returns-in_err-answer-clause-failed g c =
     let r : c.answer_by.result ≡ Err e = search rules in
     let d : c.from_residual-in_err-answer.result ≡ Err e = search rules in
     fails_read _ _ _ c.in_ok-seen.seen c.answer_by.new.seen _ _
-    (λ told. r ∙ ap Err (one_told c.from_residual-in_err-answer.result e asks.Fault d told))
-    (λ failed. d ∙ ap Err (one_told c.answer_by.result e asks.Fault r failed))
+    (λ reported. r ∙ ap Err (one_reported c.from_residual-in_err-answer.result e asks.Fault d reported))
+    (λ failed. d ∙ ap Err (one_reported c.answer_by.result e asks.Fault r failed))
     (c.seen.ensures.counts.quiet looked) c.in_ok-seen.ensures.fresh (λ honest same_disk. c.answer_by.ensures.look (subst (λ d. g.O.OnceDisk.honest_seen d c.in_ok-seen.seen) (sym same_disk) (c.in_ok-seen.ensures.seen honest.1))) (read_then _ _ _ _ _ _ same c.answer_by.ensures.failed)
 
 pub returns-clause-failed : goal.returns-clause-failed
@@ -294,8 +294,8 @@ returns-clause-failed g c =
     let looked : IsOk c.seen.result = search rules in
     let r : c.answer_by.result ≡ Ok c.in_ok-answer.answer = search rules in
     fails_read _ _ _ c.in_ok-seen.seen c.answer_by.new.seen _ _
-    (λ told. absurd (done_not_told _ _ asks.Fault refl told))
-    (λ failed. absurd (done_not_told c.answer_by.result c.in_ok-answer.answer asks.Fault r failed))
+    (λ reported. absurd (done_not_reported _ _ asks.Fault refl reported))
+    (λ failed. absurd (done_not_reported c.answer_by.result c.in_ok-answer.answer asks.Fault r failed))
     (c.seen.ensures.counts.quiet looked) c.in_ok-seen.ensures.fresh (λ honest same_disk. c.answer_by.ensures.look (subst (λ d. g.O.OnceDisk.honest_seen d c.in_ok-seen.seen) (sym same_disk) (c.in_ok-seen.ensures.seen honest.1))) (read_then _ _ _ _ _ _ same c.answer_by.ensures.failed)
 
 -- ---- nothing is written

@@ -7,15 +7,15 @@ use Rattle.disk_archive.specs.Archives.{once_state}
 use Rattle.disk_archive.specs.Mirrors.{Mirrors}
 use Rattle.disk_archive.specs.inner.Applications.{apply_of_use}
 use Rattle.disk_archive.proofs.Failing.{apply_fault, apply_memory, reports_first, reports_none, reports_then, reports_as}
-use Rattle.disk_archive.proofs.Faults.{done_not_told, keeps_served, one_told, told_as}
+use Rattle.disk_archive.proofs.Faults.{done_not_reported, keeps_served, one_reported, reported_as}
 use Rattle.disk_archive.proofs.Fronts.{nothing_is}
 use Rattle.disk_archive.proofs.Outcomes.{on_each_err}
 use Rattle.disk_archive.proofs.Calling.{Ready, start_of, grows_none, unwritten, written, kept}
-use Rattle.disk_archive.proofs.Burning.{carries_more, refused_more, done_more}
+use Rattle.disk_archive.proofs.Burning.{represents_more, refused_more, done_more}
 use Rattle.disk_archive.proofs.Applied.{begins_moved}
-use Rattle.disk_archive.proofs.Staying.{told_fault}
+use Rattle.disk_archive.proofs.Staying.{reported_fault}
 use Rattle.disk_archive.proofs.Lacking.{lacks_at, lacks_commit, room_at}
-use Rattle.disk_archive.proofs.Limited.{limits_as, limits_commit, limits_fresh, on_told}
+use Rattle.disk_archive.proofs.Limited.{limits_as, limits_commit, limits_fresh, on_reported}
 use Rattle.disk_archive.proofs.archive.Archive.try_apply.Goals as goal
 
 pub plan_changes-requires-clause-lanes : goal.plan_changes-requires-clause-lanes
@@ -56,7 +56,7 @@ returns-in_err-head-clause-err g c =
     let grows = kb.grows k.honest.1 in
     let now = c.plan_changes.ensures.shows start k.pages s0 in
     let r : Ready a h k c.plan_changes.new.pages now.0 = record { shows = now.1; homes = c.plan_changes.ensures.homes ∙ homes0 } in
-    inl (carries_more a _ h k kb.disk grows refl refl r.homes r.shows.noted (now.1.honest, kb.honest.0 k.honest.1) now.1.maps k.mirrors))
+    inl (represents_more a _ h k kb.disk grows refl refl r.homes r.shows.noted (now.1.honest, kb.honest.0 k.honest.1) now.1.maps k.mirrors))
 
 pub returns-in_err-head-clause-crash : goal.returns-in_err-head-clause-crash
 returns-in_err-head-clause-crash g c h k =
@@ -80,7 +80,7 @@ returns-in_err-head-clause-sound g c h k page bad =
     let homes0 = ap home_pages c.begin_from.ensures.same in
     let kb = c.plan_changes.ensures.shelf in
     let grows = kb.grows k.honest.1 in
-    c.plan_changes.ensures.sound start k.pages h s0 k.honest.1 k.bears k.mirrors page (search (rules, bad))
+    c.plan_changes.ensures.sound start k.pages h s0 k.honest.1 k.head_represents k.mirrors page (search (rules, bad))
 
 pub returns-in_err-commit-clause-err : goal.returns-in_err-commit-clause-err
 returns-in_err-commit-clause-err g c =
@@ -92,12 +92,12 @@ returns-in_err-commit-clause-err g c =
     let homes0 = ap home_pages c.begin_from.ensures.same in
     let kb = c.plan_changes.ensures.shelf in
     let grows = kb.grows k.honest.1 in
-    let plan = c.in_ok-head.ensures.planned start k.pages h s0 k.honest.1 k.bears k.mirrors in
+    let plan = c.in_ok-head.ensures.planned start k.pages h s0 k.honest.1 k.head_represents k.mirrors in
     let p = plan.planned in
     let r : Ready a h k c.plan_changes.new.pages p.pages = record { shows = p.shown; homes = c.plan_changes.ensures.homes ∙ homes0 } in
     let l = c.commit.ensures.crash start p.pages p.shown in
     refused_more a _ h plan.after k c.plan_changes.new.pages p.pages c.in_ok-head.field-0.head sound r c.commit.ensures.journal.homes c.commit.ensures.journal.note kb.disk grows refl refl
-    (c.commit.ensures.journal.serves.honest.0 p.shown.honest, kb.honest.0 k.honest.1) k.mirrors (begins_moved h plan.after k.bears.right plan.moves) p.headed l (c.in_err-commit.ensures.err start p.pages p.shown))
+    (c.commit.ensures.journal.serves.honest.0 p.shown.honest, kb.honest.0 k.honest.1) k.mirrors (begins_moved h plan.after k.head_represents.right plan.moves) p.headed l (c.in_err-commit.ensures.err start p.pages p.shown))
 
 pub returns-in_err-commit-clause-crash : goal.returns-in_err-commit-clause-crash
 returns-in_err-commit-clause-crash g c h k =
@@ -108,7 +108,7 @@ returns-in_err-commit-clause-crash g c h k =
     let homes0 = ap home_pages c.begin_from.ensures.same in
     let kb = c.plan_changes.ensures.shelf in
     let grows = kb.grows k.honest.1 in
-    let plan = c.in_ok-head.ensures.planned start k.pages h s0 k.honest.1 k.bears k.mirrors in
+    let plan = c.in_ok-head.ensures.planned start k.pages h s0 k.honest.1 k.head_represents k.mirrors in
     let p = plan.planned in
     let r : Ready a h k c.plan_changes.new.pages p.pages = record { shows = p.shown; homes = c.plan_changes.ensures.homes ∙ homes0 } in
     let l = c.commit.ensures.crash start p.pages p.shown in
@@ -123,7 +123,7 @@ returns-clause-crash g c h k =
     let homes0 = ap home_pages c.begin_from.ensures.same in
     let kb = c.plan_changes.ensures.shelf in
     let grows = kb.grows k.honest.1 in
-    let plan = c.in_ok-head.ensures.planned start k.pages h s0 k.honest.1 k.bears k.mirrors in
+    let plan = c.in_ok-head.ensures.planned start k.pages h s0 k.honest.1 k.head_represents k.mirrors in
     let p = plan.planned in
     let r : Ready a h k c.plan_changes.new.pages p.pages = record { shows = p.shown; homes = c.plan_changes.ensures.homes ∙ homes0 } in
     let l = c.commit.ensures.crash start p.pages p.shown in
@@ -138,7 +138,7 @@ returns-clause-ok g c h k =
     let homes0 = ap home_pages c.begin_from.ensures.same in
     let kb = c.plan_changes.ensures.shelf in
     let grows = kb.grows k.honest.1 in
-    let plan = c.in_ok-head.ensures.planned start k.pages h s0 k.honest.1 k.bears k.mirrors in
+    let plan = c.in_ok-head.ensures.planned start k.pages h s0 k.honest.1 k.head_represents k.mirrors in
     let p = plan.planned in
     let r : Ready a h k c.plan_changes.new.pages p.pages = record { shows = p.shown; homes = c.plan_changes.ensures.homes ∙ homes0 } in
     let l = c.commit.ensures.crash start p.pages p.shown in
@@ -152,7 +152,7 @@ pub returns-in_err-commit-clause-falls : goal.returns-in_err-commit-clause-falls
 returns-in_err-commit-clause-falls g c up down =
     let was = c.plan_changes.ensures.down ∙ (ap needs_recovery c.begin_from.ensures.same ∙ up) in
     let fell = c.in_err-commit.ensures.falls was down in
-    told_fault c.from_residual-in_err-commit.result apply_of_use c.in_err-commit.field-0.0 c.from_residual-in_err-commit.ensures.1 (cc fell)
+    reported_fault c.from_residual-in_err-commit.result apply_of_use c.in_err-commit.field-0.0 c.from_residual-in_err-commit.ensures.1 (cc fell)
 
 -- ---- what is too much
 
@@ -160,43 +160,43 @@ pub returns-in_err-head-clause-limits : goal.returns-in_err-head-clause-limits
 returns-in_err-head-clause-limits g c =
     let a = c.args.self.now in
     let e = c.in_err-head.field-0.0 in
-    on_told c.from_residual-in_err-head.result e _ c.from_residual-in_err-head.ensures.1
+    on_reported c.from_residual-in_err-head.result e _ c.from_residual-in_err-head.ensures.1
     (limits_fresh _ a.head.fresh a.head.applied e (limits_as _ _ _ _ _ _ e (ap home_pages c.begin_from.ensures.same) c.in_ok-begin_from.ensures.next refl c.in_err-head.ensures.limits))
 
 pub returns-in_err-commit-clause-limits : goal.returns-in_err-commit-clause-limits
-returns-in_err-commit-clause-limits g c = on_told c.from_residual-in_err-commit.result _ _ c.from_residual-in_err-commit.ensures.1 (limits_commit _ _ _ c.in_err-commit.field-0.0)
+returns-in_err-commit-clause-limits g c = on_reported c.from_residual-in_err-commit.result _ _ c.from_residual-in_err-commit.ensures.1 (limits_commit _ _ _ c.in_err-commit.field-0.0)
 
 pub returns-in_err-head-clause-lacks : goal.returns-in_err-head-clause-lacks
 returns-in_err-head-clause-lacks g c h k =
     let a = c.args.self.now in
     let e = c.in_err-head.field-0.0 in
     let s0 = c.in_ok-begin_from.ensures.shown k.honest.0 k.pages k.maps in
-    on_told c.from_residual-in_err-head.result e _ c.from_residual-in_err-head.ensures.1
+    on_reported c.from_residual-in_err-head.result e _ c.from_residual-in_err-head.ensures.1
     (lacks_at _ k.pages _ _ _ _ e (let homes = ap home_pages c.begin_from.ensures.same in let next = c.in_ok-begin_from.ensures.next in omega (arith, homes, next)) refl
-    (c.in_err-head.ensures.lacks (start_of a h k) k.pages h s0 k.honest.1 k.bears k.mirrors))
+    (c.in_err-head.ensures.lacks (start_of a h k) k.pages h s0 k.honest.1 k.head_represents k.mirrors))
 
 pub returns-in_err-commit-clause-lacks : goal.returns-in_err-commit-clause-lacks
-returns-in_err-commit-clause-lacks g c h k = on_told c.from_residual-in_err-commit.result _ _ c.from_residual-in_err-commit.ensures.1 (lacks_commit _ k.pages _ _ c.in_err-commit.field-0.0)
+returns-in_err-commit-clause-lacks g c h k = on_reported c.from_residual-in_err-commit.result _ _ c.from_residual-in_err-commit.ensures.1 (lacks_commit _ k.pages _ _ c.in_err-commit.field-0.0)
 
 pub returns-in_err-head-clause-high : goal.returns-in_err-head-clause-high
-returns-in_err-head-clause-high g c honest pages maps told = c.plan_changes.ensures.high _ pages (c.in_ok-begin_from.ensures.shown honest.0 pages maps) (search (rules, told))
+returns-in_err-head-clause-high g c honest pages maps reported = c.plan_changes.ensures.high _ pages (c.in_ok-begin_from.ensures.shown honest.0 pages maps) (search (rules, reported))
 
 pub returns-clause-room : goal.returns-clause-room
-returns-clause-room g c told h k =
+returns-clause-room g c reported h k =
     let a = c.args.self.now in
     let s0 = c.in_ok-begin_from.ensures.shown k.honest.0 k.pages k.maps in
     room_at _ k.pages _ _ _ _ _ _ _ (let homes = ap home_pages c.begin_from.ensures.same in let next = c.in_ok-begin_from.ensures.next in omega (arith, homes, next)) refl refl
-    (c.in_ok-head.ensures.room (start_of a h k) k.pages h s0 k.honest.1 k.bears k.mirrors)
+    (c.in_ok-head.ensures.room (start_of a h k) k.pages h s0 k.honest.1 k.head_represents k.mirrors)
 
 -- ---- how often both disks failed
 
 pub returns-in_err-begin_from-clause-failed : goal.returns-in_err-begin_from-clause-failed
 returns-in_err-begin_from-clause-failed g c =
-    reports_then _ _ _ _ _ _ _ (ap (λ j. g.E.EraseDisk.fault_count (disk_of j)) c.begin_from.ensures.same, refl) (reports_none _ _ _ (λ told. search (rules, told)))
+    reports_then _ _ _ _ _ _ _ (ap (λ j. g.E.EraseDisk.fault_count (disk_of j)) c.begin_from.ensures.same, refl) (reports_none _ _ _ (λ reported. search (rules, reported)))
 
 pub returns-in_default-clause-failed : goal.returns-in_default-clause-failed
 returns-in_default-clause-failed g c =
-    reports_then _ _ _ _ _ _ _ (ap (λ j. g.E.EraseDisk.fault_count (disk_of j)) c.begin_from.ensures.same, refl) (reports_none _ _ _ (λ told. absurd cc))
+    reports_then _ _ _ _ _ _ _ (ap (λ j. g.E.EraseDisk.fault_count (disk_of j)) c.begin_from.ensures.same, refl) (reports_none _ _ _ (λ reported. absurd cc))
 
 pub returns-in_err-head-clause-failed : goal.returns-in_err-head-clause-failed
 returns-in_err-head-clause-failed g c =
@@ -204,7 +204,7 @@ returns-in_err-head-clause-failed g c =
     let r : c.plan_changes.result ≡ Err e = search rules in
     let d : c.from_residual-in_err-head.result ≡ Err e = search rules in
     reports_then _ _ _ _ _ _ _ (ap (λ j. g.E.EraseDisk.fault_count (disk_of j)) c.begin_from.ensures.same, refl)
-    (reports_as _ _ _ _ _ _ (λ told. r ∙ ap Err (one_told c.from_residual-in_err-head.result e applies.Fault d told)) (λ failed. d ∙ ap Err (one_told c.plan_changes.result e applies.Fault r failed)) c.plan_changes.ensures.failed)
+    (reports_as _ _ _ _ _ _ (λ reported. r ∙ ap Err (one_reported c.from_residual-in_err-head.result e applies.Fault d reported)) (λ failed. d ∙ ap Err (one_reported c.plan_changes.result e applies.Fault r failed)) c.plan_changes.ensures.failed)
 
 pub returns-in_err-commit-clause-failed : goal.returns-in_err-commit-clause-failed
 returns-in_err-commit-clause-failed g c =
@@ -212,31 +212,31 @@ returns-in_err-commit-clause-failed g c =
     let r : c.commit.result ≡ Err e = search rules in
     let d : c.from_residual-in_err-commit.result ≡ Err (apply_of_use e) = search rules in
     let plan : c.plan_changes.result ≡ Ok c.in_ok-head.field-0 = search rules in
-    let first = c.plan_changes.ensures.failed.quiet (done_not_told c.plan_changes.result c.in_ok-head.field-0 applies.Fault plan) in
+    let first = c.plan_changes.ensures.failed.quiet (done_not_reported c.plan_changes.result c.in_ok-head.field-0 applies.Fault plan) in
     reports_then _ _ _ _ _ _ _ (first.0 ∙ ap (λ j. g.E.EraseDisk.fault_count (disk_of j)) c.begin_from.ensures.same, first.1)
     (reports_as _ _ _ _ _ _
-    (λ told. r ∙ ap Err (apply_fault e (one_told c.from_residual-in_err-commit.result (apply_of_use e) applies.Fault d told)))
-    (λ failed. d ∙ ap Err (ap apply_of_use (one_told c.commit.result e uses.Fault r failed)))
+    (λ reported. r ∙ ap Err (apply_fault e (one_reported c.from_residual-in_err-commit.result (apply_of_use e) applies.Fault d reported)))
+    (λ failed. d ∙ ap Err (ap apply_of_use (one_reported c.commit.result e uses.Fault r failed)))
     (reports_first _ _ _ _ _ _ (keeps_served g.E.EraseDisk _ _ _ c.commit.ensures.journal.serves)))
 
 pub returns-clause-failed : goal.returns-clause-failed
 returns-clause-failed g c =
     let plan : c.plan_changes.result ≡ Ok c.in_ok-head.field-0 = search rules in
-    let first = c.plan_changes.ensures.failed.quiet (done_not_told c.plan_changes.result c.in_ok-head.field-0 applies.Fault plan) in
+    let first = c.plan_changes.ensures.failed.quiet (done_not_reported c.plan_changes.result c.in_ok-head.field-0 applies.Fault plan) in
     let done : c.commit.result ≡ Ok tt = search rules in
     reports_then _ _ _ _ _ _ _ (first.0 ∙ ap (λ j. g.E.EraseDisk.fault_count (disk_of j)) c.begin_from.ensures.same, first.1)
-    (reports_as _ _ _ _ _ _ (λ told. absurd cc) (λ failed. absurd (done_not_told c.commit.result tt uses.Fault done failed))
+    (reports_as _ _ _ _ _ _ (λ reported. absurd cc) (λ failed. absurd (done_not_reported c.commit.result tt uses.Fault done failed))
     (reports_first _ _ _ _ _ _ (keeps_served g.E.EraseDisk _ _ _ c.commit.ensures.journal.serves)))
 
 -- ---- where memory is refused nothing was written
 
 pub returns-in_err-head-clause-memory : goal.returns-in_err-head-clause-memory
-returns-in_err-head-clause-memory g c h k told =
+returns-in_err-head-clause-memory g c h k reported =
     let s0 = c.in_ok-begin_from.ensures.shown k.honest.0 k.pages k.maps in
     let now = c.plan_changes.ensures.shows (start_of c.args.self.now h k) k.pages s0 in
     now.1.clocked
 
 pub returns-in_err-commit-clause-memory : goal.returns-in_err-commit-clause-memory
-returns-in_err-commit-clause-memory g c h k told =
+returns-in_err-commit-clause-memory g c h k reported =
     let r = c.from_residual-in_err-commit.result in
-    absurd (apply_memory c.in_err-commit.field-0.0 (told_as r _ applies.OutOfMemory c.from_residual-in_err-commit.ensures.1 told))
+    absurd (apply_memory c.in_err-commit.field-0.0 (reported_as r _ applies.OutOfMemory c.from_residual-in_err-commit.ensures.1 reported))

@@ -15,23 +15,23 @@ use Rattle.disk_archive.specs.Checks.{IsAllRead, IsBadBlock, IsBadPage, in_use_o
 use Rattle.disk_archive.specs.Rings.{IsBadRing}
 use Rattle.disk_archive.specs.inner.Asking.{HasTree}
 use Rattle.disk_archive.proofs.Calling.{Ready, start_of, grows_none, unwritten, kept}
-use Rattle.disk_archive.proofs.Asking.{rises_applied, lies_known, reads_well}
+use Rattle.disk_archive.proofs.Asking.{rises_applied, located_known, reads_well}
 use Rattle.disk_archive.proofs.Counts.{at_disk}
-use Rattle.disk_archive.proofs.Faults.{keeps_same, one_told}
+use Rattle.disk_archive.proofs.Faults.{keeps_same, one_reported}
 use Rattle.disk_archive.proofs.Waiting.{rings_read}
 use Rattle.disk_archive.proofs.ReadFaults.{check_memory_no_fault, check_need_no_fault, fails_none, fails_pen, fails_read, look_stays, read_then}
 use Rattle.disk_archive.proofs.archive.Archive.try_check.Goals as goal
 
-pub returns-in_err-begin-clause-carries : goal.returns-in_err-begin-clause-carries
-returns-in_err-begin-clause-carries g c h k =
+pub returns-in_err-begin-clause-represents : goal.returns-in_err-begin-clause-represents
+returns-in_err-begin-clause-represents g c h k =
     absurd (true≢false (sym c.in_err-begin.ensures.down ∙ k.maps.keeps.usable))
 
 pub returns-in_err-begin-clause-crash : goal.returns-in_err-begin-clause-crash
 returns-in_err-begin-clause-crash g c h k =
     absurd (true≢false (sym c.in_err-begin.ensures.down ∙ k.maps.keeps.usable))
 
-pub returns-in_err-reader-clause-carries : goal.returns-in_err-reader-clause-carries
-returns-in_err-reader-clause-carries g c h k =
+pub returns-in_err-reader-clause-represents : goal.returns-in_err-reader-clause-represents
+returns-in_err-reader-clause-represents g c h k =
     let a = c.args.self.now in
     let start : Start = start_of a h k in
     let s0 = c.in_ok-begin.ensures.shown k.honest.0 k.pages k.maps in
@@ -48,8 +48,8 @@ returns-in_err-reader-clause-crash g c h k =
     let r : Ready a h k c.begin.new.tx k.pages = record { shows = s0; homes = homes0 } in
     unwritten a _ h h k k.pages g.met.E.EraseDisk.sound r (grows_none (once_state a))
 
-pub returns-in_err-seen-clause-carries : goal.returns-in_err-seen-clause-carries
-returns-in_err-seen-clause-carries g c h k =
+pub returns-in_err-seen-clause-represents : goal.returns-in_err-seen-clause-represents
+returns-in_err-seen-clause-represents g c h k =
     let a = c.args.self.now in
     let start : Start = start_of a h k in
     let s0 = c.in_ok-begin.ensures.shown k.honest.0 k.pages k.maps in
@@ -67,8 +67,8 @@ returns-in_err-seen-clause-crash g c h k =
     let r : Ready a h k c.begin.new.tx k.pages = record { shows = s0; homes = homes0 } in
     unwritten a _ h h k k.pages g.met.E.EraseDisk.sound r (subst (λ (o : OnceState). Grows (once_state a) o) (sym (c.seen.ensures.same k.honest.1)) (grows_none (once_state a)))
 
-pub returns-clause-carries : goal.returns-clause-carries
-returns-clause-carries g c h k =
+pub returns-clause-represents : goal.returns-clause-represents
+returns-clause-represents g c h k =
     let a = c.args.self.now in
     let start : Start = start_of a h k in
     let s0 = c.in_ok-begin.ensures.shown k.honest.0 k.pages k.maps in
@@ -100,12 +100,12 @@ returns-clause-finds g c h k =
       well = reads_well g.O.OnceDisk c.in_ok-reader.reader c.in_ok-seen.seen (once_of a) c.in_ok-reader.ensures.disk (c.in_ok-seen.ensures.seen k.honest.1) c.in_ok-reader.ensures.none;
       low = tree_low a.settings;
       stamp = stamp_of a.head.last a.head.applied;
-      versions = k.bears.versions;
-      lies = lies_known g.O.OnceDisk c.in_ok-reader.reader c.in_ok-seen.seen (once_of a) (once_state a) k.pages (tree_low a.settings) a.head.root a.head.fresh a.head.block (stamp_of a.head.last a.head.applied) k.bears.versions c.in_ok-reader.ensures.disk (c.in_ok-seen.ensures.known k.honest.1) k.bears.tree;
+      versions = k.head_represents.versions;
+      located = located_known g.O.OnceDisk c.in_ok-reader.reader c.in_ok-seen.seen (once_of a) (once_state a) k.pages (tree_low a.settings) a.head.root a.head.fresh a.head.block (stamp_of a.head.last a.head.applied) k.head_represents.versions c.in_ok-reader.ensures.disk (c.in_ok-seen.ensures.known k.honest.1) k.head_represents.tree;
       timely = rises_applied h;
-      kept = k.bears.kept;
+      kept = k.head_represents.kept;
     } in
-    c.count_by.ensures.finds (applied h) tree (rings_read a h k) k.bears.numbered k.valid.applied
+    c.count_by.ensures.finds (applied h) tree (rings_read a h k) k.head_represents.numbered k.valid.applied
 
 pub returns-clause-read : goal.returns-clause-read
 returns-clause-read g c honest pages maps =
@@ -160,13 +160,13 @@ pub returns-in_err-begin-clause-failed : goal.returns-in_err-begin-clause-failed
 returns-in_err-begin-clause-failed g c =
     let same = (keeps_same g.E.EraseDisk _ _ c.begin.ensures.same).quiet (λ f. f) in
     let d : c.from_residual.result ≡ Err checks.NeedsRecovery = search rules in
-    fails_none _ _ _ _ same refl (λ told. check_need_no_fault (one_told c.from_residual.result checks.NeedsRecovery checks.Fault d told))
+    fails_none _ _ _ _ same refl (λ reported. check_need_no_fault (one_reported c.from_residual.result checks.NeedsRecovery checks.Fault d reported))
 
 pub returns-in_err-reader-clause-failed : goal.returns-in_err-reader-clause-failed
 returns-in_err-reader-clause-failed g c =
     let same = (keeps_same g.E.EraseDisk _ _ c.begin.ensures.same).quiet (λ f. f) in
     let d : c.from_residual-in_err-reader.result ≡ Err checks.OutOfMemory = search rules in
-    fails_none _ _ _ _ same refl (λ told. check_memory_no_fault (one_told c.from_residual-in_err-reader.result checks.OutOfMemory checks.Fault d told))
+    fails_none _ _ _ _ same refl (λ reported. check_memory_no_fault (one_reported c.from_residual-in_err-reader.result checks.OutOfMemory checks.Fault d reported))
 
 pub returns-in_err-seen-clause-failed : goal.returns-in_err-seen-clause-failed
 returns-in_err-seen-clause-failed g c =
@@ -179,7 +179,7 @@ pub returns-clause-failed : goal.returns-clause-failed
 returns-clause-failed g c =
     let same = (keeps_same g.E.EraseDisk _ _ c.begin.ensures.same).quiet (λ f. f) in
     let looked : IsOk c.seen.result = search rules in
-    fails_read _ _ _ c.in_ok-seen.seen c.count_by.new.seen _ _ (λ told. told) (λ failed. failed)
+    fails_read _ _ _ c.in_ok-seen.seen c.count_by.new.seen _ _ (λ reported. reported) (λ failed. failed)
     (c.seen.ensures.counts.quiet looked) c.in_ok-seen.ensures.fresh (λ honest _. look_stays g.O.OnceDisk _ _ c.in_ok-seen.seen c.count_by.new.seen c.in_ok-reader.ensures.disk (c.in_ok-seen.ensures.seen honest.1) c.count_by.ensures.look) (read_then _ _ _ _ _ _ same c.count_by.ensures.failed)
 
 -- ---- nothing is written

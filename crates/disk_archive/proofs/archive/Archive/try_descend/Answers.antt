@@ -9,13 +9,13 @@ use Rattle.disk_archive.specs.Cursors.{asks}
 use Rattle.disk_archive.specs.Descents.{ReadsBelow}
 use Rattle.disk_archive.proofs.Mirroring.{mirror_settled}
 use Rattle.disk_archive.proofs.Calling.{Ready, start_of, grows_none, unwritten, kept}
-use Rattle.disk_archive.proofs.Asking.{above_told}
-use Rattle.disk_archive.proofs.Faults.{above_no_fault, done_not_told, keeps_same, keeps_then, keeps_told, need_no_fault, one_told}
+use Rattle.disk_archive.proofs.Asking.{above_reported}
+use Rattle.disk_archive.proofs.Faults.{above_no_fault, done_not_reported, keeps_same, keeps_then, keeps_reported, need_no_fault, one_reported}
 use Rattle.disk_archive.proofs.Turning.{pages_in}
 use Rattle.disk_archive.proofs.archive.Archive.try_descend.Goals as goal
 
-pub returns-in_err-begin-clause-carries : goal.returns-in_err-begin-clause-carries
-returns-in_err-begin-clause-carries g c h k =
+pub returns-in_err-begin-clause-represents : goal.returns-in_err-begin-clause-represents
+returns-in_err-begin-clause-represents g c h k =
     absurd (true≢false (sym c.in_err-begin.ensures.down ∙ k.maps.keeps.usable))
 
 pub returns-in_err-begin-clause-crash : goal.returns-in_err-begin-clause-crash
@@ -26,8 +26,8 @@ pub returns-in_err-begin-clause-watermark : goal.returns-in_err-begin-clause-wat
 returns-in_err-begin-clause-watermark g c h k above =
     absurd (true≢false (sym c.in_err-begin.ensures.down ∙ k.maps.keeps.usable))
 
-pub returns-in_err-check_settled-clause-carries : goal.returns-in_err-check_settled-clause-carries
-returns-in_err-check_settled-clause-carries g c h k =
+pub returns-in_err-check_settled-clause-represents : goal.returns-in_err-check_settled-clause-represents
+returns-in_err-check_settled-clause-represents g c h k =
     let a = c.args.self.now in
     let start : Start = start_of a h k in
     let s0 = c.in_ok-begin.ensures.shown k.honest.0 k.pages k.maps in
@@ -44,8 +44,8 @@ returns-in_err-check_settled-clause-crash g c h k =
     let r : Ready a h k c.begin.new.tx k.pages = record { shows = s0; homes = homes0 } in
     unwritten a _ h h k k.pages g.met.E.EraseDisk.sound r (grows_none (once_state a))
 
-pub returns-in_err-descent-clause-carries : goal.returns-in_err-descent-clause-carries
-returns-in_err-descent-clause-carries g c h k =
+pub returns-in_err-descent-clause-represents : goal.returns-in_err-descent-clause-represents
+returns-in_err-descent-clause-represents g c h k =
     let a = c.args.self.now in
     let start : Start = start_of a h k in
     let s0 = c.in_ok-begin.ensures.shown k.honest.0 k.pages k.maps in
@@ -64,8 +64,8 @@ returns-in_err-descent-clause-crash g c h k =
     let r : Ready a h k c.descend_by.new.pages k.pages = record { shows = s1; homes = c.descend_by.ensures.homes ∙ homes0 } in
     unwritten a _ h h k k.pages g.met.E.EraseDisk.sound r (grows_none (once_state a))
 
-pub returns-clause-carries : goal.returns-clause-carries
-returns-clause-carries g c h k =
+pub returns-clause-represents : goal.returns-clause-represents
+returns-clause-represents g c h k =
     let a = c.args.self.now in
     let start : Start = start_of a h k in
     let s0 = c.in_ok-begin.ensures.shown k.honest.0 k.pages k.maps in
@@ -129,11 +129,11 @@ returns-clause-below g c h k =
     omega (arith, lt, e, asked)
 
 pub returns-in_err-check_settled-clause-above : goal.returns-in_err-check_settled-clause-above
-returns-in_err-check_settled-clause-above g c h k mark told =
+returns-in_err-check_settled-clause-above g c h k mark reported =
     let e = mirror_settled c.args.self.now.sequencer h k.mirrors in
-    let was : c.check_settled.result ≡ Err (refusals.AboveWatermark mark) = search (rules, told) in
+    let was : c.check_settled.result ≡ Err (refusals.AboveWatermark mark) = search (rules, reported) in
     let asked = ap last_moment c.query.ensures in
-    let f = above_told c.check_settled.result _ (last_moment c.query.result) mark c.check_settled.ensures.above was in
+    let f = above_reported c.check_settled.result _ (last_moment c.query.result) mark c.check_settled.ensures.above was in
     let le = f.1 in
     (f.0 ∙ e, omega (arith, le, e, asked))
 
@@ -163,14 +163,14 @@ returns-clause-watermark g c h k above =
 pub returns-in_err-begin-clause-device : goal.returns-in_err-begin-clause-device
 returns-in_err-begin-clause-device g c =
     let d : c.from_residual.result ≡ Err refusals.NeedsRecovery = search rules in
-    keeps_told _ _ _ _ _ _ (λ told. need_no_fault (one_told c.from_residual.result refusals.NeedsRecovery refusals.Fault d told)) (λ never. absurd never) (keeps_same g.E.EraseDisk _ _ c.begin.ensures.same)
+    keeps_reported _ _ _ _ _ _ (λ reported. need_no_fault (one_reported c.from_residual.result refusals.NeedsRecovery refusals.Fault d reported)) (λ never. absurd never) (keeps_same g.E.EraseDisk _ _ c.begin.ensures.same)
 
 pub returns-in_err-check_settled-clause-device : goal.returns-in_err-check_settled-clause-device
 returns-in_err-check_settled-clause-device g c =
     let above = c.in_err-check_settled.ensures.above in
     let e = c.in_err-check_settled.field-0.0 in
     let d : c.from_residual-in_err-check_settled.result ≡ Err e = search rules in
-    keeps_told _ _ _ _ _ _ (λ told. above_no_fault e _ above.0 (one_told c.from_residual-in_err-check_settled.result e refusals.Fault d told)) (λ never. absurd never) (keeps_same g.E.EraseDisk _ _ c.begin.ensures.same)
+    keeps_reported _ _ _ _ _ _ (λ reported. above_no_fault e _ above.0 (one_reported c.from_residual-in_err-check_settled.result e refusals.Fault d reported)) (λ never. absurd never) (keeps_same g.E.EraseDisk _ _ c.begin.ensures.same)
 
 pub returns-in_err-descent-clause-device : goal.returns-in_err-descent-clause-device
 returns-in_err-descent-clause-device g c =
@@ -179,9 +179,9 @@ returns-in_err-descent-clause-device g c =
     let r : c.descend_by.result ≡ Err e = search rules in
     let d : c.from_residual-in_err-descent.result ≡ Err e = search rules in
     keeps_then _ _ _ _ _ _ _ first
-    (keeps_told _ _ _ _ _ _
-    (λ told. r ∙ ap Err (one_told c.from_residual-in_err-descent.result e refusals.Fault d told))
-    (λ failed. d ∙ ap Err (one_told c.descend_by.result e refusals.Fault r failed))
+    (keeps_reported _ _ _ _ _ _
+    (λ reported. r ∙ ap Err (one_reported c.from_residual-in_err-descent.result e refusals.Fault d reported))
+    (λ failed. d ∙ ap Err (one_reported c.descend_by.result e refusals.Fault r failed))
     c.descend_by.ensures.device)
 
 pub returns-clause-device : goal.returns-clause-device
@@ -189,7 +189,7 @@ returns-clause-device g c =
     let first = keeps_same g.E.EraseDisk _ _ c.begin.ensures.same in
     let r : c.descend_by.result ≡ Ok c.in_ok-descent.descent = search rules in
     keeps_then _ _ _ _ _ _ _ first
-    (keeps_told _ _ _ _ _ _ (λ told. absurd (done_not_told _ _ refusals.Fault refl told)) (λ failed. absurd (done_not_told c.descend_by.result c.in_ok-descent.descent refusals.Fault r failed)) c.descend_by.ensures.device)
+    (keeps_reported _ _ _ _ _ _ (λ reported. absurd (done_not_reported _ _ refusals.Fault refl reported)) (λ failed. absurd (done_not_reported c.descend_by.result c.in_ok-descent.descent refusals.Fault r failed)) c.descend_by.ensures.device)
 
 -- ---- errands
 

@@ -17,15 +17,15 @@ returns-in-Err-clause-done g c = λ h k.
     subst (λ (r : AskRefusal). IsAnswerOf h c.args.query (Err r)) (sym c.ask_refusal.ensures.why)
     (not_answered (is_down a) h c.args.query c.in-Err.refusal (c.in-Err.ensures.above (honest_of a h k.goes_on) h (λ _. k.goes_on)))
 
-pub returns-in-Ok-clause-carries : goal.returns-in-Ok-clause-carries
-returns-in-Ok-clause-carries g c = λ h k.
+pub returns-in-Ok-clause-represents : goal.returns-in-Ok-clause-represents
+returns-in-Ok-clause-represents g c = λ h k.
     let honest = honest_of c.args.self.now.archive h k.goes_on in record {
       goes_on = c.answer_by.ensures.holds h (λ _. k.goes_on) (c.answer_by.ensures.honest.0 honest);
       reads = c.answer_by.ensures.reads honest h (λ _. k.goes_on) k.reads;
     }
 
-pub returns-in-Err-clause-carries : goal.returns-in-Err-clause-carries
-returns-in-Err-clause-carries g c = λ h k.
+pub returns-in-Err-clause-represents : goal.returns-in-Err-clause-represents
+returns-in-Err-clause-represents g c = λ h k.
     let honest = honest_of c.args.self.now.archive h k.goes_on in record {
       goes_on = c.answer_by.ensures.holds h (λ _. k.goes_on) (c.answer_by.ensures.honest.0 honest);
       reads = c.answer_by.ensures.reads honest h (λ _. k.goes_on) k.reads;

@@ -16,7 +16,7 @@ use Rattle.intake.specs.Ring.{entry, entry_octets, octets_for, StandsIn, Holds}
 use Rattle.intake.specs.Calls.{AppendRefusal, most_pages}
 use Rattle.intake.proofs.Entries.{valid_both}
 use Rattle.intake.proofs.Images.{are_below, are_distinct, joined_few, laid_changes}
-use Rattle.intake.proofs.Spanning.{lists_behind, distinct_joined}
+use Rattle.intake.proofs.Spanning.{lists_after, distinct_joined}
 use Rattle.intake.proofs.Unique.{octets_sum}
 use Rattle.intake.proofs.ring.Ring.append.Goals as goal
 
@@ -33,11 +33,11 @@ lay-requires-clause-distinct g c =
     are_distinct ring.low ring.count n.0 (pages_of c.in_ok-images.images.items) n.1 n.2
 
 lay_refused : (down : Bool) (homes unused some first count all : ℕ) (refusal : PageError) → some ≡ homes → first ≡ unused → count ≤ all → LayRefusal some first count refusal → AppendRefusal down homes unused all (intakes.Pages refusal)
-lay_refused down homes unused some first count all refusals.Fault h u few told = absurd told
-lay_refused down homes unused some first count all refusals.NeedsRecovery h u few told = absurd told
-lay_refused down homes unused some first count all refusals.TooManyImages h u few told = let t = told.1 in omega arith
-lay_refused down homes unused some first count all refusals.PagesFull h u few told = omega arith
-lay_refused down homes unused some first count all refusals.OutOfMemory h u few told = tt
+lay_refused down homes unused some first count all refusals.Fault h u few reported = absurd reported
+lay_refused down homes unused some first count all refusals.NeedsRecovery h u few reported = absurd reported
+lay_refused down homes unused some first count all refusals.TooManyImages h u few reported = let t = reported.1 in omega arith
+lay_refused down homes unused some first count all refusals.PagesFull h u few reported = omega arith
+lay_refused down homes unused some first count all refusals.OutOfMemory h u few reported = tt
 
 if_err : {T : Type 0} (r : Result T IntakeError) (e : IntakeError) (P : IntakeError → Type 0) → IfErr r (λ x. x ≡ e) → P e → IfErr r P
 if_err (Ok x) e P is p = tt
@@ -94,7 +94,7 @@ returns-clause-added g c start shown are =
       pages = laid items shown;
       shown = c.in_ok-lay.ensures.ok start shown (c.draft.ensures.same.shown start shown are);
       outside = (let ch = laid_changes ring n.0 items shown n.1 n.2 in record { count = ch.count; below = ch.below; above = ch.above });
-      behind = λ used long stand. c.in_ok-images.ensures.stands start shown used are long stand;
+      beyond = λ used long stand. c.in_ok-images.ensures.stands start shown used are long stand;
     }
 
 pub returns-clause-few : goal.returns-clause-few
@@ -108,7 +108,7 @@ returns-clause-few g c =
 
 pub returns-clause-set : goal.returns-clause-set
 returns-clause-set g c =
-    lists_behind c.args.self.now c.in-Some.octets (octets_for c.args.batch.now) (g.P.Pages.named c.draft.new.pages) (g.P.Pages.named c.args.pages.now) (g.P.Pages.named c.lay.new.self) (pages_of c.in_ok-images.images.items) c.draft.ensures.same.named c.in_ok-lay.ensures.named c.in-Some.ensures.octets c.in_ok-images.ensures.behind
+    lists_after c.args.self.now c.in-Some.octets (octets_for c.args.batch.now) (g.P.Pages.named c.draft.new.pages) (g.P.Pages.named c.args.pages.now) (g.P.Pages.named c.lay.new.self) (pages_of c.in_ok-images.images.items) c.draft.ensures.same.named c.in_ok-lay.ensures.named c.in-Some.ensures.octets c.in_ok-images.ensures.beyond
 
 within : (batch : List Admitted) (octets : ℕ) → octets_for batch ≡ octets → octets ≤ 262144 → most_pages (octets_for batch) ≤ 17
 within batch octets is small = omega arith
@@ -127,7 +127,7 @@ too_many : {T : Type 0} (r : Result T IntakeError) (x : PageError) → IfErr r (
 too_many {T} r x is e = let same : intakes.Pages refusals.TooManyImages ≡ intakes.Pages x = subst (λ (s : Result T IntakeError). IfErr s (λ y. y ≡ intakes.Pages x)) e is in cc
 
 many : (homes first count : ℕ) (x : PageError) → x ≡ refusals.TooManyImages → LayRefusal homes first count x → 31 < count
-many homes first count x e told = (subst (LayRefusal homes first count) e told).1
+many homes first count x e reported = (subst (LayRefusal homes first count) e reported).1
 
 pub returns-in_err-lay-clause-room : goal.returns-in_err-lay-clause-room
 returns-in_err-lay-clause-room g c too =
@@ -140,7 +140,7 @@ returns-in_err-lay-clause-room g c too =
     record {
       all = joined held (pages_of items);
       distinct = distinct_joined held (pages_of items) (g.met.P.Pages.distinct c.draft.new.pages) (are_distinct ring.low ring.count n.0 (pages_of items) n.1 n.2);
-      lists = lists_behind ring c.in-Some.octets (octets_for c.args.batch.now) held old (joined held (pages_of items)) (pages_of items) c.draft.ensures.same.named refl c.in-Some.ensures.octets c.in_ok-images.ensures.behind;
+      lists = lists_after ring c.in-Some.octets (octets_for c.args.batch.now) held old (joined held (pages_of items)) (pages_of items) c.draft.ensures.same.named refl c.in-Some.ensures.octets c.in_ok-images.ensures.beyond;
       many = many _ _ _ c.in_err-lay.field-0.0 (too_many c.from_residual-in_err-lay.result c.in_err-lay.field-0.0 is too) c.in_err-lay.ensures.refused;
     }
 

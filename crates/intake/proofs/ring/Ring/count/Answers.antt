@@ -20,16 +20,16 @@ pub returns-in_err-first-clause-breaks : goal.returns-in_err-first-clause-breaks
 returns-in_err-first-clause-breaks g c page is start shown are =
     let i = c.loop-first.invariant in
     let ring = c.requires.ring in
-    let told : IfErr c.from_residual.result (λ e. e ≡ c.in_err-first.field-0.0) = search rules in
-    let was = passed_on c.from_residual.result c.front.result c.in_err-first.field-0.0 page told c.in_err-first.was is in
+    let reported : IfErr c.from_residual.result (λ e. e ≡ c.in_err-first.field-0.0) = search rules in
+    let was = passed_on c.from_residual.result c.front.result c.in_err-first.field-0.0 page reported c.in_err-first.was is in
     let now = i.same.shown start shown are in
     passed_breaks shown c.args.self.now c.loop-first.rest c.loop-first.count page ring.start ring.used (i.passed start shown are) (c.front.ensures.some page was) (λ a first. c.front.ensures.no_first page was start shown a now first) (c.front.ensures.begins page was)
 
 pub returns-in_err-first-clause-sound : goal.returns-in_err-first-clause-sound
 returns-in_err-first-clause-sound g c page is start shown waits are holds =
     let i = c.loop-first.invariant in
-    let told : IfErr c.from_residual.result (λ e. e ≡ c.in_err-first.field-0.0) = search rules in
-    let was = passed_on c.from_residual.result c.front.result c.in_err-first.field-0.0 page told c.in_err-first.was is in
+    let reported : IfErr c.from_residual.result (λ e. e ≡ c.in_err-first.field-0.0) = search rules in
+    let was = passed_on c.from_residual.result c.front.result c.in_err-first.field-0.0 page reported c.in_err-first.was is in
     let more = i.left start shown waits are holds in
     c.front.ensures.damaged page was start shown more.0 (i.same.shown start shown are) more.1
 

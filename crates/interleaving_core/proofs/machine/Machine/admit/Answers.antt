@@ -15,7 +15,7 @@ returns c =
     let at = get_some m.given.items c.args.collector i lt c.index_mut-given.ensures.value in
     let after : World = world (slice_set m.given.items c.args.collector c.take_in.new.self) m.whole m.some m.questions.items m.down in
     record {
-      does = subst (λ (x : World). WhenUp x (Taken c.in_ok-told.told) after (DoesAdmit x c.args.collector c.args.batch.now (Taken c.in_ok-told.told) after)) c.self.view_is
-          (inl (c.if-self.false, admits m.given.items m.whole m.some m.questions.items m.down c.args.collector i c.take_in.new.self at c.args.batch.now c.in_ok-told.told c.in_ok-told.ensures.taken c.in_ok-told.ensures.reply));
+      does = subst (λ (x : World). WhenUp x (Taken c.in_ok-reported.reported) after (DoesAdmit x c.args.collector c.args.batch.now (Taken c.in_ok-reported.reported) after)) c.self.view_is
+          (inl (c.if-self.false, admits m.given.items m.whole m.some m.questions.items m.down c.args.collector i c.take_in.new.self at c.args.batch.now c.in_ok-reported.reported c.in_ok-reported.ensures.taken c.in_ok-reported.ensures.reply));
       same = tt;
     }

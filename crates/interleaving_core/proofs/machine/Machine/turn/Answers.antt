@@ -28,13 +28,13 @@ returns-then-seconds c =
     let there : List (Placed Admitted) = c.deref-3.result.now in
     let rest : take (length there - k) (drop k there) ≡ drop k there = take_all (length there - k) (drop k there) (omega (arith, length-drop k there)) in
     let wait : take (length there - k) (drop k there) ≡ waiting h = rest ∙ (ap (drop k) (c.deref-3.ensures.value ∙ all) ∙ dropped_min k m.whole (all_of h) place) in
-    let told : c.in_ok-settled.settled ≡ settled h =
+    let reported : c.in_ok-settled.settled ≡ settled h =
     c.in_ok-settled.ensures ∙ (ap (λ (l : List Intake). least (bounds 0 l (take (length there - k) (drop k there)))) c.deref-2.ensures.value ∙ ap (λ (ps : List (Placed Admitted)). least (bounds 0 m.given.items ps)) wait) in
     let last : c.last_moment.result ≡ last_moment (asked q) = c.last_moment.ensures.moment ∙ ap last_moment c.query.ensures.query in
-    let above : settled h ≤ last_moment (asked q) = omega (arith, c.if-seconds.true, c.seconds.ensures.seconds, c.seconds-2.ensures.seconds, last, told) in
+    let above : settled h ≤ last_moment (asked q) = omega (arith, c.if-seconds.true, c.seconds.ensures.seconds, c.seconds-2.ensures.seconds, last, reported) in
     record {
       does = subst (λ (x : World). WhenUp x (AboveWatermark c.in_ok-settled.settled) x (IsAboveWatermark x c.args.number c.in_ok-settled.settled × (x ≡ x))) c.self.view_is
-          (inl (c.if-self.false, (record { question = q; here = at; in_progress = c.is_ended.ensures.progress.0 c.if-is_ended.false; told_is = told; above = above }, refl)));
+          (inl (c.if-self.false, (record { question = q; here = at; in_progress = c.is_ended.ensures.progress.0 c.if-is_ended.false; reported_is = reported; above = above }, refl)));
       same = tt;
     }
 
@@ -51,10 +51,10 @@ returns c =
     let there : List (Placed Admitted) = c.deref-3.result.now in
     let rest : take (length there - k) (drop k there) ≡ drop k there = take_all (length there - k) (drop k there) (omega (arith, length-drop k there)) in
     let wait : take (length there - k) (drop k there) ≡ waiting h = rest ∙ (ap (drop k) (c.deref-3.ensures.value ∙ all) ∙ dropped_min k m.whole (all_of h) place) in
-    let told : c.in_ok-settled.settled ≡ settled h =
+    let reported : c.in_ok-settled.settled ≡ settled h =
     c.in_ok-settled.ensures ∙ (ap (λ (l : List Intake). least (bounds 0 l (take (length there - k) (drop k there)))) c.deref-2.ensures.value ∙ ap (λ (ps : List (Placed Admitted)). least (bounds 0 m.given.items ps)) wait) in
     let last : c.last_moment.result ≡ last_moment (asked q) = c.last_moment.ensures.moment ∙ ap last_moment c.query.ensures.query in
-    let below : last_moment (asked q) < settled h = omega (arith, c.if-seconds.false, c.seconds.ensures.seconds, c.seconds-2.ensures.seconds, last, told) in
+    let below : last_moment (asked q) < settled h = omega (arith, c.if-seconds.false, c.seconds.ensures.seconds, c.seconds-2.ensures.seconds, last, reported) in
     let front : take k c.deref-4.result.now ≡ take m.whole (all_of h) = ap (take k) (c.deref-4.ensures.value ∙ all) ∙ taken_min k m.whole (all_of h) place in
     let reply = c.in_ok-turned.turned.reply in
     let new = c.in_ok-turned.turned.question in

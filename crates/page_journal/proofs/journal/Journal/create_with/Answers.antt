@@ -3,7 +3,7 @@ use Rattle.page_journal.specs.Bookkeeping.{unhomed_numbers}
 use Rattle.page_journal.specs.Layout.{homes_from}
 use Rattle.page_journal.specs.Recovers.{laid, IsListed}
 use Rattle.page_journal.specs.declared.unhomed.Unhomed.{Unhomed}
-use Rattle.page_journal.proofs.Keeping.{ShownAt, stands_carries, stands_shown}
+use Rattle.page_journal.proofs.Keeping.{ShownAt, stands_represents, stands_shown}
 use Rattle.page_journal.proofs.journal.Journal.create_with.Goals as goal
 
 pub returns-in-Ok-clause-created : goal.returns-in-Ok-clause-created
@@ -14,7 +14,7 @@ returns-in-Ok-clause-created g c h =
     let none = c.new.ensures in
     record {
       usable = refl;
-      carries = stands_carries c.args.homes c.args.note s pages stands;
+      represents = stands_represents c.args.homes c.args.note s pages stands;
       shown = subst (λ (l : List Unhomed). ShownAt c.args.homes l s.octet pages) (sym none) (stands_shown c.args.homes c.args.note s pages stands);
       covered = λ n listed d may. absurd (subst (λ (l : List Unhomed). IsListed n (unhomed_numbers l)) none listed);
       numbered = λ d may t lt. absurd (omega (arith, lt));

@@ -6,7 +6,7 @@ use Rattle.page_journal.specs.Recovers.{AreBelow, IsListed}
 use Rattle.page_journal.specs.Bookkeeping.{IsImage, unhomed_numbers, open_slots}
 use Rattle.page_journal.specs.declared.unhomed.Unhomed.{Unhomed}
 use Rattle.page_journal.proofs.Placing.{below_each, listed_before, listed_below, others, numbers_others, all_others, none_listed}
-use Rattle.page_journal.proofs.Keeping.{ShownAt, CoveredIn, whole_page, home_crash, home_carries, home_covered, home_numbered, home_shown}
+use Rattle.page_journal.proofs.Keeping.{ShownAt, CoveredIn, whole_page, home_crash, home_represents, home_covered, home_numbered, home_shown}
 use Rattle.page_journal.proofs.journal.Journal.home.Goals as goal
 
 pub returns-then-not-is_unhomed-clause-unhomed : goal.returns-then-not-is_unhomed-clause-unhomed
@@ -22,7 +22,7 @@ returns-in_err-write_at-clause-crash g c h pages keeps =
     let s1 = g.D.EraseDisk.model c.write_at.new.self in
     let listed : IsListed c.args.n (unhomed_numbers self.unhomed.items) = subst (IsListed c.args.n) (ap unhomed_numbers c.deref.ensures.0) (c.if-not-is_unhomed.ensures.0 refl) in
     home_crash self.homes self.note (open_slots self.opened) c.args.n s0 s1 self.unhomed.items pages
-    (whole_page (home_place c.args.n) _ s0 s1 c.octets.ensures.size (c.write_at.ensures.within h)) keeps.carries keeps.covered listed
+    (whole_page (home_place c.args.n) _ s0 s1 c.octets.ensures.size (c.write_at.ensures.within h)) keeps.represents keeps.covered listed
 
 pub returns-clause-crash : goal.returns-clause-crash
 returns-clause-crash g c h pages keeps =
@@ -31,7 +31,7 @@ returns-clause-crash g c h pages keeps =
     let s1 = g.D.EraseDisk.model c.write_at.new.self in
     let listed : IsListed c.args.n (unhomed_numbers self.unhomed.items) = subst (IsListed c.args.n) (ap unhomed_numbers c.deref.ensures.0) (c.if-not-is_unhomed.ensures.0 refl) in
     home_crash self.homes self.note (open_slots self.opened) c.args.n s0 s1 self.unhomed.items pages
-    (whole_page (home_place c.args.n) _ s0 s1 c.octets.ensures.size (c.write_at.ensures.within h)) keeps.carries keeps.covered listed
+    (whole_page (home_place c.args.n) _ s0 s1 c.octets.ensures.size (c.write_at.ensures.within h)) keeps.represents keeps.covered listed
 
 pub returns-clause-keeps : goal.returns-clause-keeps
 returns-clause-keeps g c h pages keeps is =
@@ -45,12 +45,12 @@ returns-clause-keeps g c h pages keeps is =
     ap (λ m. octets s1.octet (home_place c.args.n) m) (sym c.octets.ensures.size) ∙ c.in_ok-write_at.ensures.octets h ∙ c.octets.ensures.value in
     record {
       usable = refl;
-      carries = home_carries self.homes self.note (open_slots self.opened) c.args.n s0 s1 self.unhomed.items pages writes keeps.carries keeps.covered listed;
+      represents = home_represents self.homes self.note (open_slots self.opened) c.args.n s0 s1 self.unhomed.items pages writes keeps.represents keeps.covered listed;
       shown = subst (λ (l : List Unhomed). ShownAt self.homes l s1.octet pages) (sym entries)
-          (home_shown self.homes self.note (open_slots self.opened) c.args.n s0 s1 self.unhomed.items pages writes keeps.carries keeps.covered listed c.args.page.now now is self.opened self.eight self.images keeps.shown);
+          (home_shown self.homes self.note (open_slots self.opened) c.args.n s0 s1 self.unhomed.items pages writes keeps.represents keeps.covered listed c.args.page.now now is self.opened self.eight self.images keeps.shown);
       covered = subst (λ (l : List Unhomed). CoveredIn (open_slots self.opened) l s1) (sym entries)
-          (home_covered self.homes self.note (open_slots self.opened) c.args.n s0 s1 self.unhomed.items pages writes keeps.carries keeps.covered listed);
-      numbered = home_numbered self.homes self.note (open_slots self.opened) c.args.n s0 s1 self.unhomed.items pages writes keeps.carries keeps.covered listed self.opened self.eight keeps.numbered;
+          (home_covered self.homes self.note (open_slots self.opened) c.args.n s0 s1 self.unhomed.items pages writes keeps.represents keeps.covered listed);
+      numbered = home_numbered self.homes self.note (open_slots self.opened) c.args.n s0 s1 self.unhomed.items pages writes keeps.represents keeps.covered listed self.opened self.eight keeps.numbered;
     }
 
 pub returns-clause-unhomed : goal.returns-clause-unhomed

@@ -2,7 +2,7 @@ use Rattle.std.proofs.Common.{arith, List, refl, sym, subst}
 use Rattle.page_journal.specs.Bookkeeping.{unhomed_numbers}
 use Rattle.page_journal.specs.Recovers.{IsListed}
 use Rattle.page_journal.specs.declared.unhomed.Unhomed.{Unhomed}
-use Rattle.page_journal.proofs.Keeping.{ShownAt, stands_carries, stands_shown}
+use Rattle.page_journal.proofs.Keeping.{ShownAt, stands_represents, stands_shown}
 use Rattle.page_journal.proofs.journal.Journal.open.Goals as goal
 
 pub returns-in-Ok-clause-opened : goal.returns-in-Ok-clause-opened
@@ -13,7 +13,7 @@ returns-in-Ok-clause-opened g c h pages r =
     let none = c.new.ensures in
     record {
       usable = refl;
-      carries = stands_carries id.homes id.note s pages stands;
+      represents = stands_represents id.homes id.note s pages stands;
       shown = subst (λ (l : List Unhomed). ShownAt id.homes l s.octet pages) (sym none) (stands_shown id.homes id.note s pages stands);
       covered = λ n listed d may. absurd (subst (λ (l : List Unhomed). IsListed n (unhomed_numbers l)) none listed);
       numbered = λ d may t lt. absurd (omega (arith, lt));

@@ -6,7 +6,7 @@ use Rattle.page_journal.specs.Bookkeeping.{IsImage, open_slots, unhomed_numbers}
 use Rattle.page_journal.specs.inner.Entering.{unhomed_after}
 use Rattle.page_journal.specs.declared.unhomed.Unhomed.{Unhomed}
 use Rattle.page_journal.proofs.Staging.{length-header_octets}
-use Rattle.page_journal.proofs.Posting.{fill_crash, gate_crash, post_carries, post_stand, post_outside, post_numbered, post_all_images, posted_number}
+use Rattle.page_journal.proofs.Posting.{fill_crash, gate_crash, post_represents, post_stand, post_outside, post_numbered, post_all_images, posted_number}
 use Rattle.page_journal.proofs.Placing.{below_each, listed_below}
 use Rattle.page_journal.proofs.Entries.{images_after, listed_after, numbers_after}
 use Rattle.page_journal.proofs.Keeping.{ShownAt, CoveredIn, post_shown, post_covered}
@@ -20,13 +20,13 @@ pub returns-in_err-fill-clause-crash : goal.returns-in_err-fill-clause-crash
 returns-in_err-fill-clause-crash g c h pages keeps =
     let self = c.args.self.now in
     let room : self.opened < 8 = omega arith in
-    fill_crash self.homes self.note self.opened room (g.D.EraseDisk.model self.disk) (g.D.EraseDisk.model c.fill.new.disk) pages keeps.carries keeps.numbered c.args.images.now c.deref.result.now (c.fill.ensures.crash h)
+    fill_crash self.homes self.note self.opened room (g.D.EraseDisk.model self.disk) (g.D.EraseDisk.model c.fill.new.disk) pages keeps.represents keeps.numbered c.args.images.now c.deref.result.now (c.fill.ensures.crash h)
 
 pub returns-in_err-open_gate-clause-crash : goal.returns-in_err-open_gate-clause-crash
 returns-in_err-open_gate-clause-crash g c h pages keeps =
     let self = c.args.self.now in
     let room : self.opened < 8 = omega arith in
-    gate_crash self.homes self.note self.opened room (g.D.EraseDisk.model self.disk) (g.D.EraseDisk.model c.fill.new.disk) pages keeps.carries keeps.numbered c.args.images.now c.deref.result.now
+    gate_crash self.homes self.note self.opened room (g.D.EraseDisk.model self.disk) (g.D.EraseDisk.model c.fill.new.disk) pages keeps.represents keeps.numbered c.args.images.now c.deref.result.now
     (g.D.EraseDisk.model c.open_gate.new.disk) (λ none. let more : 0 < length c.args.images.now = search rules in absurd (omega (arith, more, none))) (omega arith) self.small c.requires.below c.requires.distinct (c.deref.ensures.0 ∙ c.header-header.ensures) (c.in_ok-fill.ensures.filled h)
     (c.fill.ensures.crash h) (c.open_gate.ensures.crash (c.fill.ensures.serves.honest.0 h))
 
@@ -34,7 +34,7 @@ pub returns-clause-crash : goal.returns-clause-crash
 returns-clause-crash g c h pages keeps =
     let self = c.args.self.now in
     let room : self.opened < 8 = omega arith in
-    gate_crash self.homes self.note self.opened room (g.D.EraseDisk.model self.disk) (g.D.EraseDisk.model c.fill.new.disk) pages keeps.carries keeps.numbered c.args.images.now c.deref.result.now
+    gate_crash self.homes self.note self.opened room (g.D.EraseDisk.model self.disk) (g.D.EraseDisk.model c.fill.new.disk) pages keeps.represents keeps.numbered c.args.images.now c.deref.result.now
     (g.D.EraseDisk.model c.open_gate.new.disk) (λ none. let more : 0 < length c.args.images.now = search rules in absurd (omega (arith, more, none))) (omega arith) self.small c.requires.below c.requires.distinct (c.deref.ensures.0 ∙ c.header-header.ensures) (c.in_ok-fill.ensures.filled h)
     (c.fill.ensures.crash h) (c.open_gate.ensures.crash (c.fill.ensures.serves.honest.0 h))
 
@@ -54,17 +54,17 @@ returns-clause-posted g c h pages keeps =
     let fills = c.in_ok-fill.ensures.filled h in
     let opens = c.in_ok-open_gate.ensures.opened (c.fill.ensures.serves.honest.0 h) in
     let entries = c.enter_all.ensures.items in
-    let outside = post_outside self.homes self.note self.opened room s0 s1 pages keeps.carries keeps.numbered named header s2 some few self.small c.requires.below c.requires.distinct is_header fills opens in
+    let outside = post_outside self.homes self.note self.opened room s0 s1 pages keeps.represents keeps.numbered named header s2 some few self.small c.requires.below c.requires.distinct is_header fills opens in
     record {
       usable = refl;
-      carries = post_carries self.homes self.note self.opened room s0 s1 pages keeps.carries keeps.numbered named header s2 some few self.small c.requires.below c.requires.distinct is_header fills opens;
-      numbered = post_numbered self.homes self.note self.opened room s0 s1 pages keeps.carries keeps.numbered named header s2 some few self.small c.requires.below c.requires.distinct is_header fills opens;
+      represents = post_represents self.homes self.note self.opened room s0 s1 pages keeps.represents keeps.numbered named header s2 some few self.small c.requires.below c.requires.distinct is_header fills opens;
+      numbered = post_numbered self.homes self.note self.opened room s0 s1 pages keeps.represents keeps.numbered named header s2 some few self.small c.requires.below c.requires.distinct is_header fills opens;
       shown = subst (λ (l : List Unhomed). ShownAt self.homes l s2.octet (laid named pages)) (sym entries)
-          (post_shown self.homes self.note self.opened room s0 s2 pages keeps.carries self.unhomed.items self.images keeps.shown named outside
-          (post_stand self.homes self.note self.opened room s0 s1 pages keeps.carries keeps.numbered named header s2 some few self.small c.requires.below c.requires.distinct is_header fills opens));
+          (post_shown self.homes self.note self.opened room s0 s2 pages keeps.represents self.unhomed.items self.images keeps.shown named outside
+          (post_stand self.homes self.note self.opened room s0 s1 pages keeps.represents keeps.numbered named header s2 some few self.small c.requires.below c.requires.distinct is_header fills opens));
       covered = subst (λ (l : List Unhomed). CoveredIn (open_slots (self.opened + 1)) l s2) (sym entries)
           (post_covered self.opened s0 s2 self.unhomed.items keeps.covered named opens.settled
-          (post_all_images self.homes self.note self.opened room s0 s1 pages keeps.carries keeps.numbered named header s2 some few self.small c.requires.below c.requires.distinct is_header fills opens));
+          (post_all_images self.homes self.note self.opened room s0 s1 pages keeps.represents keeps.numbered named header s2 some few self.small c.requires.below c.requires.distinct is_header fills opens));
     }
 
 pub returns-clause-taken : goal.returns-clause-taken

@@ -11,7 +11,7 @@ returns-in_err-read_from-clause-keeps g c h pages keeps =
     let stays = c.read_from.ensures.stays h in
     record {
       usable = keeps.usable;
-      carries = λ d may. keeps.carries d (stays_may_leave s0 s1 d stays may);
+      represents = λ d may. keeps.represents d (stays_may_leave s0 s1 d stays may);
       shown = λ n lt. keeps.shown n lt ∙ ap (λ (f : ℕ → ℕ). Some (octets f (place_of c.args.self.now.unhomed.items n) 16384)) (sym stays.same);
       covered = λ n listed d may. keeps.covered n listed d (stays_may_leave s0 s1 d stays may);
       numbered = λ d may. keeps.numbered d (stays_may_leave s0 s1 d stays may);
@@ -24,7 +24,7 @@ returns-clause-keeps g c h pages keeps =
     let stays = c.read_from.ensures.stays h in
     record {
       usable = keeps.usable;
-      carries = λ d may. keeps.carries d (stays_may_leave s0 s1 d stays may);
+      represents = λ d may. keeps.represents d (stays_may_leave s0 s1 d stays may);
       shown = λ n lt. keeps.shown n lt ∙ ap (λ (f : ℕ → ℕ). Some (octets f (place_of c.args.self.now.unhomed.items n) 16384)) (sym stays.same);
       covered = λ n listed d may. keeps.covered n listed d (stays_may_leave s0 s1 d stays may);
       numbered = λ d may. keeps.numbered d (stays_may_leave s0 s1 d stays may);

@@ -18,12 +18,12 @@ counted k items from new given same others is =
     length_joined_images items new k (is ∙ ap (λ (l : List Image). length (without (pages_of l) (pages_of given))) same ∙ ap (λ (l : List Image). length (without (pages_of items) (pages_of l))) others)
 
 lay_refused : {T : Type 0} (homes unused count : ℕ) (r : Result T PageError) → unused ≤ homes → IfErr r (SetRefusal count) → IfErr r (LayRefusal homes unused count)
-lay_refused homes unused count (Ok x) room told = tt
-lay_refused homes unused count (Err refusals.TooManyImages) room told = (room, told)
-lay_refused homes unused count (Err refusals.OutOfMemory) room told = (room, told)
-lay_refused homes unused count (Err refusals.PagesFull) room told = absurd told
-lay_refused homes unused count (Err refusals.Fault) room told = told
-lay_refused homes unused count (Err refusals.NeedsRecovery) room told = told
+lay_refused homes unused count (Ok x) room reported = tt
+lay_refused homes unused count (Err refusals.TooManyImages) room reported = (room, reported)
+lay_refused homes unused count (Err refusals.OutOfMemory) room reported = (room, reported)
+lay_refused homes unused count (Err refusals.PagesFull) room reported = absurd reported
+lay_refused homes unused count (Err refusals.Fault) room reported = reported
+lay_refused homes unused count (Err refusals.NeedsRecovery) room reported = reported
 
 pub returns-in_err-make_room-clause-refused : goal.returns-in_err-make_room-clause-refused
 returns-in_err-make_room-clause-refused g c =
@@ -31,10 +31,10 @@ returns-in_err-make_room-clause-refused g c =
     let items = self.images.items in
     let new = c.args.images.items in
     let count = counted c.count_new-more.result items c.deref.result.now new c.deref-2.result.now c.deref.ensures.value c.deref-2.ensures.value c.count_new-more.ensures in
-    let told : IfErr c.from_residual.result (SetRefusal (c.count_new-more.result + length items)) = search rules in
+    let reported : IfErr c.from_residual.result (SetRefusal (c.count_new-more.result + length items)) = search rules in
     let homes = c.home_pages.ensures.homes in
     lay_refused (home_pages self.pool.journal) c.args.unused (length (joined (pages_of items) (pages_of new))) c.from_residual.result (omega (arith, homes, c.if-unused-home_pages.false))
-    (subst (λ k. IfErr c.from_residual.result (SetRefusal k)) (sym count) told)
+    (subst (λ k. IfErr c.from_residual.result (SetRefusal k)) (sym count) reported)
 
 -- the images afterwards
 now_is : (items new room now : List Image) → now ≡ with_images new room → room ≡ items → now ≡ with_images new items

@@ -18,8 +18,8 @@ pub returns-in_err-make_room-clause-refused : goal.returns-in_err-make_room-clau
 returns-in_err-make_room-clause-refused g c =
     let items = c.args.self.now.images.items in
     let count = counted c.args.n c.count_one-more.result items c.deref.result.now c.deref.ensures.value c.count_one-more.ensures in
-    let told : IfErr c.from_residual.result (SetRefusal (c.count_one-more.result + length items)) = search rules in
-    subst (λ k. IfErr c.from_residual.result (SetRefusal k)) (sym count) told
+    let reported : IfErr c.from_residual.result (SetRefusal (c.count_one-more.result + length items)) = search rules in
+    subst (λ k. IfErr c.from_residual.result (SetRefusal k)) (sym count) reported
 
 pub returns-in_err-make_room-clause-held : goal.returns-in_err-make_room-clause-held
 returns-in_err-make_room-clause-held g c listed =

@@ -5,7 +5,7 @@ use Rattle.board.specs.Views.{View, IsFrontOf}
 use Rattle.query_threads.specs.Steps.{DoesAdmit, IsCrowded}
 use Rattle.query_threads.proofs.Crowded.{still_crowded}
 use Rattle.query_threads.proofs.Seen.{begins_then, sees_step}
-use Rattle.query_threads.proofs.Telling.{admit_comes}
+use Rattle.query_threads.proofs.Reporting.{admit_comes}
 use Rattle.query_threads.proofs.desk.Desk.admit.Goals as goal
 
 pub returns : goal.returns
@@ -13,18 +13,18 @@ returns g c =
     let w = c.self.inside.writer in
     let front = subst (λ (v : View). IsFrontOf v.past c.args.pass.now) (sym (c.self.view_is ∙ c.greet.ensures.same)) c.greet.ensures.front in
     let archive = c.self.inside.archive in
-    let then = c.admit-told.new.self in
-    let before : IsSome g.N.OnDisk.disk → (p : Past) × g.A.Store.carries archive p × IsFrontOf p c.args.pass.now × GoesOnAs p c.greet-2.new.pass.past = λ named. (w.past, (c.self.invariant.1 named).0, front, subst (λ (q : Past). GoesOnAs w.past q) (sym c.greet-2.ensures.past) c.follow.ensures.goes_on) in
-    let after = λ (named : IsSome g.N.OnDisk.disk). subst (λ (q : Past). g.A.Store.carries then q) (sym c.greet-2.ensures.past) (c.follow.ensures.carried named) in
+    let then = c.admit-reported.new.self in
+    let before : IsSome g.N.OnDisk.disk → (p : Past) × g.A.Store.represents archive p × IsFrontOf p c.args.pass.now × GoesOnAs p c.greet-2.new.pass.past = λ named. (w.past, (c.self.invariant.1 named).0, front, subst (λ (q : Past). GoesOnAs w.past q) (sym c.greet-2.ensures.past) c.follow.ensures.goes_on) in
+    let after = λ (named : IsSome g.N.OnDisk.disk). subst (λ (q : Past). g.A.Store.represents then q) (sym c.greet-2.ensures.past) (c.follow.ensures.represented named) in
     record {
       begins = begins_then c.args.pass.now c.greet.new.pass c.greet-2.new.pass c.greet.ensures.begins c.greet-2.ensures.begins;
-      sees = λ named. sees_step (DoesAdmit c.args.collector c.args.batch.now c.admit-told.result) c.args.pass.now c.greet.new.pass c.greet-2.new.pass w c.follow.new.writer front
+      sees = λ named. sees_step (DoesAdmit c.args.collector c.args.batch.now c.admit-reported.result) c.args.pass.now c.greet.new.pass c.greet-2.new.pass w c.follow.new.writer front
           c.greet.ensures.begins c.follow.ensures.goes_on (c.follow.ensures.fits named) c.greet-2.ensures.past c.greet-2.ensures.begins (c.greet-2.ensures.caught_up named);
       full = λ named is. (
           let kept = c.self.invariant.1 named in
-          let here = c.admit-told.ensures.full w.past kept.0 is in
+          let here = c.admit-reported.ensures.full w.past kept.0 is in
           let mine = subst (λ (n : ℕ). IsCrowded n w.past.history c.args.collector c.args.batch.now) (sym kept.3) here in
-          let later = still_crowded g.N.OnDisk.pages c.args.collector c.args.batch.now c.admit-told.result w.past.history c.follow.new.writer.past.history (c.follow.ensures.fits named) is mine in
+          let later = still_crowded g.N.OnDisk.pages c.args.collector c.args.batch.now c.admit-reported.result w.past.history c.follow.new.writer.past.history (c.follow.ensures.fits named) is mine in
           subst (λ (q : Past). IsCrowded g.N.OnDisk.pages q.history c.args.collector c.args.batch.now) (sym c.greet-2.ensures.past) later);
-      trouble = admit_comes g.N.OnDisk.disk g.A.Store.disk_of g.A.Store.carries c.args.pass.now c.greet-2.new.pass archive then (λ named. (c.self.invariant.1 named).2) before after g.A.Store.tells c.admit-told.result c.admit-told.ensures.trouble;
+      trouble = admit_comes g.N.OnDisk.disk g.A.Store.disk_of g.A.Store.represents c.args.pass.now c.greet-2.new.pass archive then (λ named. (c.self.invariant.1 named).2) before after g.A.Store.reports c.admit-reported.result c.admit-reported.ensures.trouble;
     }

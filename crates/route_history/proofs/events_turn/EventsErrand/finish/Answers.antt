@@ -3,10 +3,10 @@ use Rattle.once_store.specs.declared.error.BlockError.TheVariants.{Damaged}
 use Rattle.version_model.specs.Looks.{IsPart}
 use Rattle.version_model.specs.Entries.{versions_of}
 use Rattle.route_history.specs.EventTurns.{IsKnownPart}
-use Rattle.route_history.specs.Spans.{HasTold}
+use Rattle.route_history.specs.Spans.{HasReported}
 use Rattle.route_history.specs.Walks.{Rose}
 use Rattle.route_history.proofs.Finishing.{reads_well, known_on}
-use Rattle.route_history.proofs.Telling.{rising_record}
+use Rattle.route_history.proofs.Reporting.{rising_record}
 use Rattle.route_history.proofs.events_turn.EventsErrand.finish.Goals as goal
 
 pub returns-in_err-route-clause-reads : goal.returns-in_err-route-clause-reads
@@ -60,7 +60,7 @@ returns-clause-reads g c = λ all k.
     c.part_of-2.ensures.reads all second
 
 pub returns-clause-finished : goal.returns-clause-finished
-returns-clause-finished g c = λ all ps k t told.
+returns-clause-finished g c = λ all ps k t reported.
     let d = g.O.OnceDisk in
     let first = subst (λ (n : ℕ). IsKnownPart d c.args.reader.now c.args.seen.now all n c.args.self.from c.args.self.route) (sym c.prefix-route_key.ensures.key) k.0 in
     let well = c.part_of.ensures.reads all first in
@@ -69,10 +69,10 @@ returns-clause-finished g c = λ all ps k t told.
     let second = known_on d all c.session-session_key.result c.args.self.from c.args.reader.now c.part_of.new.reader c.args.seen.now c.part_of.new.seen c.args.self.session was well same c.part_of.ensures.disk in
     let q = c.args.cursor.now.question in
     let rising = rising_record all t.rising in
-    let a = subst (λ (n : ℕ). IsPart all n c.args.self.from (versions_of c.in_ok-route.route.entries.items) c.in_ok-route.route.told) c.prefix-route_key.ensures.key (c.in_ok-route.ensures.part all rising first) in
-    let b = subst (λ (n : ℕ). IsPart all n c.args.self.from (versions_of c.in_ok-session.session.entries.items) c.in_ok-session.session.told) c.session-session_key.ensures.key (c.in_ok-session.ensures.part all rising second) in
-    let under = subst (λ (o : Option ℕ). HasTold all ps q o c.args.cursor.now.left c.args.cursor.now.told.items c.args.cursor.now.more) c.requires.fits.here told in
-    let r = c.in_ok-take.ensures.told all ps t under a b in
+    let a = subst (λ (n : ℕ). IsPart all n c.args.self.from (versions_of c.in_ok-route.route.entries.items) c.in_ok-route.route.reported) c.prefix-route_key.ensures.key (c.in_ok-route.ensures.part all rising first) in
+    let b = subst (λ (n : ℕ). IsPart all n c.args.self.from (versions_of c.in_ok-session.session.entries.items) c.in_ok-session.session.reported) c.session-session_key.ensures.key (c.in_ok-session.ensures.part all rising second) in
+    let under = subst (λ (o : Option ℕ). HasReported all ps q o c.args.cursor.now.left c.args.cursor.now.reported.items c.args.cursor.now.more) c.requires.fits.here reported in
+    let r = c.in_ok-take.ensures.reported all ps t under a b in
     (r.0, subst (λ (o : Option ℕ). Rose o c.take.new.self.at) (sym c.requires.fits.here) r.1)
 
 pub returns-in_err-route-clause-inside : goal.returns-in_err-route-clause-inside

@@ -1,7 +1,7 @@
 use Rattle.std.proofs.Common.{◌≡◌, ℕ, sym, ap, ◌∙◌, arith, subst, Some, Option, IfSome}
 use Rattle.route_meaning.specs.declared.question.RowsQuestion.{RowsQuestion}
 use Rattle.route_history.specs.Fronts.{number_at, front_number}
-use Rattle.route_history.specs.Walks.{Tells, HasLeapt, NotBack}
+use Rattle.route_history.specs.Walks.{Reports, HasLeapt, NotBack}
 use Rattle.route_history.proofs.KeyEnds.{key_below}
 use Rattle.route_history.proofs.Taking.{takes_over}
 use Rattle.route_history.proofs.Leapt.{leapt_over, leapt_gathered, leapt_under, not_back}
@@ -21,7 +21,7 @@ pub returns-in_default-first-clause-gathered : goal.returns-in_default-first-cla
 returns-in_default-first-clause-gathered c = λ all ps t gathered.
     let h = subst (HasLeapt c.args.self.now c.leap.new.self) c.in-Some.is c.leap.ensures.leapt in
     let q = c.leap.new.self.question in
-    let t' : Tells all ps q.moment = subst (λ (x : RowsQuestion). Tells all ps x.moment) (sym h.0) t in
+    let t' : Reports all ps q.moment = subst (λ (x : RowsQuestion). Reports all ps x.moment) (sym h.0) t in
     let under = leapt_under all ps c.args.self.now c.leap.new.self t gathered c.in-Some.front h in
     let end = c.first.ensures.end c.in_default-first.is in
     takes_over all ps q t' (number_at c.in-Some.front) c.leap.new.self.ended c.leap.new.self.rows.items c.leap.new.self.more under (λ p x hp hx selected above low. (let lt = key_below p x hp hx in absurd (omega (arith, end, lt, low))))

@@ -15,7 +15,7 @@ returns-then-eq-clause-taken c = λ all ps t u r.
     let q = c.args.self.now.question in
     let first : first_key c.args.key ≡ c.args.key = sym c.first_of_peer.ensures.key ∙ eqb-true _ _ (sym c.eq.ensures ∙ c.if-eq.true) in
     subst (Gathered all ps) (sym c.go_on.ensures)
-    (under_as all ps q _ _ _ _ _ _ _ c.behind.ensures refl refl
+    (under_as all ps q _ _ _ _ _ _ _ c.beyond.ensures refl refl
     (takes_session all ps q t (number_at c.args.front) c.args.key (found_at c.args.stamp c.args.octets.now) c.args.self.now.ended c.args.self.now.rows.items c.args.self.now.more u r.0 r.1 r.2 first (no_session all ps q c.args.key t first)))
 
 on_err : {V E : Type 0} (r : Result V E) (P : Type 0) → P → OnErr r P
@@ -29,7 +29,7 @@ returns-in_default-clause-taken c = λ all ps t u r.
     let session : EndedAt all (last_stamp q.moment) (first_key c.args.key) c.known-ended.result = subst (EndedAt all (last_stamp q.moment) (first_key c.args.key)) (sym c.known-ended.ensures) (known all ps q (number_at c.args.front) c.args.key c.args.self.now.ended r.0 u.session r.2 lt) in
     let nothing : IsRowAt ps q c.args.key None = subst (IsRowAt ps q c.args.key) c.in_default.is (c.in_ok-row.ensures all ps t r.1 session) in
     subst (Gathered all ps) (sym c.go_on-in_default.ensures)
-    (under_as all ps q _ _ _ _ _ _ _ c.behind-in_default.ensures c.known-ended.ensures refl
+    (under_as all ps q _ _ _ _ _ _ _ c.beyond-in_default.ensures c.known-ended.ensures refl
     (takes_nothing all ps q t (number_at c.args.front) c.args.key c.args.self.now.ended c.args.self.now.rows.items c.args.self.now.more u r.0 r.2 lt nothing))
 
 pub returns-then-len-ge-MAX_ROWS-clause-taken : goal.returns-then-len-ge-MAX_ROWS-clause-taken
@@ -50,5 +50,5 @@ returns-clause-taken c = λ all ps t u r.
     let session : EndedAt all (last_stamp q.moment) (first_key c.args.key) c.known-ended.result = subst (EndedAt all (last_stamp q.moment) (first_key c.args.key)) (sym c.known-ended.ensures) (known all ps q (number_at c.args.front) c.args.key c.args.self.now.ended r.0 u.session r.2 lt) in
     let there : IsRowAt ps q c.args.key (Some c.in-Some.row) = subst (IsRowAt ps q c.args.key) c.in-Some.is (c.in_ok-row.ensures all ps t r.1 session) in
     subst (Gathered all ps) (sym c.go_on-2.ensures)
-    (under_as all ps q _ _ _ _ _ _ _ c.behind-2.ensures c.known-ended.ensures c.in_ok-push.ensures.items
+    (under_as all ps q _ _ _ _ _ _ _ c.beyond-2.ensures c.known-ended.ensures c.in_ok-push.ensures.items
     (takes_row all ps q t (number_at c.args.front) c.args.key c.in-Some.row c.args.self.now.ended c.args.self.now.rows.items c.args.self.now.more u r.0 r.2 lt there (let few : length c.args.self.now.rows.items ≤ most_rows = u.few in omega (arith, c.if-len-ge-MAX_ROWS.false, few))))

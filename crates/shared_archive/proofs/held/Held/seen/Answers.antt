@@ -3,8 +3,8 @@ use Rattle.query_threads.specs.Looks.{AreTheSettled}
 use Rattle.shared_archive.specs.Held.{HoldsPast, disk_in}
 use Rattle.shared_archive.proofs.held.Held.seen.Goals as goal
 
-pub returns-in-Open-clause-carries : goal.returns-in-Open-clause-carries
-returns-in-Open-clause-carries g c p k = c.seen.ensures.carries p (subst (λ h. HoldsPast h p) c.in-Open.is k)
+pub returns-in-Open-clause-represents : goal.returns-in-Open-clause-represents
+returns-in-Open-clause-represents g c p k = c.seen.ensures.represents p (subst (λ h. HoldsPast h p) c.in-Open.is k)
 
 pub returns-in-Open-clause-honest : goal.returns-in-Open-clause-honest
 returns-in-Open-clause-honest g c p k = subst (λ h. IfOk c.seen.result (λ s. g.O.OnceDisk.honest_seen (disk_in h) s)) (sym c.in-Open.is) (c.seen.ensures.honest p (subst (λ h. HoldsPast h p) c.in-Open.is k))

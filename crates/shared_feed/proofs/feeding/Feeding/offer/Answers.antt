@@ -7,7 +7,7 @@ use Rattle.shared_feed.proofs.feeding.Feeding.offer.Goals as goal
 pub returns-clause-done : goal.returns-clause-done
 returns-clause-done g c = λ k v turns was same d.
     done_offer (IsSome g.N.OnDisk.disk) c.args.self.now.collector k v turns c.args.self.now.gathered.items _ c.args.self.now.counts _ c.in_ok-reply.reply c.args.pass.now c.admit_with_room.new.pass was _ _ same c.deref.ensures.value
-    c.in_ok-reply.ensures.taken c.admit_with_room.ensures.since c.tell_batch.ensures.lines c.count_batch.ensures.admitted c.count_batch.ensures.late c.count_batch.ensures.refused d
+    c.in_ok-reply.ensures.taken c.admit_with_room.ensures.since c.report_batch.ensures.lines c.count_batch.ensures.admitted c.count_batch.ensures.late c.count_batch.ensures.refused d
 
 pub returns-in_err-reply-clause-given_up : goal.returns-in_err-reply-clause-given_up
 returns-in_err-reply-clause-given_up g c = λ k v turns was same counted d.

@@ -1,10 +1,10 @@
 use Rattle.std.proofs.Common.{ℕ, List, [], ◌++◌, map}
 use Rattle.std.specs.Prelude.{IsSome}
 use Rattle.std.proofs.lemmas.Result.{err_from_is_err_and}
-use Rattle.mrt_records.specs.Values.{told}
+use Rattle.mrt_records.specs.Values.{reported}
 use Rattle.mrt_records.specs.Streams.{GainsFrames}
 use Rattle.service.specs.declared.faults.FeedStop.TheVariants as stops
-use Rattle.shared_feed.proofs.GivingUp.{within_more, stops_behind, stops_within}
+use Rattle.shared_feed.proofs.GivingUp.{within_more, stops_after, stops_within}
 use Rattle.service.proofs.Streams.{piece_framed}
 use Rattle.shared_feed.proofs.Streams.{piece_goes, piece_stops}
 use Rattle.shared_feed.proofs.feeding.Feeding.take_piece.Goals.{in-Ok, in-Err-TooLong}
@@ -17,10 +17,10 @@ returns g c = record {
       elim c.match-feed.branch [
         | in-Ok w ↦
             piece_goes (IsSome g.N.OnDisk.disk) k limit v bytes _ c.args.piece.now _ _ _ _ _ was _ _ c.new-items.result.items c.feed.new.out.items c.deref.result.now _ w.goes_on-is c.new-items.ensures.items c.deref.ensures.value
-            w.in-Ok.ensures.fed.0 (λ records b. c.in_ok-take_all.ensures.behind k limit v records was b) r
+            w.in-Ok.ensures.fed.0 (λ records b. c.in_ok-take_all.ensures.beyond k limit v records was b) r
         | in-Err-TooLong w ↦
             piece_stops (IsSome g.N.OnDisk.disk) k limit v bytes _ c.args.piece.now _ _ _ _ _ was _ _ c.new-items.result.items c.feed.new.out.items c.deref.result.now _ w.goes_on-is c.new-items.ensures.items c.deref.ensures.value
-            (rw w.in-Err-TooLong.field-0-is at w.in-Err-TooLong.ensures.fed) (λ records b. c.in_ok-take_all.ensures.behind k limit v records was b) r
+            (rw w.in-Err-TooLong.field-0-is at w.in-Err-TooLong.ensures.fed) (λ records b. c.in_ok-take_all.ensures.beyond k limit v records was b) r
       ];
   given_up = λ k limit v bytes was r. tt;
 }
@@ -29,7 +29,7 @@ pub returns-in-Err : goal.returns-in-Err
 returns-in-Err g c = record {
   read = λ k limit v bytes was r. tt;
   given_up = λ k limit v bytes was r.
-      within_more (IsSome g.N.OnDisk.disk) k limit v bytes c.args.piece.now c.args.pass.now was _ (stops.Trouble troubles.OutOfMemory) (stops_behind (IsSome g.N.OnDisk.disk) k limit v bytes c.args.framer.now c.args.self.now c.args.pass.now was _ (stops.Trouble troubles.OutOfMemory) tt r);
+      within_more (IsSome g.N.OnDisk.disk) k limit v bytes c.args.piece.now c.args.pass.now was _ (stops.Trouble troubles.OutOfMemory) (stops_after (IsSome g.N.OnDisk.disk) k limit v bytes c.args.framer.now c.args.self.now c.args.pass.now was _ (stops.Trouble troubles.OutOfMemory) tt r);
 }
 
 pub returns-in_err-take_all-clause-given_up : goal.returns-in_err-take_all-clause-given_up
@@ -43,4 +43,4 @@ returns-in_err-take_all-clause-given_up g c = λ k limit v bytes was r.
           (_, piece_framed bytes c.args.framer.now c.args.piece.now _ r.items c.new-items.result.items c.feed.new.out.items c.deref.result.now c.new-items.ensures.items c.deref.ensures.value ends.1 r.framed)
     ] in
     rw p.1 (rw p.2
-    (stops_within (IsSome g.N.OnDisk.disk) k limit v (bytes ++ c.args.piece.now) framed.0 r.items c.deref.result.now c.take_all.new.pass was _ _ framed.1 (c.in_err-take_all.ensures.given_up k limit v (map told r.items) was r.behind)))
+    (stops_within (IsSome g.N.OnDisk.disk) k limit v (bytes ++ c.args.piece.now) framed.0 r.items c.deref.result.now c.take_all.new.pass was _ _ framed.1 (c.in_err-take_all.ensures.given_up k limit v (map reported r.items) was r.beyond)))

@@ -1,6 +1,0 @@
-use Rattle.std.proofs.Common.{◌≡◌, take}
-use Rattle.route_meaning.specs.Events.{all_events, between}
-use Rattle.route_meaning.proofs.telling.all_told.Given as goal
-
-abbrev pub invariant-loop-placed : goal.invariant-loop-placed
-invariant-loop-placed l = l.told.items ≡ all_events l.question.peer l.question.prefix (between l.question.from l.question.to (take l.placed-index l.list))

@@ -1,5 +1,0 @@
-use Rattle.service.proofs.Outputs.{Tells-flushed}
-use Rattle.service.proofs.feeding.tell_refused.Goals as goal
-
-pub returns : goal.returns
-returns g c = record { line = Tells-flushed _ _ _ _ (rw c.from.ensures at c.write_refused_record.ensures.line) c.flush.ensures.tells }

@@ -1,0 +1,6 @@
+use Rattle.board.specs.Opened.{name_of}
+use Rattle.serving_tests.proofs.sockets.clients_are_reported_what_they_have_to_be.Given as goal
+
+-- the board that was opened
+abbrev pub ghosts-serve_after : goal.ghosts-serve_after
+ghosts-serve_after g a = record { table = name_of a.opened }

@@ -1,6 +1,0 @@
-use Rattle.board.specs.Opened.{name_of}
-use Rattle.serving_tests.proofs.sockets.clients_are_told_what_they_have_to_be.Given as goal
-
--- the board that was opened
-abbrev pub ghosts-serve_behind : goal.ghosts-serve_behind
-ghosts-serve_behind g a = record { table = name_of a.opened }
