@@ -39,6 +39,15 @@ struct Said {
     text: &'static str,
 }
 
+/// Counts of a table and 50 records that are skipped.
+const SKIPPED: FeedCounts = FeedCounts {
+    records: 51,
+    admitted: 0,
+    late: 0,
+    refused: 0,
+    skipped: 50,
+};
+
 const SAID: [Said; 13] = [
     Said {
         packing: None,
@@ -161,26 +170,14 @@ const SAID: [Said; 13] = [
         packing: None,
         lose_entries: false,
         dropped: 0,
-        counts: FeedCounts {
-            records: 51,
-            admitted: 0,
-            late: 0,
-            refused: 0,
-            skipped: 50,
-        },
+        counts: SKIPPED,
         text: "rha: a.mrt: 50 of 51 records were skipped, and none is kept: they are of types that aren't loaded, as TABLE_DUMP and those of ADD-PATH\n",
     },
     Said {
         packing: None,
         lose_entries: false,
         dropped: 1,
-        counts: FeedCounts {
-            records: 51,
-            admitted: 0,
-            late: 0,
-            refused: 0,
-            skipped: 50,
-        },
+        counts: SKIPPED,
         text: "",
     },
     Said {

@@ -161,7 +161,7 @@ pub(crate) fn is_whole(store: Option<MemStore>, trouble: Option<Trouble>, record
 }
 
 #[test]
-fn clients_are_reported_what_they_have_to_be(rt: HostRuntime) {
+fn clients_are_answered_as_they_should_be(rt: HostRuntime) {
     let alloc = rt.alloc();
     for scene in &SCENES {
         let name = scene.name();

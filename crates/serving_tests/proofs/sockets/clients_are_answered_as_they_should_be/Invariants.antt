@@ -1,5 +1,5 @@
 use Rattle.board.specs.Opened.{name_of}
-use Rattle.serving_tests.proofs.sockets.clients_are_reported_what_they_have_to_be.Given as goal
+use Rattle.serving_tests.proofs.sockets.clients_are_answered_as_they_should_be.Given as goal
 
 -- the board that was opened
 abbrev pub ghosts-serve_after : goal.ghosts-serve_after
