@@ -1,4 +1,4 @@
--- Which child of a key node a key lies under.
+-- The child of a key node under which a key lies.
 use Rattle.std.specs.Prelude.{◌≡◌, ℕ, suc, ◌≤◌, ◌<◌, List, ◌++◌, slice_get, Option, Some, None, IfSome}
 use Rattle.version_model.specs.declared.bounds.Bounds.{Bounds}
 use Rattle.version_model.specs.declared.child.Child.{Child}

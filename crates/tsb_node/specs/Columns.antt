@@ -84,12 +84,12 @@ pub record IsOldColumn (c : ColumnInBlock) : Type 0 where
   pub each : AllByRecursion IsPartEntry c.parts
   pub follow : OldPartsFollow c
 
--- what a writer asks of a column, beside what types say
+-- what a writer requires of a column, besides its types
 pub record CanBeColumn (c : ColumnInPage) : Type 0 where
   pub bounds : AreInOrder c.bounds
   pub follow : PartsFollow c
 
--- what a writer asks of a column that goes into a block, beside what types say
+-- what a writer requires of a column that goes into a block, besides its types
 pub record CanBeOldColumn (c : ColumnInBlock) : Type 0 where
   pub bounds : AreInOrder c.bounds
   pub follow : OldPartsFollow c

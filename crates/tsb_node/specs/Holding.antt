@@ -1,9 +1,9 @@
--- Whether the octets of a leaf hold as many entries as they count, whatever the entries say.
+-- Whether the octets of a leaf have as many entries as they count, whatever the entries represent.
 use Rattle.std.specs.Prelude.{◌≡◌, ℕ, ◌+◌, List, ◌++◌, length, take, drop}
 use Rattle.std.specs.List.{flat_map, AllByRecursion}
 use Rattle.route_model.specs.Keys.{number_of}
 
--- 57 octets, two that encode a length, and as many more as the length says
+-- 57 octets, two that encode a length, and as many more as that length
 abbrev pub IsSomeEntry : List ℕ → Type 0
 IsSomeEntry octets = length octets ≡ 59 + number_of (take 2 (drop 57 octets))
 

@@ -27,7 +27,7 @@ pub record IsChildEntry (b : Bounds) (c : Child) : Type 0 where
   pub high : IfSome b.high (λ n. c.low < n)
   pub page : c.page < 256 ^ 8
 
--- the children follow one another from the lowest key on, at all stamps, where bounds and children are such
+-- the children follow one another from the lowest key on, at all stamps, if bounds and children are such
 pub record IsKeyNodeWith (AreBounds : Bounds → Type 0) (IsOneOf : Bounds → Child → Type 0) (k : KeyNodeInPage) : Type 0 where
   pub lowest : 2 ≤ k.level
   pub highest : k.level ≤ 7
@@ -42,7 +42,7 @@ pub record IsKeyNodeWith (AreBounds : Bounds → Type 0) (IsOneOf : Bounds → C
 abbrev pub IsKeyNode : KeyNodeInPage → Type 0
 IsKeyNode k = IsKeyNodeWith IsBounds IsChildEntry k
 
--- what a writer asks of a key node, beside what types say
+-- what a writer requires of a key node, besides its types
 abbrev pub CanBeKeyNode : KeyNodeInPage → Type 0
 CanBeKeyNode k = IsKeyNodeWith AreInOrder (λ b c. IfSome b.high (λ n. c.low < n)) k
 

@@ -26,7 +26,7 @@ value_encoded (Some value) = value
 unfoldable pub entry : Version → List ℕ
 entry v = octets_of 40 v.key ++ octets_of 16 v.stamp ++ (tag v.value ∷ []) ++ octets_of 2 (length (value_encoded v.value)) ++ value_encoded v.value
 
--- a version of one of these keys, with a value of at most 3,072 octets: what a writer asks of a version beside what its types say
+-- a version of one of these keys, with a value of at most 3,072 octets: what a writer requires of a version, besides its types
 pub record IsShortOf (b : Bounds) (v : Version) : Type 0 where
   pub low : b.low ≤ v.key
   pub high : IfSome b.high (λ n. v.key < n)
@@ -43,7 +43,7 @@ pub record IsVersionOf (b : Bounds) (v : Version) : Type 0 where
 unfoldable pub entries : List Version → List ℕ
 entries versions = flat_map entry versions
 
--- versions in the order of their stamps, in at most 16,232 octets, where bounds and versions are such
+-- versions in the order of their stamps, in at most 16,232 octets, if bounds and versions are such
 pub record IsLeafWith (AreBounds : Bounds → Type 0) (IsOneOf : Bounds → Version → Type 0) (leaf : LeafNode) : Type 0 where
   pub bounds : AreBounds leaf.bounds
   pub each : AllByRecursion (IsOneOf leaf.bounds) leaf.versions
@@ -54,7 +54,7 @@ pub record IsLeafWith (AreBounds : Bounds → Type 0) (IsOneOf : Bounds → Vers
 abbrev pub IsLeaf : LeafNode → Type 0
 IsLeaf leaf = IsLeafWith IsBounds IsVersionOf leaf
 
--- what a writer asks of a leaf, beside what types say
+-- what a writer requires of a leaf, besides its types
 abbrev pub CanBeLeaf : LeafNode → Type 0
 CanBeLeaf leaf = IsLeafWith AreInOrder IsShortOf leaf
 

@@ -4,8 +4,8 @@ use Rattle.sha2.specs.Sha256.{sha256}
 use Rattle.version_model.specs.declared.bounds.Bounds.{Bounds}
 use Rattle.tsb_node.specs.Numbers.{octets_of, bound_octets}
 
--- Some key and some stamp lie between the bounds, none of which is encoded as a missing bound is: what a writer requires of bounds,
--- beside what their types say.
+-- Some key and some stamp lie between the bounds, none of which is encoded like a missing bound: what a writer requires of bounds,
+-- besides their types.
 pub record AreInOrder (b : Bounds) : Type 0 where
   pub high : IfSome b.high (λ n. (n + 1 < 256 ^ 40) × (b.low < n))
   pub end : IfSome b.end (λ n. (n + 1 < 256 ^ 16) × (b.start < n))
@@ -34,7 +34,7 @@ pub record IsInPage (bounds : Bounds) (node octets : List ℕ) : Type 0 where
   pub current : bounds.end ≡ None
   pub encoded : octets ≡ node ++ replicate 32 0
 
--- a block has an end, and ends in the SHA-256 of all that stands before
+-- a block has an end, and ends in the SHA-256 of all octets before it
 pub record IsInBlock (bounds : Bounds) (node octets : List ℕ) : Type 0 where
   pub ended : IsSome bounds.end
   pub encoded : octets ≡ node ++ sha256 node

@@ -27,7 +27,7 @@ pub record IsPartAt (parts : List Part) (end stamp : ℕ) (found : PartAt) : Typ
   pub start : found.part.start ≤ stamp
   pub before : stamp < found.end
 
--- the current leaf where the stamp isn't before its start, else the part in which it lies
+-- the current leaf if the stamp isn't before its start, else the part in which it lies
 abbrev pub IsSpot : ColumnInPage → ℕ → Spot → Type 0
 IsSpot column stamp (InPage current) = (current ≡ column.current) × (column.current.start ≤ stamp)
 IsSpot column stamp (InBlock found) = IsPartAt column.parts column.current.start stamp found

@@ -17,7 +17,7 @@ PushedTo leaf v page (Ok true) = IsLeafPage (with_version leaf v) page
 PushedTo leaf v page (Ok false) = 16232 < length (entries leaf.versions) + length (entry v)
 PushedTo leaf v page (Err e) = ⊥
 
--- where nothing was pushed the page is as it was
+-- if nothing was pushed the page is as it was
 abbrev pub StaysUnlessPushed : {E : Type 0} → List ℕ → List ℕ → Result Bool E → Type 0
 StaysUnlessPushed old new (Ok true) = Unit {0}
 StaysUnlessPushed old new (Ok false) = new ≡ old

@@ -1,4 +1,4 @@
--- What nodes say, as they are held in memory.
+-- The nodes that values in memory represent.
 use Rattle.version_model.specs.Entries.{versions_of}
 use Rattle.tsb_node.specs.declared.leaf_part.ReadFault.{ReadFault}
 use Rattle.tsb_node.specs.declared.leaf_part.ReadFault.TheVariants.{NotANode, Memory}
@@ -26,7 +26,7 @@ old_column_said said = record { bounds = said.bounds; parts = said.parts.items }
 abbrev pub key_node_said : KeyNodeSaid → KeyNodeInPage
 key_node_said said = record { level = said.level; bounds = said.bounds; children = said.children.items }
 
--- a reader's error: NotANode exactly where there is no reading, Memory only where there is one
+-- a reader's error: NotANode exactly if the octets are no such node, Memory only if they are one
 abbrev pub IsRefusal : {X : Type 0} → (X → Type 0) → ReadFault → Type 0
 IsRefusal Reads NotANode = (x : _) → Reads x → ⊥
 IsRefusal Reads Memory = (x : _) × Reads x

@@ -1,4 +1,4 @@
--- A leaf is split by key.
+-- The split of a leaf by key.
 use Rattle.std.specs.Prelude.{ℕ, List}
 use Rattle.version_model.specs.declared.bounds.Bounds.{Bounds}
 use Rattle.version_model.specs.Versions.{Version, Has}

@@ -38,7 +38,7 @@ pub enum Spot {
 /// How many entries a column may have.
 const PLACES: u16 = 649;
 
-/// The kind in the part at a place, or none where there is none of its kind.
+/// The kind in the part at a place, or none if there is none of its kind.
 fn kind_at(area: &[u8], at: usize) -> Result<PartKind, NotANode>
     requires { at + 25 ≤ length area.now }
     ensures octet { IfOk result (λ kind. slice_index area.now (at + 16) ≡ part_kind kind) }
@@ -67,7 +67,7 @@ pub fn part_in(area: &[u8], at: usize) -> Result<Part, NotANode>
     })
 }
 
-/// Of the entries in these octets, the place of the last one that doesn't start after the stamp, or of the first where all do.
+/// Of the entries in these octets, the place of the last one that doesn't start after the stamp, or of the first if all do.
 fn place_before(area: &[u8], count: u16, stamp: Stamp) -> usize
     requires some { 0 < count }
     requires few { count ≤ 649 }
@@ -89,7 +89,7 @@ fn place_before(area: &[u8], count: u16, stamp: Stamp) -> usize
 }
 
 /// Where the column that begins these octets of a page has its versions at a stamp.
-/// Fails only where they aren't a column, but not in every such case.
+/// Fails only if they aren't a column, but not in every such case.
 pub fn spot_for(octets: &[u8], stamp: Stamp) -> Result<Spot, NotANode>
     requires size { length octets.now ≡ 16384 }
     ensures spot { (column : ColumnInPage) → BeginsAsColumn column octets.now → MatchResult result (IsSpot column stamp) (λ e. ⊥) }
@@ -119,7 +119,7 @@ pub fn spot_for(octets: &[u8], stamp: Stamp) -> Result<Spot, NotANode>
 }
 
 /// The part of a past in which a stamp lies, of the column of a block that ends at a stamp.
-/// Fails only where the octets aren't such a column, but not in every such case.
+/// Fails only if the octets aren't such a column, but not in every such case.
 pub fn part_for(octets: &[u8], end: Stamp, stamp: Stamp) -> Result<PartAt, NotANode>
     requires size { length octets.now ≡ 16384 }
     requires before { stamp < end }

@@ -1,4 +1,4 @@
-//! The entries of columns are read exactly.
+//! Reads the entries of columns exactly.
 
 ghost use Rattle.std.specs.Prelude.{List, ℕ, Option, ◌≡◌, ◌↔◌, ◌-◌, ◌<◌, length, IfSome, IfNone, IfOk, IsTrue, Some, Err};
 ghost use Rattle.std.specs.Result.{MatchResult};
@@ -16,7 +16,7 @@ use crate::numbers::{number8, stamp_at};
 use std::alloc::Global;
 use version_model::{Part, Stamp};
 
-/// The part at the front of octets, or none where no part that starts before an end stands there.
+/// The part at the front of octets, or none if no part that starts before an end is there.
 fn part_at_front(bytes: &[u8], end: &Option<Stamp>) -> Option<Part>
     ensures found { IfSome result (IsFront part_octets (IsPartBefore end.now) 25 bytes.now) }
     ensures none { IfNone result ((part : PartValue) → IsFront part_octets (IsPartBefore end.now) 25 bytes.now part → ⊥) }
@@ -33,7 +33,7 @@ fn part_at_front(bytes: &[u8], end: &Option<Stamp>) -> Option<Part>
     Some(part)
 }
 
-/// Whether a stamp is above the last one; where there is no last one, whether it is the first.
+/// Whether a stamp is above the last one; if there is no last one, whether it is the first.
 fn is_next_start(start: Stamp, last: Option<Stamp>, first: Stamp) -> bool
     ensures { IsTrue result ↔ IsNextNumber first last start }
 {
@@ -63,7 +63,7 @@ pub fn are_parts(bytes: &[u8], count: u16, start: Stamp, end: &Option<Stamp>) ->
     rest.is_empty()
 }
 
-/// The parts that octets encode, where they encode `count` parts.
+/// The parts that octets encode, if they encode `count` parts.
 fn parts_kept(alloc: Global, bytes: &[u8], count: u16) -> Result<Vec<Part>, ReadFault>
     ensures parts { IfOk result (λ kept. (start : ℕ) (end : Option ℕ) (parts : List PartValue) → AreParts start end count bytes.now parts → kept.items ≡ parts) }
     ensures refused { (start : ℕ) (end : Option ℕ) (parts : List PartValue) → AreParts start end count bytes.now parts → result ≡ Err ReadFault.NotANode → ⊥ }
@@ -96,7 +96,7 @@ pub fn parts_in(
     parts_kept(alloc, bytes, count)
 }
 
-/// The current leaf in 25 octets, or none where none stands there.
+/// The current leaf in 25 octets, or none if there is none.
 fn current_in(bytes: &[u8]) -> Option<Current>
     requires { length bytes.now ≡ 25 }
     ensures found { IfSome result (λ current. IsCurrentEntry current × (bytes.now ≡ current_octets current)) }
@@ -118,7 +118,7 @@ fn may_follow(begun: Stamp, front: &[u8], start: Stamp) -> bool
     !front.is_empty() || begun == start
 }
 
-/// The current leaf of the column in a page whose header and entries these are, and the octets of the parts before it. None where
+/// The current leaf of the column in a page whose header and entries these are, and the octets of the parts before it. None if
 /// they are no such column.
 pub fn current_of<'a>(header: &Header, entries: &'a [u8]) -> Option<(Current, &'a [u8])>
     ensures found { IfSome result (λ found. IsCurrentOf header.now entries.now found.0 found.1.now) }

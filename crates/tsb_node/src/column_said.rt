@@ -1,4 +1,4 @@
-//! What the pages and blocks of columns say, owned.
+//! Reads the pages and blocks of columns into owned values.
 
 ghost use Rattle.std.specs.Prelude.{◌≡◌};
 ghost use Rattle.std.specs.Result.{MatchResult};
@@ -16,7 +16,7 @@ use disk_models::{Block, Page};
 use std::alloc::Global;
 use version_model::{Bounds, Part};
 
-/// What the page of a column says: its bounds, the parts of its past in the order of their starts, and its current leaf.
+/// What the page of a column represents: its bounds, the parts of its past in the order of their starts, and its current leaf.
 #[derive(Debug, Drop)]
 pub struct ColumnSaid {
     pub bounds: Bounds,
@@ -24,7 +24,7 @@ pub struct ColumnSaid {
     pub current: Current,
 }
 
-/// What the block of a column says: its bounds, and its parts in the order of their starts.
+/// What the block of a column represents: its bounds, and its parts in the order of their starts.
 #[derive(Debug, Drop)]
 pub struct OldColumnSaid {
     pub bounds: Bounds,
@@ -78,8 +78,8 @@ fn read_old_column(
     }
 }
 
-/// Reads the column that a page encodes. Fails with NotANode exactly where the page is no page of a column, and with Memory only
-/// where it is one.
+/// Reads the column that a page represents. Fails with NotANode exactly if the page is no column, and with Memory only
+/// if it is one.
 pub fn column_of_page(alloc: Global, page: &Page) -> Result<ColumnSaid, ReadFault>
     ensures column { MatchResult result (λ said. IsColumnPage (column_said said) page.now) (IsRefusal (λ column. IsColumnPage column page.now)) }
 {
@@ -89,8 +89,8 @@ pub fn column_of_page(alloc: Global, page: &Page) -> Result<ColumnSaid, ReadFaul
     column_in(alloc, &header, entries)
 }
 
-/// Reads the column that a block encodes. Fails with NotANode exactly where the block is no block of a column, and with Memory only
-/// where it is one.
+/// Reads the column that a block represents. Fails with NotANode exactly if the block is no column, and with Memory only
+/// if it is one.
 pub fn column_of_block(alloc: Global, block: &Block) -> Result<OldColumnSaid, ReadFault>
     ensures column { MatchResult result (λ said. IsColumnBlock (old_column_said said) block.now) (IsRefusal (λ column. IsColumnBlock column block.now)) }
 {

@@ -1,4 +1,4 @@
-//! Columns are written whole: they change only where a leaf is split, or where their parts move into a block.
+//! Writes columns, whole: they change only if a leaf is split, or if their parts move into a block.
 
 ghost use Rattle.std.specs.Prelude.{List, ℕ, ◌≡◌, ◌≤◌, ◌<◌, ◌+◌, ◌*◌, ◌^◌, [], length, None, IsSome};
 ghost use Rattle.std.specs.List.{flat_map, AllByRecursion};

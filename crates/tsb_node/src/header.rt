@@ -8,7 +8,7 @@ use crate::numbers::{key_at, number2, stamp_at};
 use route_model::Key;
 use version_model::{Bounds, Stamp};
 
-/// What the header of a node says: its kind (1 a leaf, 2 a column, 3 a key node), its level, how many entries it has
+/// What the header of a node represents: its kind (1 a leaf, 2 a column, 3 a key node), its level, how many entries it has
 /// and in how many octets, and its bounds.
 #[derive(Clone, Copy, Debug)]
 pub struct Header {
@@ -47,7 +47,7 @@ pub fn is_stamp_below(stamp: Stamp, other: Stamp) -> bool
     stamp < other
 }
 
-/// Whether a key is below a high key, where there is one.
+/// Whether a key is below a high key, if there is one.
 pub fn is_below_high(key: Key, high: Option<Key>) -> bool
     ensures { IsTrue result ↔ IfSome high (λ n. key < n) }
 {
@@ -57,7 +57,7 @@ pub fn is_below_high(key: Key, high: Option<Key>) -> bool
     }
 }
 
-/// Whether a stamp is below an end, where there is one.
+/// Whether a stamp is below an end, if there is one.
 pub fn is_before_end(stamp: Stamp, end: Option<Stamp>) -> bool
     ensures { IsTrue result ↔ IfSome end (λ n. stamp < n) }
 {
@@ -67,7 +67,7 @@ pub fn is_before_end(stamp: Stamp, end: Option<Stamp>) -> bool
     }
 }
 
-/// The high key in forty octets at a place, or none where each of them is FF.
+/// The high key in forty octets at a place, or none if each of them is FF.
 pub fn high_at(octets: &[u8], place: usize) -> Option<Key>
     requires { place + 40 ≤ length octets.now }
     ensures encoded { bound_octets 40 result ≡ take 40 (drop place octets.now) }
@@ -81,7 +81,7 @@ pub fn high_at(octets: &[u8], place: usize) -> Option<Key>
     }
 }
 
-/// The end stamp in sixteen octets at a place, or none where each of them is FF.
+/// The end stamp in sixteen octets at a place, or none if each of them is FF.
 pub fn end_at(octets: &[u8], place: usize) -> Option<Stamp>
     requires { place + 16 ≤ length octets.now }
     ensures encoded { bound_octets 16 result ≡ take 16 (drop place octets.now) }
@@ -95,7 +95,7 @@ pub fn end_at(octets: &[u8], place: usize) -> Option<Stamp>
     }
 }
 
-/// The header at the front of a node, or none where none whose bounds are in order stands there.
+/// The header at the front of a node, or none if there is none whose bounds are in order.
 pub fn read_header(octets: &[u8]) -> Option<Header>
     requires { 120 ≤ length octets.now }
     ensures found { IfSome result (λ h. HasHeader h octets.now) }

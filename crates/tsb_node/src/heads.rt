@@ -1,5 +1,5 @@
-//! The headers of nodes, read alone. A walk through a tree goes on by what they say, and doesn't look at the entries that it doesn't
-//! need: where octets are a node, its header is returned; of other octets nothing is promised but that the call ends.
+//! Reads the headers of nodes alone. A walk through a tree goes on by the header, and doesn't read the entries that it doesn't
+//! need: if octets are a node, its header is returned; of other octets nothing is promised but that the call ends.
 
 ghost use Rattle.std.specs.Prelude.{◌≡◌, ◌≤◌, length, IfOk, IsErr, Ok};
 ghost use Rattle.tsb_node.specs.Leaves.{LeafNode, BeginsAsLeaf};
@@ -15,14 +15,14 @@ use crate::key_node_said::is_of_key_nodes;
 use crate::leaf::NotANode;
 use version_model::Bounds;
 
-/// What a key node says before its children: its level, 2 to 7, and its bounds.
+/// What a key node has before its children: its level, 2 to 7, and its bounds.
 #[derive(Clone, Copy, Debug)]
 pub struct KeyNodeHead {
     pub level: u8,
     pub bounds: Bounds,
 }
 
-/// The level and the bounds of the key node that begins these octets. Fails where they are a column; else only where they aren't a key
+/// The level and the bounds of the key node that begins these octets. Fails if they are a column; else only if they aren't a key
 /// node, but not in every such case.
 pub fn key_node_head(octets: &[u8]) -> Result<KeyNodeHead, NotANode>
     requires size { length octets.now ≡ 16384 }
@@ -42,7 +42,7 @@ pub fn key_node_head(octets: &[u8]) -> Result<KeyNodeHead, NotANode>
     })
 }
 
-/// The bounds of the column that begins these octets, a page's or a block's. Fails only where they aren't a column, but not in every such
+/// The bounds of the column that begins these octets, a page's or a block's. Fails only if they aren't a column, but not in every such
 /// case.
 pub fn column_head(octets: &[u8]) -> Result<Bounds, NotANode>
     requires size { length octets.now ≡ 16384 }
@@ -52,7 +52,7 @@ pub fn column_head(octets: &[u8]) -> Result<Bounds, NotANode>
     bounds_of(octets, 2, 1)
 }
 
-/// The bounds of the leaf that begins these octets, a page's or a block's. Fails only where they aren't a leaf, but not in every such
+/// The bounds of the leaf that begins these octets, a page's or a block's. Fails only if they aren't a leaf, but not in every such
 /// case.
 pub fn leaf_head(octets: &[u8]) -> Result<Bounds, NotANode>
     requires size { length octets.now ≡ 16384 }

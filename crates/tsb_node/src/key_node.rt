@@ -22,7 +22,7 @@ pub struct Under {
 /// How many children a key node may have.
 const CHILDREN: u16 = 338;
 
-/// Of the children in these octets, the place of the last one whose keys begin at or below the key, or of the first where none do.
+/// Of the children in these octets, the place of the last one whose keys begin at or below the key, or of the first if none do.
 fn child_before(area: &[u8], count: u16, key: Key) -> usize
     requires some { 0 < count }
     requires few { count ≤ 338 }
@@ -43,7 +43,7 @@ fn child_before(area: &[u8], count: u16, key: Key) -> usize
 }
 
 /// The child under which a key lies, of the key node that begins these octets: found by binary search.
-/// Fails only where they aren't a key node, but not in every such case.
+/// Fails only if they aren't a key node, but not in every such case.
 pub fn child_for(octets: &[u8], key: Key) -> Result<Under, NotANode>
     requires size { length octets.now ≡ 16384 }
     ensures under { (node : KeyNodeInPage) → BeginsAsKeyNode node octets.now → IsKeyWithin node.bounds key → MatchResult result (IsUnder node key) (λ e. ⊥) }

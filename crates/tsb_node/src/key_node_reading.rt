@@ -1,4 +1,4 @@
-//! The entries of key nodes are read exactly.
+//! Reads the entries of key nodes exactly.
 
 ghost use Rattle.std.specs.Prelude.{List, ℕ, ◌≡◌, ◌↔◌, IfSome, IfNone, IfOk, IsTrue, Err};
 ghost use Rattle.std.specs.Result.{MatchResult};
@@ -16,7 +16,7 @@ use route_model::Key;
 use std::alloc::Global;
 use version_model::{Bounds, Child};
 
-/// The child at the front of octets, or none where no child of a key node of these bounds stands there.
+/// The child at the front of octets, or none if no child of a key node of these bounds is there.
 fn child_at_front(bytes: &[u8], bounds: &Bounds) -> Option<Child>
     ensures found { IfSome result (IsFront child_octets (IsChildEntry bounds.now) 48 bytes.now) }
     ensures none { IfNone result ((child : ChildValue) → IsFront child_octets (IsChildEntry bounds.now) 48 bytes.now child → ⊥) }
@@ -34,7 +34,7 @@ fn child_at_front(bytes: &[u8], bounds: &Bounds) -> Option<Child>
     })
 }
 
-/// Whether a key is above the last one; where there is no last one, whether it is the first.
+/// Whether a key is above the last one; if there is no last one, whether it is the first.
 fn is_next_low(low: Key, last: Option<Key>, first: Key) -> bool
     ensures { IsTrue result ↔ IsNextNumber first last low }
 {
@@ -64,7 +64,7 @@ pub fn are_children(bytes: &[u8], count: u16, bounds: &Bounds) -> bool
     rest.is_empty()
 }
 
-/// The children that octets encode, where they encode `count` children.
+/// The children that octets encode, if they encode `count` children.
 fn children_kept(
     alloc: Global,
     bytes: &[u8],

@@ -1,4 +1,4 @@
-//! What the pages of key nodes say, owned.
+//! Reads the pages of key nodes into owned values.
 
 ghost use Rattle.std.specs.Prelude.{◌≡◌, ◌↔◌, ◌≤◌, ◌<◌, IsTrue};
 ghost use Rattle.std.specs.Result.{MatchResult};
@@ -15,7 +15,7 @@ use disk_models::Page;
 use std::alloc::Global;
 use version_model::{Bounds, Child, Stamp};
 
-/// What a key node says: its level, its bounds, and its children in the order of their lowest keys.
+/// What a key node represents: its level, its bounds, and its children in the order of their lowest keys.
 #[derive(Debug, Drop)]
 pub struct KeyNodeSaid {
     pub level: u8,
@@ -52,7 +52,7 @@ fn key_node_in(alloc: Global, header: &Header, entries: &[u8]) -> Result<KeyNode
     }
 }
 
-/// Reads the key node that a page encodes. Fails with NotANode exactly where the page is no key node, and with Memory only where it
+/// Reads the key node that a page represents. Fails with NotANode exactly if the page is no key node, and with Memory only if it
 /// is one.
 pub fn key_node_of_page(alloc: Global, page: &Page) -> Result<KeyNodeSaid, ReadFault>
     ensures key_node { MatchResult result (λ said. IsKeyNodePage (key_node_said said) page.now) (IsRefusal (λ node. IsKeyNodePage node page.now)) }

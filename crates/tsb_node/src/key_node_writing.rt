@@ -1,4 +1,4 @@
-//! Key nodes are written whole: they change only where a child becomes two.
+//! Writes key nodes, whole: they change only if a child becomes two.
 
 ghost use Rattle.std.specs.Prelude.{◌≡◌, None};
 ghost use Rattle.tsb_node.specs.KeyNodes.{CanBeKeyNode, IsKeyNodePage};

@@ -23,7 +23,7 @@ ghost use Rattle.tsb_node.specs.Parts.{BeginsAsColumn, BeginsAsOldColumn, IsSpot
 ghost use Rattle.tsb_node.specs.Splitting.{IsSide};
 ghost use Rattle.tsb_node.specs.Views.{keys_between, PageSays, BlockSays};
 
-/// Octets are the page, or the block, of one column at most, and of one key node; a page says one thing at most, and so does a block.
+/// Octets are the page, or the block, of one column at most, and of one key node; a page represents one node at most, and so does a block.
 pub fn nodes_are_one()
     ensures columns { (a b : ColumnInPage) (octets : List ℕ) → BeginsAsColumn a octets → BeginsAsColumn b octets → a ≡ b }
     ensures old_columns { (a b : ColumnInBlock) (octets : List ℕ) → BeginsAsOldColumn a octets → BeginsAsOldColumn b octets → a ≡ b }
@@ -44,7 +44,7 @@ pub fn headers_are_of_their_nodes()
         → IsHeaderOf 3 node.level (length node.children) node.bounds header }
 {}
 
-/// Octets are the block of a node exactly where they begin as it does, the node has an end, and they carry their digest.
+/// Octets are the block of a node exactly if they begin as it does, the node has an end, and they end in their digest.
 pub fn blocks_begin_as_their_nodes()
     ensures leaves { (leaf : LeafNode) (octets : List ℕ) → IsLeafBlock leaf octets ↔ (BeginsAsLeaf leaf octets × IsSome leaf.bounds.end × IsWhole octets) }
     ensures columns { (column : ColumnInBlock) (octets : List ℕ) → IsColumnBlock column octets ↔ (BeginsAsOldColumn column octets × IsSome column.bounds.end × IsWhole octets) }
@@ -55,7 +55,7 @@ pub fn entries_have_their_octets()
     ensures sizes { (versions : List Version) → length (entries versions) ≡ octets versions }
 {}
 
-/// A side of a leaf that is split by key has its versions of the keys below the key, or of those from it on.
+/// Each half of a leaf that is split by key has its versions of the keys below the key, or of those from it on.
 pub fn sides_are_key_splits()
     ensures below { (leaf : LeafNode) (side : List Version) (b : Bounds) (key : ℕ) → b.low ≡ leaf.bounds.low → b.high ≡ Some key → IsLeaf leaf → IsSide b leaf.versions side
         → IsBelow leaf.versions key side }
@@ -64,7 +64,7 @@ pub fn sides_are_key_splits()
 {}
 
 /// The children of a key node follow one another over its keys; and the parts of a column over the stamps of its past, each in a block of
-/// a lower number where the tree sees to that. A lookup returns one of them, with its own keys or stamps.
+/// a lower number, if the tree ensures that. A lookup returns one of them, with its own keys or stamps.
 pub fn nodes_say_what_the_tree_asks()
     ensures children { (node : KeyNodeInPage) → IsKeyNode node → AreChildren (keys_between node.bounds) node.children }
     ensures child { (node : KeyNodeInPage) (key : ℕ) (under : Under) → IsUnder node key under

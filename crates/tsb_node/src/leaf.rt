@@ -55,7 +55,7 @@ impl<'a> Value<'a> {
 #[derive(Clone, Copy, Debug, PartialEq, Eq)]
 pub struct NotANode;
 
-/// What a key has at a stamp: the stamp from which on it has it, and the value, or none where it has ended.
+/// What a key has at a stamp: the value, or none if it has ended, and the stamp from which on that is so.
 #[derive(Debug, Drop)]
 pub struct FoundVersion<'a> {
     pub stamp: Stamp,
@@ -65,10 +65,10 @@ pub struct FoundVersion<'a> {
 /// Where the entries of a node begin.
 pub const FIRST: usize = 120;
 
-/// Where what the entries of a node may fill ends.
+/// Where the room for the entries of a node ends.
 pub const LAST: usize = 16_352;
 
-/// How many octets the entry at the front takes, where it's whole.
+/// How many octets the entry at the front takes, if it's whole.
 pub fn entry_size(bytes: &[u8]) -> Option<usize>
     ensures found { IfSome result (λ n. (n ≡ 59 + value_size bytes.now) × IsWholeVersion bytes.now) }
     ensures none { IfNone result (IsWholeVersion bytes.now → ⊥) }
@@ -107,7 +107,7 @@ fn last_of<'a>(
     Ok(best)
 }
 
-/// What the entry at the front says.
+/// What the entry at the front represents.
 fn found_at<'a>(bytes: &'a [u8]) -> FoundVersion<'a>
     requires { IsWholeVersion bytes.now }
     ensures stamp { result.stamp ≡ (version_in bytes.now).stamp }
@@ -126,7 +126,7 @@ fn found_at<'a>(bytes: &'a [u8]) -> FoundVersion<'a>
 }
 
 /// What the leaf that begins these octets, a page's or a block's, has for a key at a stamp.
-/// Fails only where they aren't a leaf, but not in every such case.
+/// Fails only if they aren't a leaf, but not in every such case.
 pub fn find<'a>(
     octets: &'a [u8],
     key: Key,
@@ -146,8 +146,8 @@ pub fn find<'a>(
 /// How many octets the entries of a leaf may fill.
 pub const ROOM: usize = 16_232;
 
-/// Appends a version of a key of the leaf in this page, later than all of its versions, where there is room for it, and returns whether
-/// there was. Fails only where the page isn't a leaf, but not in every such case. Where nothing was written the page is as it was.
+/// Appends a version of a key of the leaf in this page, later than all of its versions, if there is room for it, and returns whether
+/// there was. Fails only if the page isn't a leaf, but not in every such case. If nothing was written the page is as it was.
 pub fn push(page: &mut Page, key: Key, stamp: Stamp, value: Option<&[u8]>) -> Result<bool, NotANode>
     requires short { length (value_encoded (option_map (λ x. x.now) value)) ≤ 3072 }
     ensures pushed { (leaf : LeafNode) → IsLeafPage leaf page.old → IsKeyWithin leaf.bounds key → IsAbove leaf.versions stamp

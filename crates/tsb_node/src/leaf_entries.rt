@@ -35,7 +35,7 @@ pub fn whole_size(bytes: &[u8]) -> usize
     59 + number2(bytes, 57) as usize
 }
 
-/// What the entry at the front says.
+/// What the entry at the front represents.
 pub fn entry_of(alloc: Global, bytes: &[u8]) -> Result<Entry, AllocError>
     requires { IsWholeVersion bytes.now }
     ensures { IfOk result (λ entry. version_of entry ≡ version_in bytes.now) }
@@ -61,8 +61,8 @@ pub fn keep<T: Drop>(kept: &mut Vec<T>, item: T) -> Result<(), AllocError>
     Ok(())
 }
 
-/// The entries of the leaf that begins these octets. Fails with NotANode exactly where they don't hold as many entries as they
-/// count, as a leaf does; and with Memory only where they do.
+/// The entries of the leaf that begins these octets. Fails with NotANode exactly if they don't have as many entries as they
+/// count, as a leaf does; and with Memory only if they do.
 pub fn entries_in(alloc: Global, octets: &[u8]) -> Result<Vec<Entry>, ReadFault>
     requires size { length octets.now ≡ 16384 }
     ensures entries { IfOk result (λ all. (leaf : LeafNode) → BeginsAsLeaf leaf octets.now → versions_of all.items ≡ leaf.versions) }

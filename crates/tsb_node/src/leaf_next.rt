@@ -70,7 +70,7 @@ fn least_key(octets: &[u8], from: Key, stamp: Stamp) -> Result<Option<Key>, NotA
 }
 
 /// The least key from `from` on, itself included, that has a value as of the stamp, of the leaf that begins these octets.
-/// Fails only where they aren't a leaf, but not in every such case. The entries are scanned twice for the key that is found, and twice
+/// Fails only if they aren't a leaf, but not in every such case. The entries are scanned twice for the key that is found, and twice
 /// more for each key before it that has ended.
 pub fn next(octets: &[u8], from: Key, stamp: Stamp) -> Result<Option<Key>, NotANode>
     requires size { length octets.now ≡ 16384 }

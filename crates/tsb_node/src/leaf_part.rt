@@ -22,7 +22,7 @@ use version_model::{Entry, Stamp};
 pub enum ReadFault {
     /// They aren't a node of the expected kind.
     NotANode,
-    /// There was no memory for what they say.
+    /// An allocation failed.
     Memory,
 }
 
@@ -56,8 +56,8 @@ fn is_entry_of(bytes: &[u8], key: Key, from: Stamp, end: Option<Stamp>) -> bool
 }
 
 /// The versions of the key from a stamp on and before the end, ends of it included, in the order of their stamps, of the leaf that
-/// begins these octets. Fails with NotANode exactly where they don't hold as many entries as they count, as a leaf does; and with
-/// Memory only where they do.
+/// begins these octets. Fails with NotANode exactly if they don't have as many entries as they count, as a leaf does; and with
+/// Memory only if they do.
 pub fn part(
     alloc: Global,
     octets: &[u8],

@@ -1,4 +1,4 @@
-//! Pages are read as leaves exactly where they are leaves.
+//! Reads pages as leaves, exactly if they are leaves.
 
 ghost use Rattle.std.specs.Prelude.{List, ℕ, ◌≡◌, ◌≤◌, ◌<◌, ◌+◌, ◌↔◌, length, take, drop, All, IfSome, IfNone, IsTrue, None};
 ghost use Rattle.tsb_node.specs.inner.Reading.{value_size};
@@ -13,7 +13,7 @@ use crate::numbers::{key_at, stamp_at};
 use disk_models::{Block, Page};
 use version_model::{Bounds, Stamp};
 
-/// How many octets the entry at the front takes, where it is one of a leaf of these bounds.
+/// How many octets the entry at the front takes, if it is one of a leaf of these bounds.
 fn version_size(bytes: &[u8], bounds: &Bounds) -> Option<usize>
     ensures found { IfSome result (λ n. (n ≡ 59 + value_size bytes.now) × IsEncoded bounds.now bytes.now) }
     ensures none { IfNone result (IsEncoded bounds.now bytes.now → ⊥) }
@@ -45,7 +45,7 @@ fn is_end_with_octets(tag: u8, size: usize) -> bool
     tag == 0 && size > 59
 }
 
-/// Whether a stamp is above the last one, where there is one.
+/// Whether a stamp is above the last one, if there is one.
 fn is_after(stamp: Stamp, last: Option<Stamp>) -> bool
     ensures { IsTrue result ↔ IsAfter stamp last }
 {
@@ -75,7 +75,7 @@ fn are_entries(bytes: &[u8], count: u16, bounds: &Bounds) -> bool
     rest.is_empty()
 }
 
-/// The bounds of the leaf whose header and entries these are; none where they are no leaf.
+/// The bounds of the leaf whose header and entries these are; none if they are no leaf.
 fn leaf_bounds(header: &Header, entries: &[u8]) -> Option<Bounds>
     requires node { IsNode header.now entries.now }
     ensures found { IfSome result (λ bounds. (leaf : LeafNode) × IsLeafOf header.now entries.now leaf × (leaf.bounds ≡ bounds)) }
@@ -90,7 +90,7 @@ fn leaf_bounds(header: &Header, entries: &[u8]) -> Option<Bounds>
     Some(header.bounds)
 }
 
-/// The bounds of the leaf in a page, or none where the page is no leaf.
+/// The bounds of the leaf in a page, or none if the page is no leaf.
 pub fn read_leaf(page: &Page) -> Option<Bounds>
     ensures found { IfSome result (λ bounds. (leaf : LeafNode) × IsLeafPage leaf page.now × (leaf.bounds ≡ bounds)) }
     ensures none { IfNone result ((leaf : LeafNode) → IsLeafPage leaf page.now → ⊥) }
@@ -101,7 +101,7 @@ pub fn read_leaf(page: &Page) -> Option<Bounds>
     leaf_bounds(&header, entries)
 }
 
-/// The bounds of the leaf in a block, or none where the block is no leaf.
+/// The bounds of the leaf in a block, or none if the block is no leaf.
 pub fn read_leaf_block(block: &Block) -> Option<Bounds>
     ensures found { IfSome result (λ bounds. (leaf : LeafNode) × IsLeafBlock leaf block.now × (leaf.bounds ≡ bounds)) }
     ensures none { IfNone result ((leaf : LeafNode) → IsLeafBlock leaf block.now → ⊥) }

@@ -1,4 +1,4 @@
-//! What the pages and blocks of leaves say, owned.
+//! Reads the pages and blocks of leaves into owned values.
 
 ghost use Rattle.std.specs.Result.{MatchResult};
 ghost use Rattle.tsb_node.specs.Leaves.{IsLeafPage, IsLeafBlock};
@@ -11,14 +11,14 @@ use disk_models::{Block, Page};
 use std::alloc::Global;
 use version_model::{Bounds, Entry};
 
-/// What a leaf says: its bounds, and its entries in the order of their stamps.
+/// What a leaf represents: its bounds, and its entries in the order of their stamps.
 #[derive(Debug, Drop)]
 pub struct LeafSaid {
     pub bounds: Bounds,
     pub entries: Vec<Entry>,
 }
 
-/// Reads the leaf that a page encodes. Fails with NotANode exactly where the page is no leaf, and with Memory only where it is one.
+/// Reads the leaf that a page represents. Fails with NotANode exactly if the page is no leaf, and with Memory only if it is one.
 pub fn leaf_of_page(alloc: Global, page: &Page) -> Result<LeafSaid, ReadFault>
     ensures leaf { MatchResult result (λ said. IsLeafPage (leaf_said said) page.now) (IsRefusal (λ leaf. IsLeafPage leaf page.now)) }
 {
@@ -31,7 +31,7 @@ pub fn leaf_of_page(alloc: Global, page: &Page) -> Result<LeafSaid, ReadFault>
     }
 }
 
-/// Reads the leaf that a block encodes. Fails with NotANode exactly where the block is no leaf, and with Memory only where it is
+/// Reads the leaf that a block represents. Fails with NotANode exactly if the block is no leaf, and with Memory only if it is
 /// one.
 pub fn leaf_of_block(alloc: Global, block: &Block) -> Result<LeafSaid, ReadFault>
     ensures leaf { MatchResult result (λ said. IsLeafBlock (leaf_said said) block.now) (IsRefusal (λ leaf. IsLeafBlock leaf block.now)) }

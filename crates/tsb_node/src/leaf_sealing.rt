@@ -1,4 +1,4 @@
-//! The leaf of a page becomes that of a block.
+//! Writes the leaf of a page as a block.
 
 ghost use Rattle.std.specs.Prelude.{◌≡◌, ◌<◌, ◌+◌, ◌^◌};
 ghost use Rattle.tsb_node.specs.Leaves.{LeafNode, IsLeafPage, IsLeafBlock};

@@ -1,4 +1,4 @@
-//! Leaves are split by key straight into other pages.
+//! Splits leaves by key, straight into other pages.
 
 ghost use Rattle.std.specs.Prelude.{◌≡◌, None, length};
 ghost use Rattle.tsb_node.specs.Nodes.{AreInOrder};
@@ -26,7 +26,7 @@ fn is_within(key: Key, bounds: &Bounds) -> bool
 }
 
 /// Writes a leaf of these bounds over a page, with the versions of their keys that the leaf in these octets has.
-/// Fails only where the octets aren't a leaf, but not in every such case. After an error the page holds any octets.
+/// Fails only if the octets aren't a leaf, but not in every such case. After an error the page has any octets.
 pub fn copy_side(octets: &[u8], bounds: &Bounds, fresh: &mut Page) -> Result<(), NotANode>
     requires size { length octets.now ≡ 16384 }
     requires valid { AreInOrder bounds.now }

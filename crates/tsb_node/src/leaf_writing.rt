@@ -1,4 +1,4 @@
-//! Leaves are written whole where a split by time makes them.
+//! Writes leaves, whole, as a split by time needs them.
 
 ghost use Rattle.std.specs.Prelude.{◌≡◌, None, option_map};
 ghost use Rattle.version_model.specs.Entries.{versions_of};
@@ -8,7 +8,7 @@ use crate::leaf::{NotANode, push, start_leaf};
 use disk_models::Page;
 use version_model::{Bounds, Entry};
 
-// The octets of a value, where it is one.
+// The octets of a value, if it is one.
 fn octets_of_value(value: &Option<Vec<u8>>) -> Option<&[u8]>
     ensures { option_map (λ x. x.now) result ≡ option_map (λ v. v.items) value.now }
 {

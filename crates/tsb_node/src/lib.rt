@@ -8,15 +8,15 @@
 //!     key node entry   low key 40, page 8
 //!
 //! All nodes are read through this one frame, and entries of one size by one set of laws. A column's page says from when on its
-//! current leaf is, so a look into the past reads one page less. Looks work on the octets themselves (`find`, `next`, `push`,
-//! `part_for`, ..) and take no memory; `next` looks each candidate key up, and costs a look at all entries only if keys fall as
+//! current leaf is, so a lookup in the past reads one page less. Lookups work on the octets themselves (`find`, `next`, `push`,
+//! `part_for`, ..) and take no memory; `next` looks each candidate key up, and scans all entries for each only if keys fall as
 //! stamps rise (at most 275 entries, of 59 octets at least).
 //!
-//! Readers look at all octets before they take memory, so a lack of memory is reported of nodes alone, and no count takes room. They
-//! refuse what the tree couldn't go on from: low keys and starts that aren't below high keys and ends, stamps that don't rise
+//! Readers check all octets before they allocate, so out of memory is reported of nodes alone, and no count reserves room. They
+//! refuse what the tree relies on not to be: low keys and starts that aren't below high keys and ends, stamps that don't rise
 //! strictly, keys outside the node's, an end with octets, columns and key nodes without entries or whose first entry isn't where the
-//! node begins, a page with an end and a block without one. Writers ask for what types don't say, and no more. A leaf is split by
-//! time by way of its owned entries, and by key by copying entries from page to page, at a fifth of the cost.
+//! node begins, a page with an end and a block without one. Writers require what types don't ensure, and no more. A leaf is split by
+//! time through owned entries, and by key by copying entries from page to page, at a fifth of the cost.
 #![tactic(auto)]
 
 mod column;

@@ -8,7 +8,7 @@ use crate::leaf::{FIRST, LAST, ROOM};
 use disk_models::{Block, Page};
 use once_store::is_whole;
 
-/// Whether all octets are zero. Each one is looked at, whatever those before it are: so the loop goes by many at once.
+/// Whether all octets are zero. Each one is compared, whatever those before it are: so the loop takes many at once.
 pub fn are_zeros(octets: &[u8]) -> bool
     ensures { IsTrue result ↔ All (λ octet. octet ≡ 0) octets.now }
 {
@@ -19,7 +19,7 @@ pub fn are_zeros(octets: &[u8]) -> bool
     seen == 0
 }
 
-/// The header of the node with which octets begin, and the octets of its entries. None where they begin as no node does: its bounds
+/// The header of the node with which octets begin, and the octets of its entries. None if they begin as no node does: its bounds
 /// aren't in order, its entries have more octets than there is room for, or octets other than zero follow them.
 pub fn node_in(octets: &[u8]) -> Option<(Header, &[u8])>
     requires size { length octets.now ≡ 16384 }
@@ -41,7 +41,7 @@ pub fn node_in(octets: &[u8]) -> Option<(Header, &[u8])>
     Some((header, entries))
 }
 
-/// The header of the node in a page, and the octets of its entries; none where it is no page of a node.
+/// The header of the node in a page, and the octets of its entries; none if it is no page of a node.
 pub fn node_of_page(page: &Page) -> Option<(Header, &[u8])>
     ensures found { IfSome result (λ node. IsNodePage node.0 node.1.now page.now) }
     ensures none { IfNone result ((header : Header) (entries : List ℕ) → IsNodePage header entries page.now → ⊥) }
@@ -59,7 +59,7 @@ pub fn node_of_page(page: &Page) -> Option<(Header, &[u8])>
     Some((header, entries))
 }
 
-/// The header of the node in a block, and the octets of its entries; none where it is no block of a node.
+/// The header of the node in a block, and the octets of its entries; none if it is no block of a node.
 pub fn node_of_block(block: &Block) -> Option<(Header, &[u8])>
     ensures found { IfSome result (λ node. IsNodeBlock node.0 node.1.now block.now) }
     ensures none { IfNone result ((header : Header) (entries : List ℕ) → IsNodeBlock header entries block.now → ⊥) }

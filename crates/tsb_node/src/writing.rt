@@ -98,7 +98,7 @@ pub fn put_entry(page: &mut Page, at: usize, key: Key, stamp: Stamp, value: Opti
     page.put(at + 59, octets);
 }
 
-/// A high key in forty octets, or all ones where there is none.
+/// A high key in forty octets, or all ones if there is none.
 #[tactic(auto, unfolding(crate::specs::Numbers::bound_octets))]
 fn high_octets(high: Option<Key>) -> [u8; 40]
     ensures { result ≡ bound_octets 40 high }
@@ -109,7 +109,7 @@ fn high_octets(high: Option<Key>) -> [u8; 40]
     }
 }
 
-/// An end stamp in sixteen octets, or all ones where there is none.
+/// An end stamp in sixteen octets, or all ones if there is none.
 #[tactic(auto, unfolding(crate::specs::Numbers::bound_octets))]
 fn end_octets(end: Option<Stamp>) -> [u8; 16]
     ensures { result ≡ bound_octets 16 end }

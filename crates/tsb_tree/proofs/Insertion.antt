@@ -132,18 +132,18 @@ as_it_was pages old new E device most shelf shelf' F G start shown all root leve
     }
 
 -- what isn't planned isn't inserted
-pub plan_insert : (e : TreeError) (homes next named level : ℕ) (down : Bool) (least stamp : ℕ) → PlanRefusal homes next level down e → InsertRefusal homes next named level down least stamp e
-plan_insert errors.StampBack homes next named level down least stamp is = absurd is
-plan_insert errors.TooHigh homes next named level down least stamp is = absurd is
-plan_insert (errors.BadNode page) homes next named level down least stamp is = tt
-plan_insert (errors.Damaged block) homes next named level down least stamp is = is
-plan_insert (errors.Pages refusals.PagesFull) homes next named level down least stamp is = omega (arith, is)
-plan_insert (errors.Pages refusals.TooManyImages) homes next named level down least stamp is = absurd is
-plan_insert (errors.Pages refusals.OutOfMemory) homes next named level down least stamp is = is
-plan_insert (errors.Pages refusals.Fault) homes next named level down least stamp is = is
-plan_insert (errors.Pages refusals.NeedsRecovery) homes next named level down least stamp is = is
-plan_insert (errors.Once refusal) homes next named level down least stamp is = tt
-plan_insert errors.OutOfMemory homes next named level down least stamp is = tt
+pub plan_insert : (e : TreeError) (homes next named level : ℕ) (down may_split : Bool) (least stamp : ℕ) → (may_split ≡ false → 30 < named + (2 * level + 3)) → PlanRefusal homes next level down may_split e → InsertRefusal homes next named level down least stamp e
+plan_insert errors.StampBack homes next named level down may_split least stamp many is = absurd is
+plan_insert errors.TooHigh homes next named level down may_split least stamp many is = absurd is
+plan_insert (errors.BadNode page) homes next named level down may_split least stamp many is = tt
+plan_insert (errors.Damaged block) homes next named level down may_split least stamp many is = is
+plan_insert (errors.Pages refusals.PagesFull) homes next named level down may_split least stamp many is = omega (arith, is)
+plan_insert (errors.Pages refusals.TooManyImages) homes next named level down may_split least stamp many is = many is
+plan_insert (errors.Pages refusals.OutOfMemory) homes next named level down may_split least stamp many is = is
+plan_insert (errors.Pages refusals.Fault) homes next named level down may_split least stamp many is = is
+plan_insert (errors.Pages refusals.NeedsRecovery) homes next named level down may_split least stamp many is = is
+plan_insert (errors.Once refusal) homes next named level down may_split least stamp many is = tt
+plan_insert errors.OutOfMemory homes next named level down may_split least stamp many is = tt
 
 -- nor is what has no root above it
 pub grow_insert : (e : TreeError) (homes next unused named level : ℕ) (down : Bool) (least stamp : ℕ) → unused ≤ next + suc level → RootRefusal homes unused level e → InsertRefusal homes next named level down least stamp e

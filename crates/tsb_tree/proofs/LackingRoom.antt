@@ -69,12 +69,12 @@ if_err (Ok a) each = tt
 if_err (Err e) each = each e
 
 -- what isn't planned isn't refused as too high
-pub plan_never_high : (e : TreeError) (homes next level : ℕ) (down : Bool) → PlanRefusal homes next level down e → e ≡ errors.TooHigh → ⊥
-plan_never_high e homes next level down refused is = subst (λ (x : TreeError). PlanRefusal homes next level down x) is refused
+pub plan_never_high : (e : TreeError) (homes next level : ℕ) (down may_split : Bool) → PlanRefusal homes next level down may_split e → e ≡ errors.TooHigh → ⊥
+plan_never_high e homes next level down may_split refused is = subst (λ (x : TreeError). PlanRefusal homes next level down may_split x) is refused
 
 -- where pages are lacking for what is planned
-pub plan_full : (e : TreeError) (homes next level : ℕ) (down : Bool) → PlanRefusal homes next level down e → e ≡ errors.Pages pages.PagesFull → homes < next + suc level
-plan_full e homes next level down refused is = subst (λ (x : TreeError). PlanRefusal homes next level down x) is refused
+pub plan_full : (e : TreeError) (homes next level : ℕ) (down may_split : Bool) → PlanRefusal homes next level down may_split e → e ≡ errors.Pages pages.PagesFull → homes < next + suc level
+plan_full e homes next level down may_split refused is = subst (λ (x : TreeError). PlanRefusal homes next level down may_split x) is refused
 
 -- laying itself never lacks pages
 pub lay_never_full : (e : PageError) (homes unused count : ℕ) → LayRefusal homes unused count e → unused ≤ homes → of_page e ≡ errors.Pages pages.PagesFull → ⊥

@@ -62,18 +62,18 @@ plans_taken device new homes s v page current fresh next w change is low high li
     plans_out device new homes s v page current w out.whole out.more is low high on (omega (arith, same_next, forward)) in_page in_current change.new change refl room laid
 
 -- why a page isn't read, where a version is planned
-pub read_plan : (homes next level : ℕ) (down : Bool) (e : TreeError) → ReadRefusal down e → PlanRefusal homes next level down e
-read_plan homes next level down errors.StampBack is = is
-read_plan homes next level down errors.TooHigh is = is
-read_plan homes next level down (errors.BadNode page) is = tt
-read_plan homes next level down (errors.Damaged block) is = is
-read_plan homes next level down (errors.Pages pages.PagesFull) is = absurd is
-read_plan homes next level down (errors.Pages pages.TooManyImages) is = absurd is
-read_plan homes next level down (errors.Pages pages.OutOfMemory) is = is
-read_plan homes next level down (errors.Pages pages.Fault) is = is
-read_plan homes next level down (errors.Pages pages.NeedsRecovery) is = is
-read_plan homes next level down (errors.Once refusal) is = absurd is
-read_plan homes next level down errors.OutOfMemory is = tt
+pub read_plan : (homes next level : ℕ) (down may_split : Bool) (e : TreeError) → ReadRefusal down e → PlanRefusal homes next level down may_split e
+read_plan homes next level down may_split errors.StampBack is = is
+read_plan homes next level down may_split errors.TooHigh is = is
+read_plan homes next level down may_split (errors.BadNode page) is = tt
+read_plan homes next level down may_split (errors.Damaged block) is = is
+read_plan homes next level down may_split (errors.Pages pages.PagesFull) is = absurd is
+read_plan homes next level down may_split (errors.Pages pages.TooManyImages) is = absurd is
+read_plan homes next level down may_split (errors.Pages pages.OutOfMemory) is = is
+read_plan homes next level down may_split (errors.Pages pages.Fault) is = is
+read_plan homes next level down may_split (errors.Pages pages.NeedsRecovery) is = is
+read_plan homes next level down may_split (errors.Once refusal) is = absurd is
+read_plan homes next level down may_split errors.OutOfMemory is = tt
 
 -- a refusal to read isn't the shelf's
 pub keeps_none : {O Pen Seen A : Type 0} (device : Ghosts O Pen Seen) (s : Shelf O Pen Seen) (r : Result A TreeError) (down : Bool) → IfErr r (ReadRefusal down) → KeepsShelf device 2 s s r

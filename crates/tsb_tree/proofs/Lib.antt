@@ -26,6 +26,7 @@ pub mod Roots
 pub mod Looks
 pub mod Beginning
 pub mod LackingRoom
+pub mod Crowding
 pub mod Needing
 pub mod Outliving
 pub mod Excluding

@@ -138,32 +138,32 @@ module _ {O Pen Seen : Type 0} (device : OnceGhosts O Pen Seen) (shelf : Shelf O
   raised = by_half change.new refl
 
 -- what isn't read isn't planned
-pub read_plan : (e : TreeError) (homes next level : ℕ) (down : Bool) → ReadRefusal down e → PlanRefusal homes next level down e
-read_plan errors.StampBack homes next level down is = is
-read_plan errors.TooHigh homes next level down is = is
-read_plan (errors.BadNode page) homes next level down is = tt
-read_plan (errors.Damaged block) homes next level down is = is
-read_plan (errors.Pages pages.PagesFull) homes next level down is = absurd is
-read_plan (errors.Pages pages.TooManyImages) homes next level down is = is
-read_plan (errors.Pages pages.OutOfMemory) homes next level down is = is
-read_plan (errors.Pages pages.Fault) homes next level down is = is
-read_plan (errors.Pages pages.NeedsRecovery) homes next level down is = is
-read_plan (errors.Once refusal) homes next level down is = tt
-read_plan errors.OutOfMemory homes next level down is = tt
+pub read_plan : (e : TreeError) (homes next level : ℕ) (down may_split : Bool) → ReadRefusal down e → PlanRefusal homes next level down may_split e
+read_plan errors.StampBack homes next level down may_split is = is
+read_plan errors.TooHigh homes next level down may_split is = is
+read_plan (errors.BadNode page) homes next level down may_split is = tt
+read_plan (errors.Damaged block) homes next level down may_split is = is
+read_plan (errors.Pages pages.PagesFull) homes next level down may_split is = absurd is
+read_plan (errors.Pages pages.TooManyImages) homes next level down may_split is = absurd is
+read_plan (errors.Pages pages.OutOfMemory) homes next level down may_split is = is
+read_plan (errors.Pages pages.Fault) homes next level down may_split is = is
+read_plan (errors.Pages pages.NeedsRecovery) homes next level down may_split is = is
+read_plan (errors.Once refusal) homes next level down may_split is = tt
+read_plan errors.OutOfMemory homes next level down may_split is = tt
 
 -- what isn't planned for a child isn't planned for its key node
-pub plan_higher : (e : TreeError) (homes next level : ℕ) (down : Bool) → PlanRefusal homes next level down e → PlanRefusal homes next (suc level) down e
-plan_higher errors.StampBack homes next level down is = is
-plan_higher errors.TooHigh homes next level down is = is
-plan_higher (errors.BadNode page) homes next level down is = tt
-plan_higher (errors.Damaged block) homes next level down is = is
-plan_higher (errors.Pages pages.PagesFull) homes next level down is = omega (arith, is)
-plan_higher (errors.Pages pages.TooManyImages) homes next level down is = is
-plan_higher (errors.Pages pages.OutOfMemory) homes next level down is = is
-plan_higher (errors.Pages pages.Fault) homes next level down is = is
-plan_higher (errors.Pages pages.NeedsRecovery) homes next level down is = is
-plan_higher (errors.Once refusal) homes next level down is = tt
-plan_higher errors.OutOfMemory homes next level down is = tt
+pub plan_higher : (e : TreeError) (homes next level : ℕ) (down may_split : Bool) → PlanRefusal homes next level down may_split e → PlanRefusal homes next (suc level) down may_split e
+plan_higher errors.StampBack homes next level down may_split is = is
+plan_higher errors.TooHigh homes next level down may_split is = is
+plan_higher (errors.BadNode page) homes next level down may_split is = tt
+plan_higher (errors.Damaged block) homes next level down may_split is = is
+plan_higher (errors.Pages pages.PagesFull) homes next level down may_split is = omega (arith, is)
+plan_higher (errors.Pages pages.TooManyImages) homes next level down may_split is = is
+plan_higher (errors.Pages pages.OutOfMemory) homes next level down may_split is = is
+plan_higher (errors.Pages pages.Fault) homes next level down may_split is = is
+plan_higher (errors.Pages pages.NeedsRecovery) homes next level down may_split is = is
+plan_higher (errors.Once refusal) homes next level down may_split is = tt
+plan_higher errors.OutOfMemory homes next level down may_split is = tt
 
 -- a change that can be laid for a child can be laid for its key node
 pub laid_higher : (homes next level : ℕ) (change : Change) → CanBeLaid homes next level change → CanBeLaid homes next (suc level) change
@@ -188,18 +188,18 @@ reads_none pages a F nf = record {
 }
 
 -- what isn't raised isn't planned
-pub raise_plan : (e : TreeError) (homes unused next level : ℕ) (down : Bool) → unused ≤ next + suc level → RaiseRefusal homes unused down e → PlanRefusal homes next (suc level) down e
-raise_plan errors.StampBack homes unused next level down used is = is
-raise_plan errors.TooHigh homes unused next level down used is = is
-raise_plan (errors.BadNode page) homes unused next level down used is = tt
-raise_plan (errors.Damaged block) homes unused next level down used is = is
-raise_plan (errors.Pages pages.PagesFull) homes unused next level down used is = omega (arith, is, used)
-raise_plan (errors.Pages pages.TooManyImages) homes unused next level down used is = is
-raise_plan (errors.Pages pages.OutOfMemory) homes unused next level down used is = is
-raise_plan (errors.Pages pages.Fault) homes unused next level down used is = is
-raise_plan (errors.Pages pages.NeedsRecovery) homes unused next level down used is = is
-raise_plan (errors.Once refusal) homes unused next level down used is = tt
-raise_plan errors.OutOfMemory homes unused next level down used is = tt
+pub raise_plan : (e : TreeError) (homes unused next level : ℕ) (down may_split : Bool) → unused ≤ next + suc level → RaiseRefusal homes unused down e → PlanRefusal homes next (suc level) down may_split e
+raise_plan errors.StampBack homes unused next level down may_split used is = is
+raise_plan errors.TooHigh homes unused next level down may_split used is = is
+raise_plan (errors.BadNode page) homes unused next level down may_split used is = tt
+raise_plan (errors.Damaged block) homes unused next level down may_split used is = is
+raise_plan (errors.Pages pages.PagesFull) homes unused next level down may_split used is = omega (arith, is, used)
+raise_plan (errors.Pages pages.TooManyImages) homes unused next level down may_split used is = absurd is
+raise_plan (errors.Pages pages.OutOfMemory) homes unused next level down may_split used is = is
+raise_plan (errors.Pages pages.Fault) homes unused next level down may_split used is = is
+raise_plan (errors.Pages pages.NeedsRecovery) homes unused next level down may_split used is = is
+raise_plan (errors.Once refusal) homes unused next level down may_split used is = tt
+raise_plan errors.OutOfMemory homes unused next level down may_split used is = tt
 
 -- what isn't read, or doesn't take a child, isn't raised
 pub read_raise : (e : TreeError) (homes unused : ℕ) (down : Bool) → ReadRefusal down e → RaiseRefusal homes unused down e

@@ -119,29 +119,30 @@ BurnRefusal (errors.Once refusal) = Unit {0}
 BurnRefusal errors.OutOfMemory = Unit {0}
 
 -- The reasons for which a node of this level doesn't take a version, in `homes` pages, of which `next` was the first that was never used. A
--- level needs one page more at most, and the lowest two; what the shelf refuses is stated of the shelf.
-abbrev pub PlanRefusal : ℕ → ℕ → ℕ → Bool → TreeError → Type 0
-PlanRefusal homes next level down errors.StampBack = ⊥
-PlanRefusal homes next level down errors.TooHigh = ⊥
-PlanRefusal homes next level down (errors.BadNode page) = Unit {0}
-PlanRefusal homes next level down (errors.Damaged block) = ⊥
-PlanRefusal homes next level down (errors.Pages pages.PagesFull) = homes < next + suc level
-PlanRefusal homes next level down (errors.Pages pages.TooManyImages) = ⊥
-PlanRefusal homes next level down (errors.Pages pages.OutOfMemory) = ⊥
-PlanRefusal homes next level down (errors.Pages pages.Fault) = down ≡ false
-PlanRefusal homes next level down (errors.Pages pages.NeedsRecovery) = down ≡ true
-PlanRefusal homes next level down (errors.Once refusal) = Unit {0}
-PlanRefusal homes next level down errors.OutOfMemory = Unit {0}
+-- level needs one page more at most, and the lowest two; what the shelf refuses is stated of the shelf. Images are too many only where no node
+-- may be split.
+abbrev pub PlanRefusal : ℕ → ℕ → ℕ → Bool → Bool → TreeError → Type 0
+PlanRefusal homes next level down may_split errors.StampBack = ⊥
+PlanRefusal homes next level down may_split errors.TooHigh = ⊥
+PlanRefusal homes next level down may_split (errors.BadNode page) = Unit {0}
+PlanRefusal homes next level down may_split (errors.Damaged block) = ⊥
+PlanRefusal homes next level down may_split (errors.Pages pages.PagesFull) = homes < next + suc level
+PlanRefusal homes next level down may_split (errors.Pages pages.TooManyImages) = may_split ≡ false
+PlanRefusal homes next level down may_split (errors.Pages pages.OutOfMemory) = ⊥
+PlanRefusal homes next level down may_split (errors.Pages pages.Fault) = down ≡ false
+PlanRefusal homes next level down may_split (errors.Pages pages.NeedsRecovery) = down ≡ true
+PlanRefusal homes next level down may_split (errors.Once refusal) = Unit {0}
+PlanRefusal homes next level down may_split errors.OutOfMemory = Unit {0}
 
 -- The reasons for which a tree of this level doesn't take a version of a stamp, where `least` is the least one that may come, with images
--- of `named` pages held. A new root needs one page more, and one image more.
+-- of `named` pages held. A new root needs one page more, and one image more; of the 31 images one is left to the caller where a node is split.
 abbrev pub InsertRefusal : ℕ → ℕ → ℕ → ℕ → Bool → ℕ → ℕ → TreeError → Type 0
 InsertRefusal homes next named level down least stamp errors.StampBack = stamp < least
 InsertRefusal homes next named level down least stamp errors.TooHigh = level ≡ 7
 InsertRefusal homes next named level down least stamp (errors.BadNode page) = Unit {0}
 InsertRefusal homes next named level down least stamp (errors.Damaged block) = ⊥
 InsertRefusal homes next named level down least stamp (errors.Pages pages.PagesFull) = homes < next + level + 2
-InsertRefusal homes next named level down least stamp (errors.Pages pages.TooManyImages) = 31 < named + 2 * level + 3
+InsertRefusal homes next named level down least stamp (errors.Pages pages.TooManyImages) = 30 < named + (2 * level + 3)
 InsertRefusal homes next named level down least stamp (errors.Pages pages.OutOfMemory) = ⊥
 InsertRefusal homes next named level down least stamp (errors.Pages pages.Fault) = down ≡ false
 InsertRefusal homes next named level down least stamp (errors.Pages pages.NeedsRecovery) = down ≡ true

@@ -1,4 +1,4 @@
-//! A column's leaf as it was until a stamp becomes a block, and its whole past where its page has no room for a part more.
+//! A column's leaf as it was until a stamp becomes a block, and its whole past if its page has no room for a further part.
 ghost use Rattle.std.specs.Prelude.{◌≡◌, ◌+◌, ◌^◌, ◌<◌, ◌≤◌, ◌⊎◌, ◌++◌, ◌∷◌, [], ℕ, List, Option, Some, IfOk, IfErr, IsErr, OnOk, length, vec_len};
 ghost use Rattle.once_store.specs.Shelves.{disk_of, next_of, pen_of};
 ghost use Rattle.version_model.specs.Blocks.{BlockNode};
@@ -18,7 +18,7 @@ use std::alloc::Global;
 use version_model::{Bounds, Leaf, Part, Stamp};
 use worm_migration::{migrate_column, settle_part};
 
-/// The blocks that a column's split by time used up: the one of its whole past, where its page had no room for another part, and the one of
+/// The blocks that a column's split by time used up: the one of its whole past, if its page had no room for another part, and the one of
 /// its leaf.
 #[derive(Clone, Copy, Debug)]
 pub struct Burnt {
@@ -68,7 +68,7 @@ fn pack<O: OnceDisk + Drop>(
     Ok(block)
 }
 
-// Makes room in a column for another part. Where there is none its whole past becomes a block, whose number is returned.
+// Makes room in a column for another part. If there is none its whole past becomes a block, whose number is returned.
 fn make_room<O: OnceDisk + Drop>(
     shelf: &mut Shelf<O>,
     alloc: Global,

@@ -42,7 +42,7 @@ fn lay_over(images: &mut Vec<(u64, Page)>, n: u64, page: Page) -> Result<(), All
     Ok(())
 }
 
-/// Lays an image over a page, in place of an older one: so images are of distinct pages, whatever the tree's pages say.
+/// Lays an image over a page, in place of an older one: so images are of distinct pages, whatever the tree's pages represent.
 pub fn lay_image(images: &mut Vec<(u64, Page)>, n: u64, page: Page) -> Result<(), AllocError>
     requires distinct { AreDistinct (pages_of images.old.items) }
     ensures laid { OnOk result ((shown : List (List ℕ)) → laid images.new.items shown ≡ slice_set (laid images.old.items shown) n page) }

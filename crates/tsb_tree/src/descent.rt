@@ -1,5 +1,5 @@
 //! A version goes down through key nodes to the column that has its key, and what is planned there comes up again.
-ghost use Rattle.std.specs.Prelude.{◌≡◌, ◌<◌, ◌≤◌, ◌+◌, ◌^◌, ◌⊎◌, ℕ, suc, List, Some, None, Ok, Err, length, IfOk, OnOk, IfErr, IsErr, IsSome};
+ghost use Rattle.std.specs.Prelude.{◌≡◌, ◌<◌, ◌≤◌, ◌+◌, ◌^◌, ◌⊎◌, ℕ, suc, List, Some, None, Ok, Err, length, IfOk, OnOk, IfErr, IsErr, IsSome, false};
 ghost use Rattle.std.specs.List.{insert};
 ghost use Rattle.once_store.specs.declared.error.AppendError.{AppendError};
 ghost use Rattle.page_journal.specs.Layout.{pages_of};
@@ -56,7 +56,7 @@ fn child_at<P: Pages>(pages: &mut P, place: &PagePlace, key: Key) -> Result<Page
     }
 }
 
-// What the key node in a page says, as it is shown.
+// What the key node in a page represents, as it is shown.
 fn key_node_at<P: Pages>(pages: &mut P, alloc: Global, n: u64) -> Result<KeyNodeSaid, TreeError>
     ensures wide { IfOk result (λ said. IsWide said) }
     ensures few { IfOk result (λ said. length said.children.items ≤ 338) }
@@ -73,7 +73,7 @@ fn key_node_at<P: Pages>(pages: &mut P, alloc: Global, n: u64) -> Result<KeyNode
     key_node_in(alloc, page, n)
 }
 
-// What is planned for a child of the key node at a place becomes what is planned for the key node: where the child became two, it takes the
+// What is planned for a child of the key node at a place becomes what is planned for the key node: if the child became two, it takes the
 // new half.
 fn raise<P: Pages>(
     pages: &mut P,
@@ -112,13 +112,15 @@ fn raise<P: Pages>(
 /// The change by which the node at a place takes a version, made in memory, without a page set. It goes down to the column that has the
 /// version's key, and up again through those key nodes whose child became two.
 ///
-/// Where it refuses, or the change isn't laid, at most two blocks of the shelf are spent.
+/// If it is refused, or the change isn't laid, at most two blocks of the shelf are spent. If no node may be split, a full leaf is refused
+/// for its images, and no block is spent.
 pub fn plan_under<P: Pages, O: OnceDisk + Drop>(
     pages: &mut P,
     shelf: &mut Shelf<O>,
     alloc: Global,
     place: &PagePlace,
     entry: &Entry,
+    may_split: bool,
 ) -> Result<Change, TreeError>
     requires level { 1 ≤ place.now.level }
     requires has { HasKey place.now entry.now.key }
@@ -135,21 +137,24 @@ pub fn plan_under<P: Pages, O: OnceDisk + Drop>(
         → IfErr result (λ e. IsForRoom e → LeadsToFullLeaf can.shown (version_of entry.now) place.now) }
     ensures light { (s : Store) (all : List Version) → (can : CanTake P.Pages pages.old O.OnceDisk shelf.old s all place.now (version_of entry.now))
         → IfOk result (λ change. (IsInPlace (P.next pages.old) change × (shelf.new ≡ shelf.old)) ⊎ LeadsToFullLeaf can.shown (version_of entry.now) place.now) }
+    ensures alone { may_split ≡ false → IfOk result (λ change. IsInPlace (P.next pages.old) change × (shelf.new ≡ shelf.old)) }
+    ensures crowded { (s : Store) (all : List Version) → (can : CanTake P.Pages pages.old O.OnceDisk shelf.old s all place.now (version_of entry.now))
+        → result ≡ Err (TreeError.Pages PageError.TooManyImages) → (shelf.new ≡ shelf.old) × LeadsToFullLeaf can.shown (version_of entry.now) place.now }
     ensures burns { (s : Store) (all : List Version) → (can : CanTake P.Pages pages.old O.OnceDisk shelf.old s all place.now (version_of entry.now)) → (shelf.new ≡ shelf.old) ⊎ LeadsToOutdated can.shown (version_of entry.now) place.now }
     ensures once { (s : Store) (all : List Version) → (can : CanTake P.Pages pages.old O.OnceDisk shelf.old s all place.now (version_of entry.now))
         → (refusal : AppendError) → result ≡ Err (TreeError.Once refusal) → LeadsToOutdated can.shown (version_of entry.now) place.now }
     ensures none_left { (s : Store) (all : List Version) → (can : CanTake P.Pages pages.old O.OnceDisk shelf.old s all place.now (version_of entry.now))
         → HasNoneBlank O.OnceDisk shelf.old → LeadsToOutdated can.shown (version_of entry.now) place.now → IsErr result }
     ensures laid { IfOk result (λ change. CanBeLaid (P.homes pages.old) (P.next pages.old) place.now.level change) }
-    ensures refused { IfErr result (PlanRefusal (P.homes pages.old) (P.next pages.old) place.now.level (P.down pages.old)) }
+    ensures refused { IfErr result (PlanRefusal (P.homes pages.old) (P.next pages.old) place.now.level (P.down pages.old) may_split) }
     ensures reads { ReadsAlone P.Pages pages.old pages.new result }
     ensures shelf { KeepsShelf O.OnceDisk 2 shelf.old shelf.new result }
     ensures one_block { (s : Store) (all : List Version) → (can : CanTake P.Pages pages.old O.OnceDisk shelf.old s all place.now (version_of entry.now)) → SpendsOne O.OnceDisk shelf.old shelf.new ⊎ LeadsToFullColumn can.shown (version_of entry.now) place.now }
 {
     if place.level == 1 {
-        return plan_column(pages, shelf, alloc, place, entry);
+        return plan_column(pages, shelf, alloc, place, entry, may_split);
     }
     let next = child_at(pages, place, entry.key)?;
-    let change = plan_under(pages, shelf, alloc, &next, entry)?;
+    let change = plan_under(pages, shelf, alloc, &next, entry, may_split)?;
     raise(pages, alloc, place, change)
 }

@@ -27,7 +27,7 @@ pub fn take(whole: &mut Whole, entry: &Entry) -> Result<(), AllocError>
     Ok(())
 }
 
-/// What of a leaf goes on from a stamp on, where the last version is of that stamp; none where all of it does.
+/// What of a leaf goes on from a stamp on, if the last version is of that stamp; none if all of it does.
 pub fn newer_of(alloc: Global, leaf: &Leaf, at: Stamp) -> Result<Option<Leaf>, AllocError>
     ensures from { IfOk result (λ newer. IfSome newer (IsFrom leaf.now at)) }
     ensures stays { IfOk result (λ newer. MatchOption newer (IsWhatStays leaf.now at leaf.now) (IsWhatStays leaf.now at)) }
@@ -43,7 +43,7 @@ pub fn newer_of(alloc: Global, leaf: &Leaf, at: Stamp) -> Result<Option<Leaf>, A
     Ok(Some(newer))
 }
 
-/// The key at which a leaf is split into two that each fit a page; none where that is the last of all keys, which no tree has.
+/// The key at which a leaf is split into two that each fit a page; none if that is the last of all keys, which no tree has.
 pub fn split_key_of(leaf: &Leaf) -> Option<Key>
     requires full { IsFull leaf.now }
     ensures point { IfSome result (λ key. IsSplitPoint leaf.now (least_of leaf.now) (Some key)) }

@@ -23,7 +23,7 @@ pub enum TreeError {
     /// The page with this number isn't the node that the tree needs there.
     #[error("page {0} isn't the node that the tree needs there")]
     BadNode(u64),
-    /// The block with this number isn't what the page or block above it says of it.
+    /// The block with this number isn't what the page or block above it requires.
     #[error("block {0} of the write-once disk is damaged")]
     Damaged(u64),
     /// The pages refused, for a reason other than memory.
@@ -32,7 +32,7 @@ pub enum TreeError {
     /// The shelf refused.
     #[error("{0}")]
     Once(AppendError),
-    /// A growth was refused.
+    /// An allocation failed.
     #[error("out of memory")]
     OutOfMemory,
 }

@@ -25,7 +25,7 @@ use once_store::Shelf;
 use std::alloc::Global;
 use version_model::Entry;
 
-/// A column takes a version in memory. Where that moves anything it is split by time at the version's stamp: its leaf as it was, which is
+/// A column takes a version in memory. If that moves anything it is split by time at the version's stamp: its leaf as it was, which is
 /// in a page, becomes a block. After an error the column can't be used.
 pub fn grow<O: OnceDisk + Drop>(
     shelf: &mut Shelf<O>,

@@ -1,5 +1,5 @@
 //! A tree takes a version.
-ghost use Rattle.std.specs.Prelude.{◌≡◌, ◌↔◌, ◌<◌, ◌≤◌, ◌+◌, ◌*◌, ◌^◌, ◌⊎◌, ◌++◌, ◌∷◌, [], ℕ, suc, List, length, Err, IfOk, OnOk, OnErr, IfErr, IsErr, IsErrOf};
+ghost use Rattle.std.specs.Prelude.{◌≡◌, ◌↔◌, ◌<◌, ◌≤◌, ◌+◌, ◌*◌, ◌^◌, ◌⊎◌, ◌++◌, ◌∷◌, [], ℕ, suc, List, length, Err, IfOk, OnOk, OnErr, IfErr, IsErr, IsErrOf, true, false};
 ghost use Rattle.once_store.specs.declared.error.AppendError.{AppendError};
 ghost use Rattle.page_tx.specs.Device.{KeepsDevice};
 ghost use Rattle.page_tx.specs.Images.{joined};
@@ -31,6 +31,18 @@ use std::alloc::Global;
 use tsb_walk::PagePlace;
 use version_model::{Entry, Stamp};
 
+// Of how many pages images are held at most where a node is split. Of the 31 pages of a transaction one is left to the caller.
+const MOST_IMAGES: usize = 30;
+
+// Whether images of two pages a level, a new root's and one more have room beside those of this many pages.
+fn has_room(images: usize, level: u8) -> bool
+    requires few { level ≤ 7 }
+    ensures room { result ≡ true → images + (2 * level + 3) ≤ 30 }
+    ensures none { result ≡ false → 30 < images + (2 * level + 3) }
+{
+    images <= MOST_IMAGES - (2 * usize::from(level) + 3)
+}
+
 // The stamp right after another one.
 fn stamp_after(stamp: Stamp) -> Stamp
     requires end { stamp + 1 < 2 ^ 128 }
@@ -43,13 +55,14 @@ fn stamp_after(stamp: Stamp) -> Stamp
     }
 }
 
-// The change by which a tree takes a version, and where the tree lies when it is laid.
+// The change by which a tree takes a version, and where the tree lies when it is laid. Where no node may be split, its leaf alone takes it.
 fn planned<P: Pages, O: OnceDisk + Drop>(
     pages: &mut P,
     shelf: &mut Shelf<O>,
     alloc: Global,
     place: TreePlace,
     entry: &Entry,
+    may_split: bool,
 ) -> Result<(Change, TreePlace), TreeError>
     requires some { 1 ≤ place.level }
     requires few { place.level ≤ 7 }
@@ -73,6 +86,9 @@ fn planned<P: Pages, O: OnceDisk + Drop>(
         → IfOk result (λ plan. (n : ℕ) × AtRoot (λ root. NeedsPages shown (version_of entry.now) root n) place.root place.level × (plan.0.unused ≡ P.next pages.old + n)) }
     ensures light { (start : Start) (shown : List (List ℕ)) (all : List Version) → TreeShown P.Pages pages.old O.OnceDisk shelf.old start shown all place.root place.level place.least → place.least ≤ entry.now.stamp
         → IfOk result (λ plan. (IsInPlace (P.next pages.old) plan.0 × (shelf.new ≡ shelf.old) × (plan.1.root ≡ place.root) × (plan.1.level ≡ place.level)) ⊎ AtRoot (LeadsToFullLeaf shown (version_of entry.now)) place.root place.level) }
+    ensures alone { may_split ≡ false → IfOk result (λ plan. IsInPlace (P.next pages.old) plan.0 × (shelf.new ≡ shelf.old)) }
+    ensures crowded { (start : Start) (shown : List (List ℕ)) (all : List Version) → TreeShown P.Pages pages.old O.OnceDisk shelf.old start shown all place.root place.level place.least → place.least ≤ entry.now.stamp
+        → result ≡ Err (TreeError.Pages PageError.TooManyImages) → (shelf.new ≡ shelf.old) × AtRoot (LeadsToFullLeaf shown (version_of entry.now)) place.root place.level }
     ensures burns { (start : Start) (shown : List (List ℕ)) (all : List Version) → TreeShown P.Pages pages.old O.OnceDisk shelf.old start shown all place.root place.level place.least → place.least ≤ entry.now.stamp
         → (shelf.new ≡ shelf.old) ⊎ AtRoot (LeadsToOutdated shown (version_of entry.now)) place.root place.level }
     ensures one_block { (start : Start) (shown : List (List ℕ)) (all : List Version) → TreeShown P.Pages pages.old O.OnceDisk shelf.old start shown all place.root place.level place.least → place.least ≤ entry.now.stamp
@@ -87,12 +103,12 @@ fn planned<P: Pages, O: OnceDisk + Drop>(
     ensures least { IfOk result (λ plan. plan.1.least ≡ entry.now.stamp + 1) }
     ensures some { IfOk result (λ plan. 1 ≤ plan.1.level) }
     ensures few { IfOk result (λ plan. plan.1.level ≤ 7) }
-    ensures refused { (named : ℕ) → IfErr result (InsertRefusal (P.homes pages.old) (P.next pages.old) named place.level (P.down pages.old) place.least entry.now.stamp) }
+    ensures refused { (named : ℕ) → (may_split ≡ false → 30 < named + (2 * place.level + 3)) → IfErr result (InsertRefusal (P.homes pages.old) (P.next pages.old) named place.level (P.down pages.old) place.least entry.now.stamp) }
     ensures reads { ReadsAlone P.Pages pages.old pages.new result }
     ensures shelf { KeepsShelf O.OnceDisk 2 shelf.old shelf.new result }
 {
     let root = PagePlace::root(place.root, place.level);
-    let change = plan_under(pages, shelf, alloc, &root, entry)?;
+    let change = plan_under(pages, shelf, alloc, &root, entry, may_split)?;
     let stamp = entry.stamp;
     let least = stamp_after(stamp);
     let half = change.new;
@@ -119,8 +135,11 @@ fn planned<P: Pages, O: OnceDisk + Drop>(
 /// Puts a version into the tree at a place: from its stamp on its key has a value of at most 3,072 octets, or none any more. Returns where
 /// the tree is then.
 ///
+/// Where its leaf has room for it, the image of one page is enough. Where it has none, images of 2 * level + 3 pages have to have room among
+/// 30; else it is refused with `TooManyImages`, before a block is used up.
+///
 /// The stamp must be at least the place's. All images are laid together, after the last block is settled, or none is. So after an error the
-/// tree is where it was and stands for the same versions, and no page is set; but a block may be used up, and two where the column's page
+/// tree is where it was and represents the same versions, and no page is set; but a block may be used up, and two if the column's page
 /// has no room for another part.
 pub fn insert<P: Pages, O: OnceDisk + Drop>(
     pages: &mut P,
@@ -153,6 +172,8 @@ pub fn insert<P: Pages, O: OnceDisk + Drop>(
         → IfOk result (λ now. (n : ℕ) × AtRoot (λ root. NeedsPages shown (version_of entry.now) root n) place.root place.level × (P.next pages.new ≡ P.next pages.old + n)) }
     ensures in_place { (start : Start) (shown : List (List ℕ)) (all : List Version) → TreeShown P.Pages pages.old O.OnceDisk shelf.old start shown all place.root place.level place.least
         → IfOk result (λ now. TakesInPlace P.Pages pages.old pages.new shelf.old shelf.new place now ⊎ AtRoot (LeadsToFullLeaf shown (version_of entry.now)) place.root place.level) }
+    ensures crowded { (start : Start) (shown : List (List ℕ)) (all : List Version) → TreeShown P.Pages pages.old O.OnceDisk shelf.old start shown all place.root place.level place.least
+        → length (P.named pages.old) ≤ 30 → result ≡ Err (TreeError.Pages PageError.TooManyImages) → (shelf.new ≡ shelf.old) × AtRoot (LeadsToFullLeaf shown (version_of entry.now)) place.root place.level }
     ensures burns { (start : Start) (shown : List (List ℕ)) (all : List Version) → TreeShown P.Pages pages.old O.OnceDisk shelf.old start shown all place.root place.level place.least
         → (shelf.new ≡ shelf.old) ⊎ AtRoot (LeadsToOutdated shown (version_of entry.now)) place.root place.level }
     ensures one_block { (start : Start) (shown : List (List ℕ)) (all : List Version) → TreeShown P.Pages pages.old O.OnceDisk shelf.old start shown all place.root place.level place.least
@@ -174,6 +195,7 @@ pub fn insert<P: Pages, O: OnceDisk + Drop>(
     ensures onward { P.next pages.old ≤ P.next pages.new }
     ensures next { P.next pages.new ≤ P.next pages.old + place.level + 2 }
     ensures named { OnOk result ((ns : List ℕ) × (length ns ≤ 2 * place.level + 3) × (P.named pages.new ≡ joined (P.named pages.old) ns)) }
+    ensures fits { length (P.named pages.old) < 30 → OnOk result (length (P.named pages.new) ≤ 30) }
     ensures images { IfOk result (λ now. (ns : List ℕ) × (length ns ≤ 2 * now.level + 2) × (P.named pages.new ≡ joined (P.named pages.old) ns)) }
     ensures homes { P.homes pages.new ≡ P.homes pages.old }
     ensures down { P.down pages.new ≡ P.down pages.old }
@@ -182,7 +204,8 @@ pub fn insert<P: Pages, O: OnceDisk + Drop>(
     if stamp < place.least {
         return Err(TreeError::StampBack);
     }
-    let (change, now) = planned(pages, shelf, alloc, place, entry)?;
+    let may_split = has_room(pages.images(), place.level);
+    let (change, now) = planned(pages, shelf, alloc, place, entry, may_split)?;
     match pages.lay(change.images, change.unused) {
         Ok(()) => Ok(now),
         Err(refusal) => Err(TreeError::from(refusal)),

@@ -37,7 +37,7 @@ fn is_below(key: Key, high: Option<Key>) -> bool
     }
 }
 
-/// After which child of a node a new one goes that begins at a key. None where the key isn't among the keys of a child, above the lowest of
+/// After which child of a node a new one goes that begins at a key. None if the key isn't among the keys of a child, above the lowest of
 /// them.
 pub fn place_after(node: &KeyNodeSaid, key: Key) -> Option<usize>
     requires rising { AreAscending (lows_of node.now.children.items) }

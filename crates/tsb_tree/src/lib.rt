@@ -3,6 +3,7 @@
 //! How a version comes in ([`insert`]), on the way from the root to the column and its current leaf (`plan_column`):
 //!
 //!     the leaf has room                                     its page's image alone is changed; no block is burnt
+//!     it has none, and no images of a split have room:      refused, before a block is burnt
 //!     it has none, and a version isn't needed any more:     split by time at the new version's stamp (`grow`): the leaf as it was
 //!       an end, or one whose key has a later one              becomes a block, what still holds is copied into the newer leaf
 //!     more than two thirds of a page stay, or all stays     split by key too (`lay_out`); both halves get the whole past
@@ -14,11 +15,11 @@
 //!     [block 7, from 0] [block 9, from s] [current leaf: page 12, from t]
 //!     [block 7, from 0] [block 9, from s] [block 10, from t] [current leaf: page 12, from u]
 //!
-//! Two thirds: so that the next split is far off. The caller keeps where the tree is ([`TreePlace`]: root, level, least
+//! Two thirds: to postpone the next split. The caller keeps where the tree is ([`TreePlace`]: root, level, least
 //! stamp), so a refused call leaves nothing that a forgotten transaction knew. A tree is opened by its root alone, whose
 //! header has the level. Images are made in memory and laid in one call, all or none.
 //!
-//! What pages say is any map of nodes whose pages are shown and say them (`AreShown`), and may leave out pages of other
+//! What pages represent is any map of nodes whose pages are shown and represent them (`AreShown`), without pages of other
 //! owners. The highest key is no key of the tree, since as the high key of a node it is written as no bound is. How many
 //! pages a version needs is defined from what stays of the leaf up to the root (`NeedsPages`), so a refusal for a lack of
 //! pages has nothing to do with how the code goes about it.

@@ -48,7 +48,7 @@ fn root_above(alloc: Global, level: u8, root: u64, new: Child) -> Result<KeyNode
     })
 }
 
-// Lays the page of a new root over a change, where no page was used.
+// Lays the page of a new root over a change, on the next unused page.
 fn lay_root(
     alloc: Global,
     level: u8,

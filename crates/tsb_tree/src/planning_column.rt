@@ -1,5 +1,5 @@
 //! What a column becomes that takes a version is planned.
-ghost use Rattle.std.specs.Prelude.{◌≡◌, ◌+◌, ◌^◌, ◌<◌, ◌≤◌, ◌⊎◌, ℕ, List, IfOk, IfErr, IsErr, OnOk, Err, Some, slice_get};
+ghost use Rattle.std.specs.Prelude.{◌≡◌, ◌+◌, ◌^◌, ◌<◌, ◌≤◌, ◌⊎◌, ℕ, List, IfOk, IfErr, IsErr, OnOk, Err, Some, slice_get, true, false};
 ghost use Rattle.once_store.specs.declared.error.AppendError.{AppendError};
 ghost use Rattle.once_store.specs.Shelves.{disk_of, pen_of};
 ghost use Rattle.page_tx.specs.Start.{Start};
@@ -59,7 +59,7 @@ fn plan_splits<P: Pages, O: OnceDisk + Drop>(
     ensures none_left { O.honest (disk_of shelf.old) (pen_of shelf.old) → HasNoneBlank O.OnceDisk shelf.old → IsOutdated place.now leaf.now.image (version_of entry.now) → IsErr result }
     ensures laid { IfOk result (λ change. CanBeLaid (P.homes pages.old) (P.next pages.old) place.now.level change) }
     ensures inside { OnOk result (place.now.page < P.homes pages.old) }
-    ensures refused { IfErr result (PlanRefusal (P.homes pages.old) (P.next pages.old) place.now.level (P.down pages.old)) }
+    ensures refused { IfErr result (PlanRefusal (P.homes pages.old) (P.next pages.old) place.now.level (P.down pages.old) true) }
     ensures reads { ReadsAlone P.Pages pages.old pages.new result }
     ensures shelf { KeepsShelf O.OnceDisk 2 shelf.old shelf.new result }
     ensures one_block { (start : Start) (shown : List (List ℕ)) → P.shows pages.old start shown → SpendsOne O.OnceDisk shelf.old shelf.new ⊎ LeadsToFullColumn shown (version_of entry.now) place.now }
@@ -72,8 +72,9 @@ fn plan_splits<P: Pages, O: OnceDisk + Drop>(
     split_column(shelf, alloc, unused, place.page, leaf, whole, entry)
 }
 
-/// Plans what the column at a place becomes that takes a version of its keys. Where the current leaf has room for it, its page's image
-/// alone is changed, and nothing is read as a list. Else the column is split.
+/// Plans what the column at a place becomes that takes a version of its keys. If the current leaf has room for it, its page's image
+/// alone is changed, and nothing is read as a list. Else the column is split, or, if no node may be split, the version is refused for its
+/// images before a block is spent.
 ///
 /// Pages are only read, and blocks are settled: two at most.
 pub fn plan_column<P: Pages, O: OnceDisk + Drop>(
@@ -82,6 +83,7 @@ pub fn plan_column<P: Pages, O: OnceDisk + Drop>(
     alloc: Global,
     place: &PagePlace,
     entry: &Entry,
+    may_split: bool,
 ) -> Result<Change, TreeError>
     requires level { place.now.level ≡ 1 }
     requires has { HasKey place.now entry.now.key }
@@ -98,6 +100,9 @@ pub fn plan_column<P: Pages, O: OnceDisk + Drop>(
         → IfErr result (λ e. IsForRoom e → LeadsToFullLeaf can.shown (version_of entry.now) place.now) }
     ensures light { (s : Store) (all : List Version) → (can : CanTake P.Pages pages.old O.OnceDisk shelf.old s all place.now (version_of entry.now))
         → IfOk result (λ change. (IsInPlace (P.next pages.old) change × (shelf.new ≡ shelf.old)) ⊎ LeadsToFullLeaf can.shown (version_of entry.now) place.now) }
+    ensures alone { may_split ≡ false → IfOk result (λ change. IsInPlace (P.next pages.old) change × (shelf.new ≡ shelf.old)) }
+    ensures crowded { (s : Store) (all : List Version) → (can : CanTake P.Pages pages.old O.OnceDisk shelf.old s all place.now (version_of entry.now))
+        → result ≡ Err (TreeError.Pages PageError.TooManyImages) → (shelf.new ≡ shelf.old) × LeadsToFullLeaf can.shown (version_of entry.now) place.now }
     ensures burns { (s : Store) (all : List Version) → (can : CanTake P.Pages pages.old O.OnceDisk shelf.old s all place.now (version_of entry.now)) → (shelf.new ≡ shelf.old) ⊎ LeadsToOutdated can.shown (version_of entry.now) place.now }
     ensures once { (s : Store) (all : List Version) → (can : CanTake P.Pages pages.old O.OnceDisk shelf.old s all place.now (version_of entry.now))
         → (refusal : AppendError) → result ≡ Err (TreeError.Once refusal) → LeadsToOutdated can.shown (version_of entry.now) place.now }
@@ -105,7 +110,7 @@ pub fn plan_column<P: Pages, O: OnceDisk + Drop>(
         → HasNoneBlank O.OnceDisk shelf.old → LeadsToOutdated can.shown (version_of entry.now) place.now → IsErr result }
     ensures laid { IfOk result (λ change. CanBeLaid (P.homes pages.old) (P.next pages.old) place.now.level change) }
     ensures inside { OnOk result (place.now.page < P.homes pages.old) }
-    ensures refused { IfErr result (PlanRefusal (P.homes pages.old) (P.next pages.old) place.now.level (P.down pages.old)) }
+    ensures refused { IfErr result (PlanRefusal (P.homes pages.old) (P.next pages.old) place.now.level (P.down pages.old) may_split) }
     ensures reads { ReadsAlone P.Pages pages.old pages.new result }
     ensures shelf { KeepsShelf O.OnceDisk 2 shelf.old shelf.new result }
     ensures one_block { (s : Store) (all : List Version) → (can : CanTake P.Pages pages.old O.OnceDisk shelf.old s all place.now (version_of entry.now)) → SpendsOne O.OnceDisk shelf.old shelf.new ⊎ LeadsToFullColumn can.shown (version_of entry.now) place.now }
@@ -113,6 +118,9 @@ pub fn plan_column<P: Pages, O: OnceDisk + Drop>(
     let mut leaf = current_leaf(pages, place, entry)?;
     if push_entry(&mut leaf.image, leaf.page, entry)? {
         return Ok(lay_leaf(alloc, leaf, pages.next_page())?);
+    }
+    if !may_split {
+        return Err(TreeError::Pages(PageError::TooManyImages));
     }
     plan_splits(pages, shelf, alloc, place, &leaf, entry)
 }

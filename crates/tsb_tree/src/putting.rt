@@ -62,7 +62,7 @@ fn put_one(
     })
 }
 
-// Lays the pages of a key node's two halves over a change, the second one where no page was used.
+// Lays the pages of a key node's two halves over a change, the second one on the next unused page.
 fn put_two(
     alloc: Global,
     page: u64,
@@ -94,7 +94,7 @@ fn put_two(
     })
 }
 
-/// The key node in a page takes the new half of a child over a change. Where it has no room for it, it becomes two.
+/// The key node in a page takes the new half of a child over a change. If it has no room for it, it becomes two.
 pub fn put_half(
     alloc: Global,
     homes: u64,

@@ -1,4 +1,4 @@
-//! The image of a leaf takes a version where there is room for it, and is laid alone.
+//! The image of a leaf takes a version if there is room for it, and is laid alone.
 ghost use Rattle.std.specs.Prelude.{◌≡◌, ◌≤◌, None, IfOk, IfErr, option_map};
 ghost use Rattle.version_model.specs.Entries.{version_of};
 ghost use Rattle.version_model.specs.Sizes.{entry_octets};
@@ -16,7 +16,7 @@ use std::alloc::{AllocError, Global};
 use tsb_node::push;
 use version_model::Entry;
 
-// The octets of a value, where it is one.
+// The octets of a value, if it is one.
 fn octets_of_value(value: &Option<Vec<u8>>) -> Option<&[u8]>
     ensures { option_map (λ x. x.now) result ≡ option_map (λ v. v.items) value.now }
 {
@@ -26,8 +26,8 @@ fn octets_of_value(value: &Option<Vec<u8>>) -> Option<&[u8]>
     }
 }
 
-/// Appends a version of a key of the leaf, later than all of its versions, where there is room for it, and returns whether there was. The
-/// error names page `n` where the image isn't a leaf, but not in every such case.
+/// Appends a version of a key of the leaf, later than all of its versions, if there is room for it, and returns whether there was. The
+/// error names page `n` only if the image isn't a leaf, but not in every such case.
 pub fn push_entry(image: &mut Page, n: u64, entry: &Entry) -> Result<bool, TreeError>
     requires small { entry_octets (version_of entry.now) ≤ 3131 }
     ensures pushed { (leaf : LeafNode) → IsLeafPage leaf image.old → IsKeyWithin leaf.bounds entry.now.key → IsAbove leaf.versions entry.now.stamp

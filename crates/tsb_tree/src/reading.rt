@@ -21,7 +21,7 @@ use tsb_node::{ColumnSaid, KeyNodeSaid, column_of_page, key_node_of_page, leaf_o
 use tsb_walk::bring;
 use version_model::{Bounds, Leaf};
 
-/// Sees to it that a page is in memory.
+/// Brings a page into memory.
 pub fn see<P: Pages>(pages: &mut P, n: u64) -> Result<(), TreeError>
     ensures there { OnOk result (P.resident pages.new n) }
     ensures inside { OnOk result (n < P.homes pages.old) }
@@ -62,7 +62,7 @@ pub fn image_of<P: Pages>(pages: &mut P, n: u64) -> Result<Page, TreeError>
     Ok(page)
 }
 
-/// What the column in a page of this number says.
+/// What the column in a page of this number represents.
 pub fn column_in(alloc: Global, page: &Page, n: u64) -> Result<ColumnSaid, TreeError>
     ensures valid { IfOk result (λ said. IsColumn (column_said said)) }
     ensures says { (k : Keys) (parts : List Part) (start current : ℕ) → PageSays page.now (ColumnNode k parts start current)
@@ -78,7 +78,7 @@ pub fn column_in(alloc: Global, page: &Page, n: u64) -> Result<ColumnSaid, TreeE
     }
 }
 
-/// What the leaf in a page of this number says: its bounds, and its versions.
+/// What the leaf in a page of this number represents: its bounds, and its versions.
 pub fn leaf_in(alloc: Global, page: &Page, n: u64) -> Result<(Bounds, Leaf), TreeError>
     ensures leaf { IfOk result (λ said. IsLeafPage (record { bounds = said.0; versions = said.1 }) page.now) }
     ensures honest { (leaf : LeafNode) → IsLeafPage leaf page.now → IsHonest result }
@@ -95,7 +95,7 @@ pub fn leaf_in(alloc: Global, page: &Page, n: u64) -> Result<(Bounds, Leaf), Tre
     }
 }
 
-/// What the key node in a page of this number says.
+/// What the key node in a page of this number represents.
 pub fn key_node_in(alloc: Global, page: &Page, n: u64) -> Result<KeyNodeSaid, TreeError>
     ensures valid { IfOk result (λ said. IsKeyNode (key_node_said said)) }
     ensures says { (level : ℕ) (k : Keys) (children : List Child) → PageSays page.now (KeyNode level k children)

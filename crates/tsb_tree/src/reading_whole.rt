@@ -22,7 +22,7 @@ use page_tx::Pages;
 use std::alloc::Global;
 use tsb_walk::{PagePlace, are_its_keys};
 
-// What the page of the column at a place and that of its current leaf say.
+// What the page of the column at a place and that of its current leaf represent.
 fn whole_in(
     alloc: Global,
     place: &PagePlace,

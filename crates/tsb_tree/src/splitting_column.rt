@@ -1,5 +1,5 @@
 //! A column takes a version for which its leaf has no room, and is laid out as one or as two.
-ghost use Rattle.std.specs.Prelude.{◌≡◌, ◌+◌, ◌^◌, ◌<◌, ◌≤◌, ◌⊎◌, ◌++◌, ◌∷◌, [], ℕ, Bool, List, Option, IfOk, IfErr, Err, IsErr, IsErrOf, length};
+ghost use Rattle.std.specs.Prelude.{◌≡◌, ◌+◌, ◌^◌, ◌<◌, ◌≤◌, ◌⊎◌, ◌++◌, ◌∷◌, [], ℕ, Bool, List, Option, IfOk, IfErr, Err, IsErr, IsErrOf, length, true};
 ghost use Rattle.once_store.specs.declared.error.AppendError.{AppendError};
 ghost use Rattle.once_store.specs.Shelves.{disk_of, next_of, pen_of};
 ghost use Rattle.version_model.specs.Blocks.{BlockNode};
@@ -42,7 +42,7 @@ pub struct Unused {
 // far off.
 const MOST_KEPT: u64 = 10_821;
 
-// Lays a column out: as one, or as two halves where its leaf keeps too much.
+// Lays a column out: as one, or as two halves if its leaf keeps too much.
 fn lay_out(
     alloc: Global,
     unused: Unused,
@@ -73,8 +73,8 @@ fn lay_out(
     Ok(lay_two(alloc, page, current, unused.next, whole, key)?)
 }
 
-/// A column whose leaf is in a page takes a version for which the page has no room. Where that moves anything, the column is split by time
-/// at the version's stamp; and it is split by key where what stays is more than two thirds of a page.
+/// A column whose leaf is in a page takes a version for which the page has no room. If that moves anything, the column is split by time
+/// at the version's stamp; and it is split by key if what stays is more than two thirds of a page.
 pub fn split_column<O: OnceDisk + Drop>(
     shelf: &mut Shelf<O>,
     alloc: Global,
@@ -101,7 +101,7 @@ pub fn split_column<O: OnceDisk + Drop>(
     ensures burns { (shelf.new ≡ shelf.old) ⊎ HasOutlived whole.leaf (version_of entry.now) }
     ensures once { (refusal : AppendError) → result ≡ Err (TreeError.Once refusal) → HasOutlived whole.leaf (version_of entry.now) }
     ensures none_left { O.honest (disk_of shelf.old) (pen_of shelf.old) → HasNoneBlank O.OnceDisk shelf.old → HasOutlived whole.leaf (version_of entry.now) → IsErr result }
-    ensures refused { (down : Bool) → IfErr result (PlanRefusal unused.homes unused.next 1 down) }
+    ensures refused { (down : Bool) → IfErr result (PlanRefusal unused.homes unused.next 1 down true) }
     ensures read { IsErrOf result (TreeError.Pages PageError.Fault) → ⊥ }
     ensures shelf { KeepsShelf O.OnceDisk 2 shelf.old shelf.new result }
     ensures one_block { (shelf.new ≡ shelf.old) ⊎ (SpendsOne O.OnceDisk shelf.old shelf.new ⊎ (648 ≤ length whole.parts.items)) }

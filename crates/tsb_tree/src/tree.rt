@@ -33,7 +33,7 @@ pub fn first_key() -> Key
 }
 
 /// Images that make a tree of no version of two pages of a map: this one, of a column, which is the root, of level 1; and the next
-/// one, of its current leaf. A version to come may have any stamp. It fails where memory is refused, and only then.
+/// one, of its current leaf. A version to come may have any stamp. It fails if an allocation fails, and only then.
 pub fn first_images(alloc: Global, page: u64) -> Result<Vec<(u64, Page)>, AllocError>
     requires below { page + 1 < 2 ^ 64 }
     ensures images { IfOk result (λ images. AreFirst page images.items) }

@@ -13,8 +13,8 @@ const VERSIONS: u64 = 10_000;
 /// How many questions follow.
 const QUESTIONS: u64 = 200;
 
-/// With this many images beside those of an insert into a tree of four levels, a transaction isn't too full.
-const IMAGES: usize = 20;
+/// Beside this many images a transaction has room for those of an insert that splits each node of a tree of four levels.
+const IMAGES: usize = 19;
 
 /// Numbers that look random, always the same, and the stamp that they have come to.
 #[derive(Drop)]

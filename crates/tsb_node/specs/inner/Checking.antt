@@ -22,7 +22,7 @@ pub record AreEntries (b : Bounds) (count : ℕ) (bytes : List ℕ) : Type 0 whe
   pub counted : length versions ≡ count
   pub encoded : bytes ≡ entries versions
 
--- the stamp is above the last one, where there is one
+-- the stamp is above the last one, if there is one
 abbrev pub IsAfter : ℕ → Option ℕ → Type 0
 IsAfter stamp None = Unit {0}
 IsAfter stamp (Some last) = last < stamp

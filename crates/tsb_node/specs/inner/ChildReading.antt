@@ -1,4 +1,4 @@
--- What octets say of a key node where they are one.
+-- What octets represent if they are a key node.
 use Rattle.std.specs.Prelude.{◌≡◌, ℕ, zero, suc, ◌*◌, ◌<◌, ◌≤◌, ◌⊎◌, List, [], ◌∷◌, length, drop}
 use Rattle.std.specs.List.{flat_map}
 use Rattle.version_model.specs.declared.bounds.Bounds.{Bounds}
@@ -17,7 +17,7 @@ unfoldable pub children_in : ℕ → List ℕ → List Child
 children_in zero bytes = []
 children_in (suc n) bytes = child_in bytes ∷ children_in n (drop 48 bytes)
 
--- the place is that of the last child whose keys begin at or below the key, or of the first where none do
+-- the place is that of the last child whose keys begin at or below the key, or of the first if none do
 pub record IsChildBefore (count : ℕ) (bytes : List ℕ) (key place : ℕ) : Type 0 where
   pub below : place < count
   pub passed : (number_in 40 (48 * place) bytes ≤ key) ⊎ (place ≡ 0)

@@ -8,7 +8,7 @@ abbrev pub ReportsLive : List Version → ℕ → ℕ → Bool → Type 0
 ReportsLive versions key s true = IsLive versions s key
 ReportsLive versions key s false = Answers versions key s None
 
--- the least key from this one on of which there is a version that isn't after the stamp; none where there is no such version
+-- the least key from this one on of which there is a version that isn't after the stamp; none if there is no such version
 abbrev pub IsLeastOf : List Version → ℕ → ℕ → Option ℕ → Type 0
 IsLeastOf versions s from None = (v : Version) → Has versions v → from ≤ v.key → v.stamp ≤ s → ⊥
 IsLeastOf versions s from (Some least) = (from ≤ least) × ((v : Version) → Has versions v → from ≤ v.key → v.stamp ≤ s → least ≤ v.key)

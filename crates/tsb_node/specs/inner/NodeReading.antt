@@ -1,4 +1,4 @@
--- What all nodes have in common, whatever their entries say.
+-- What all nodes have in common, whatever their entries represent.
 use Rattle.std.specs.Prelude.{◌≡◌, ℕ, ◌<◌, ◌≤◌, ◌^◌, List, ◌++◌, length}
 use Rattle.tsb_node.specs.Nodes.{IsBounds, body, IsInPage, IsInBlock}
 use Rattle.tsb_node.specs.declared.header.Header.{Header}

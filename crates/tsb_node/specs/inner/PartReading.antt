@@ -1,4 +1,4 @@
--- What octets say of the entries of a column.
+-- What the octets of the entries of a column represent.
 use Rattle.std.specs.Prelude.{◌≡◌, ℕ, suc, ◌+◌, ◌*◌, ◌^◌, ◌⊎◌, ◌≤◌, ◌<◌, List, ◌++◌, length, Option, IfSome}
 use Rattle.std.specs.List.{flat_map}
 use Rattle.version_model.specs.declared.part.Part.{Part}
@@ -20,7 +20,7 @@ pub record IsPlaceBefore (count : ℕ) (bytes : List ℕ) (stamp at : ℕ) : Typ
   pub passed : (start_at place bytes ≤ stamp) ⊎ (place ≡ 0)
   pub next : suc place < count → stamp < start_at (suc place) bytes
 
--- a part that starts before the end, where there is one
+-- a part that starts before the end, if there is one
 pub record IsPartBefore (end : Option ℕ) (p : Part) : Type 0 where
   pub entry : IsPartEntry p
   pub before : IfSome end (λ n. p.start < n)
@@ -34,7 +34,7 @@ pub record IsCurrentEntry (c : Current) : Type 0 where
   pub start : c.start < 256 ^ 16
   pub page : c.page < 256 ^ 8
 
--- what stands before the current leaf of a column, whose header this is
+-- what is before the current leaf of a column, whose header this is
 pub record IsCurrentOf (h : Header) (entries : List ℕ) (current : Current) (front : List ℕ) : Type 0 where
   pub kind : h.kind ≡ 2
   pub level : h.level ≡ 1

@@ -1,4 +1,4 @@
--- What octets say of a leaf where they are one. Of other octets it says something, too, on which nothing rests.
+-- What octets represent if they are a leaf. For other octets it is defined too, but nothing rests on it.
 use Rattle.std.specs.Prelude.{ℕ, zero, suc, ◌+◌, ◌==◌, List, [], ◌∷◌, take, drop, slice_index, Option, Some, None, if◌then◌else◌}
 use Rattle.tsb_node.specs.inner.Fields.{number_in}
 use Rattle.version_model.specs.Versions.{Version}
@@ -29,6 +29,6 @@ unfoldable pub after : ℕ → List ℕ → List ℕ
 after zero bytes = bytes
 after (suc n) bytes = after n (after_version bytes)
 
--- where the entries of a node may stand
+-- where the entries of a node may be
 abbrev pub area : List ℕ → List ℕ
 area octets = drop 120 (take 16352 octets)

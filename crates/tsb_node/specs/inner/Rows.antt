@@ -9,7 +9,7 @@ pub record IsEncoding {X : Type 0} (encode : X → List ℕ) (valid : X → Type
   pub size_is : (x : X) → length (encode x) ≡ size
   pub apart : (x y : X) (a b : List ℕ) → valid x → valid y → encode x ++ a ≡ encode y ++ b → x ≡ y
 
--- where there are numbers, this one is the first
+-- if there are numbers, this one is the first
 abbrev pub StartsAt : ℕ → List ℕ → Type 0
 StartsAt first [] = Unit {0}
 StartsAt first (n ∷ rest) = n ≡ first
@@ -22,7 +22,7 @@ pub record AreRows {X : Type 0} (encode : X → List ℕ) (valid : X → Type 0)
   pub counted : length rows ≡ count
   pub encoded : bytes ≡ flat_map encode rows
 
--- it is the last of the numbers, where there is one
+-- it is the last of the numbers, if there is one
 abbrev pub IsLastNumber : List ℕ → Option ℕ → Type 0
 IsLastNumber numbers None = numbers ≡ []
 IsLastNumber numbers (Some last) = (front : List ℕ) × (numbers ≡ front ++ last ∷ [])

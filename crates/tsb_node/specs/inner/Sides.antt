@@ -3,7 +3,7 @@ use Rattle.std.specs.Prelude.{ℕ, ◌&&◌, not, nat_lt, Bool, true, filter, Op
 use Rattle.version_model.specs.declared.bounds.Bounds.{Bounds}
 use Rattle.tsb_node.specs.Leaves.{LeafNode}
 
--- whether the key is below a high key, where there is one
+-- whether the key is below a high key, if there is one
 abbrev pub is_below : Option ℕ → ℕ → Bool
 is_below None key = true
 is_below (Some n) key = nat_lt key n

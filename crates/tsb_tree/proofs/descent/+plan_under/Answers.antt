@@ -19,6 +19,7 @@ use Rattle.tsb_tree.proofs.OneWay.{outdated_on}
 use Rattle.tsb_tree.proofs.Outliving.{or_else}
 use Rattle.tsb_tree.proofs.Shelving.{spends_none}
 use Rattle.tsb_tree.proofs.LackingRoom.{is_half, raised_light, raised_lacks, read_lacks_none}
+use Rattle.tsb_tree.proofs.Crowding.{raise_never_crowded, raised_alone, read_never_crowded}
 use Rattle.tsb_tree.proofs.descent.+plan_under.Goals as goal
 
 pub returns-in_err-next-clause-honest : goal.returns-in_err-next-clause-honest
@@ -253,3 +254,32 @@ returns-clause-none_left g t c s all can none leads =
     let never = at_lower pages c.args.pages.now c.child_at.new.pages _ g.O.OnceDisk c.args.shelf.now s all place next v c.in_ok-next.ensures.reads can above lower (λ shown. LeadsToOutdated shown v next → ⊥)
     (λ rest. false≢true (c.in_ok-change.ensures.none_left s all can' none rest)) in
     absurd (never (outdated_on can.shown v place next lower leads))
+
+-- ---- images for which there is no room
+
+pub returns-clause-alone : goal.returns-clause-alone
+returns-clause-alone g t c never =
+    raised_alone (g.P.Pages.next c.args.pages.now) (g.P.Pages.next c.child_at.new.pages) c.in_ok-change.change c.raise.result c.raise.ensures.kept c.in_ok-next.ensures.reads.next (c.in_ok-change.ensures.alone never)
+
+pub returns-in_err-next-clause-crowded : goal.returns-in_err-next-clause-crowded
+returns-in_err-next-clause-crowded g t c s all can is =
+    let p = err_from_is_err_and c.from_residual.result c.from_residual.ensures.1 in
+    absurd (read_never_crowded _ (g.P.Pages.down c.args.pages.now) c.in_err-next.ensures.refused (cc))
+
+pub returns-in_err-change-clause-crowded : goal.returns-in_err-change-clause-crowded
+returns-in_err-change-clause-crowded g t c s all can is =
+    let pages = g.P.Pages in
+    let place : PagePlace = c.args.place.now in
+    let next : PagePlace = c.in_ok-next.next in
+    let v : Version = version_of c.args.entry.now in
+    let above : 1 < place.level = omega (arith, c.requires.level, c.if-place-eq1.false) in
+    let said = can_said g.P.Pages c.args.pages.now g.O.OnceDisk c.args.shelf.now s all c.args.place.now (version_of c.args.entry.now) can above in
+    let lower = c.in_ok-next.ensures.lower can.start can.shown said.0 can.is.shows said.1 in
+    let can' = take_lower pages c.args.pages.now c.child_at.new.pages _ g.O.OnceDisk c.args.shelf.now s all place next v c.in_ok-next.ensures.reads can above lower in
+    let p = err_from_is_err_and c.from_residual-in_err-change.result c.from_residual-in_err-change.ensures.1 in
+    let none = c.in_err-change.ensures.crowded s all can' (cc) in
+    (none.0, leads_lower pages c.args.pages.now c.child_at.new.pages _ g.O.OnceDisk c.args.shelf.now s all place next v c.in_ok-next.ensures.reads can above lower none.1)
+
+pub returns-clause-crowded : goal.returns-clause-crowded
+returns-clause-crowded g t c s all can is =
+    absurd (raise_never_crowded (g.P.Pages.homes c.plan_under.new.pages) c.in_ok-change.change.unused (g.P.Pages.down c.plan_under.new.pages) c.raise.result c.raise.ensures.refused is)

@@ -9,6 +9,7 @@ use Rattle.version_model.specs.Entries.{version_of}
 use Rattle.tsb_tree.specs.NoRoom.{AtRoot, IsForRoom, LeadsToFullLeaf}
 use Rattle.tsb_tree.specs.Refusals.{InsertRefusal}
 use Rattle.tsb_tree.proofs.LackingRoom.{lay_never_full, lay_lacks_none, page_never_high}
+use Rattle.tsb_tree.proofs.Crowding.{images_fit, never_crowded}
 use Rattle.tsb_tree.proofs.Needing.{page_never_once}
 use Rattle.tsb_tree.proofs.Insertion.{as_it_was, taken_in, lay_insert, never_back, lay_reads, not_less}
 use Rattle.tsb_tree.proofs.Shelving.{honest_on, spends_none}
@@ -30,12 +31,12 @@ pub returns-in_err-change-clause-back : goal.returns-in_err-change-clause-back
 returns-in_err-change-clause-back g c =
     let later : c.args.place.least ≤ c.args.entry.now.stamp = not_less c.lt.result _ _ c.lt.ensures c.if-lt.false in
     let p = err_from_is_err_and c.from_residual.result c.from_residual.ensures.1 in
-    let never = never_back _ _ 0 _ _ _ _ _ (c.in_err-change.ensures.refused 0) later in
+    let never = never_back _ _ (length (g.P.Pages.named c.args.pages.now)) _ _ _ _ _ (c.in_err-change.ensures.refused (length (g.P.Pages.named c.args.pages.now)) (λ none. let many = c.has_room-may_split.ensures.none none in let held = c.images.ensures in omega (arith, many, held))) later in
     rw (p.1, p.2) (λ e. absurd (never (cc)), λ lt. absurd (omega (arith, lt, later)))
 
 pub returns-in_err-change-clause-refused : goal.returns-in_err-change-clause-refused
 returns-in_err-change-clause-refused g c =
-    let h = c.in_err-change.ensures.refused (length (g.P.Pages.named c.args.pages.now)) in
+    let h = c.in_err-change.ensures.refused (length (g.P.Pages.named c.args.pages.now)) (λ none. let many = c.has_room-may_split.ensures.none none in let held = c.images.ensures in omega (arith, many, held)) in
     search rules
 
 pub returns-in-Ok-clause-ok : goal.returns-in-Ok-clause-ok
@@ -201,3 +202,35 @@ pub returns-in-Ok-clause-none_left : goal.returns-in-Ok-clause-none_left
 returns-in-Ok-clause-none_left g c start shown all tree none leads =
     let later : c.args.place.least ≤ c.args.entry.now.stamp = not_less c.lt.result _ _ c.lt.ensures c.if-lt.false in
     absurd (false≢true (c.in_ok-change.ensures.none_left start shown all tree later none leads))
+
+-- ---- images for which there is no room
+
+pub returns-in_err-change-clause-crowded : goal.returns-in_err-change-clause-crowded
+returns-in_err-change-clause-crowded g c start shown all tree less is =
+    let later : c.args.place.least ≤ c.args.entry.now.stamp = not_less c.lt.result _ _ c.lt.ensures c.if-lt.false in
+    let p = err_from_is_err_and c.from_residual.result c.from_residual.ensures.1 in
+    c.in_err-change.ensures.crowded start shown all tree later (cc)
+
+pub returns-in-Err-clause-crowded : goal.returns-in-Err-clause-crowded
+returns-in-Err-clause-crowded g c start shown all tree less is =
+    let plan = c.in_ok-change.ensures in
+    let images = c.in_ok-change.change.images.items in
+    let held = c.images.ensures in
+    let named = ap length plan.reads.named in
+    let few = length_pages_of images in
+    let most = plan.laid.few in
+    absurd (never_crowded c.in-Err.refusal _ _ c.has_room-may_split.result (g.P.Pages.named c.planned.new.pages) (pages_of images) c.args.place.level c.in-Err.ensures.refused
+    (λ room. let fits = c.has_room-may_split.ensures.room room in omega (arith, fits, held, named)) (λ none. let one = (plan.alone none).0.few in omega (arith, one, few)) (omega (arith, most, few)) (omega (arith, less, named))
+    (let e = c.from.ensures in cc))
+
+pub returns-in-Ok-clause-fits : goal.returns-in-Ok-clause-fits
+returns-in-Ok-clause-fits g c less =
+    let plan = c.in_ok-change.ensures in
+    let images = c.in_ok-change.change.images.items in
+    let held = c.images.ensures in
+    let few = length_pages_of images in
+    let most = plan.laid.few in
+    let fit = images_fit c.has_room-may_split.result (g.P.Pages.named c.args.pages.now) (pages_of images) c.args.place.level
+    (λ room. let fits = c.has_room-may_split.ensures.room room in omega (arith, fits, held)) (λ none. let one = (plan.alone none).0.few in omega (arith, one, few)) (omega (arith, most, few)) less in
+    let is = ap length (c.in-Ok.ensures.named ∙ ap (λ ns. joined ns (pages_of images)) plan.reads.named) in
+    omega (arith, fit, is)

@@ -15,7 +15,8 @@ use Rattle.tsb_tree.proofs.Excluding.{root_stays}
 use Rattle.tsb_tree.proofs.Needing.{tree_lacks, tree_same_uses, tree_grown_uses, tree_grown_lacks, tree_level, tree_leads, root_full, root_never_once}
 use Rattle.tsb_tree.proofs.OneWay.{outdated_root}
 use Rattle.tsb_tree.proofs.Outliving.{or_else}
-use Rattle.tsb_tree.proofs.LackingRoom.{plan_full, plan_never_high}
+use Rattle.tsb_tree.proofs.LackingRoom.{no_half, plan_full, plan_never_high}
+use Rattle.tsb_tree.proofs.Crowding.{root_never_crowded}
 use Rattle.tsb_tree.proofs.Insertion.{root_can, root_so, root_plans, tree_same, tree_grown, half_above, not_highest}
 use Rattle.tsb_tree.proofs.inserting.planned.Goals as goal
 
@@ -89,7 +90,7 @@ returns-clause-laid g c =
 pub returns-in_err-change-clause-high : goal.returns-in_err-change-clause-high
 returns-in_err-change-clause-high g c start shown all tree later high =
     let p = err_from_is_err_and c.from_residual.result c.from_residual.ensures.1 in
-    absurd (plan_never_high _ _ _ _ _ c.in_err-change.ensures.refused (cc))
+    absurd (plan_never_high _ _ _ _ _ _ c.in_err-change.ensures.refused (cc))
 
 pub returns-in_err-change-clause-lacks : goal.returns-in_err-change-clause-lacks
 returns-in_err-change-clause-lacks g c start shown all tree later =
@@ -225,7 +226,7 @@ returns-in_default-clause-rises g c start shown all tree later needs =
 pub returns-in_err-change-clause-highest : goal.returns-in_err-change-clause-highest
 returns-in_err-change-clause-highest g c seven full =
     let p = err_from_is_err_and c.from_residual.result c.from_residual.ensures.1 in
-    omega (arith, seven, c.root-root.ensures.level, plan_full _ _ _ _ _ c.in_err-change.ensures.refused (cc))
+    omega (arith, seven, c.root-root.ensures.level, plan_full _ _ _ _ _ _ c.in_err-change.ensures.refused (cc))
 
 pub returns-in_err-change-2-clause-highest : goal.returns-in_err-change-2-clause-highest
 returns-in_err-change-2-clause-highest g c seven full =
@@ -351,3 +352,25 @@ returns-clause-none_left g c start shown all tree later none leads =
     let never = root_so g.P.Pages c.args.pages.now g.O.OnceDisk c.args.shelf.now start shown all root.result place.root place.level place.least v (λ pages at. LeadsToOutdated pages v at → ⊥) root.ensures.page root.ensures.level root.ensures.keys tree later c.requires.inside
     (λ way. false≢true (c.in_ok-change.ensures.none_left tree.store all can none way)) in
     absurd (outdated_root shown v place.root place.level leads never)
+
+-- ---- images for which there is no room
+
+pub returns-clause-alone : goal.returns-clause-alone
+returns-clause-alone g c never =
+    let none = (c.in_ok-change.ensures.alone never).0.new in
+    absurd (no_half c.in_ok-change.change.new none (subst (λ (o : Option Child). IsSome o) (sym c.in-Some.is) refl))
+
+pub returns-in_err-change-clause-crowded : goal.returns-in_err-change-clause-crowded
+returns-in_err-change-clause-crowded g c start shown all tree later is =
+    let root = c.root-root in
+    let place = c.args.place in
+    let v : Version = version_of c.args.entry.now in
+    let can = root_can g.P.Pages c.args.pages.now g.O.OnceDisk c.args.shelf.now start shown all root.result place.root place.level place.least v root.ensures.page root.ensures.level root.ensures.keys tree later c.requires.inside in
+    let p = err_from_is_err_and c.from_residual.result c.from_residual.ensures.1 in
+    let none = c.in_err-change.ensures.crowded tree.store all can (cc) in
+    (none.0, root_so g.P.Pages c.args.pages.now g.O.OnceDisk c.args.shelf.now start shown all root.result place.root place.level place.least v (λ pages at. LeadsToFullLeaf pages v at) root.ensures.page root.ensures.level root.ensures.keys tree later c.requires.inside none.1)
+
+pub returns-in_err-change-2-clause-crowded : goal.returns-in_err-change-2-clause-crowded
+returns-in_err-change-2-clause-crowded g c start shown all tree later is =
+    let p = err_from_is_err_and c.from_residual-in_err-change-2.result c.from_residual-in_err-change-2.ensures.1 in
+    absurd (root_never_crowded _ _ _ _ c.in_err-change-2.ensures.refused (cc))

@@ -21,6 +21,7 @@ use Rattle.tsb_tree.proofs.Outliving.{or_else}
 use Rattle.tsb_tree.proofs.Pushing.{can_after, leaf_here, within, above_leaf, pushed_says, filled_here, current_is, standing, pushed_true, pushed_false, stays_false, room_here}
 use Rattle.tsb_tree.proofs.Shelving.{spends_none}
 use Rattle.tsb_tree.proofs.LackingRoom.{if_ok, if_err, read_lacks_none}
+use Rattle.tsb_tree.proofs.Crowding.{read_never_crowded, split_never_crowded}
 use Rattle.tsb_tree.proofs.planning_column.plan_column.Goals as goal
 
 pub returns-in_err-leaf-clause-honest : goal.returns-in_err-leaf-clause-honest
@@ -227,3 +228,31 @@ returns-clause-none_left g c s all can none leads =
     let same : c.push_entry.new.image ≡ c.in_ok-leaf.leaf.image = stays_false TreeError _ _ c.in_ok-push_entry.field-0 no c.in_ok-push_entry.ensures.stays in
     let outdated = (outdated_here can.shown v place c.in_ok-leaf.leaf.page c.in_ok-leaf.leaf.image of leads).1 in
     c.plan_splits.ensures.none_left can.is.honest none (subst (λ (i : List ℕ). IsOutdated place i v) (sym same) outdated)
+
+-- ---- images for which there is no room
+
+pub returns-then-branch-clause-alone : goal.returns-then-branch-clause-alone
+returns-then-branch-clause-alone g c never =
+    (record { few = c.in_ok-lay_leaf.ensures.laid.few; unused = c.in_ok-lay_leaf.ensures.unused ∙ c.next_page.ensures ∙ c.in_ok-leaf.ensures.reads.next; new = c.in_ok-lay_leaf.ensures.new }, refl)
+
+pub returns-in_err-leaf-clause-crowded : goal.returns-in_err-leaf-clause-crowded
+returns-in_err-leaf-clause-crowded g c s all can is =
+    let p = err_from_is_err_and c.from_residual.result c.from_residual.ensures.1 in
+    absurd (read_never_crowded _ (g.P.Pages.down c.args.pages.now) c.in_err-leaf.ensures.refused (cc))
+
+pub returns-then-not-may_split-clause-crowded : goal.returns-then-not-may_split-clause-crowded
+returns-then-not-may_split-clause-crowded g c s all can is =
+    let place = c.args.place.now in
+    let v = version_of c.args.entry.now in
+    let of = c.in_ok-leaf.ensures.leaf can.start can.shown can.is.shows (column_shown s all c.args.place.now can.shown c.requires.level can.is.reports can.stands c.args.entry.now.stamp can.above.above) in
+    let l = leaf_here s all c.args.place.now can.shown c.requires.level can.is.reports can.stands c.in_ok-leaf.leaf.page c.in_ok-leaf.leaf.image of in
+    let no : c.in_ok-push_entry.field-0 ≡ false = search rules in
+    let full = pushed_false TreeError l.leaf v c.push_entry.new.image c.in_ok-push_entry.field-0 no (c.in_ok-push_entry.ensures.pushed l.leaf l.page (within s all c.args.place.now can.shown c.requires.level can.is.reports can.stands c.in_ok-leaf.leaf.page c.in_ok-leaf.leaf.image of c.args.entry.now.key c.requires.has) (above_leaf s all c.args.place.now can.shown c.requires.level can.is.reports can.stands c.in_ok-leaf.leaf.page c.in_ok-leaf.leaf.image of c.args.entry.now.stamp can.above)) in
+    let filled = filled_here s all c.args.place.now can.shown c.requires.level can.is.reports can.stands c.in_ok-leaf.leaf.page c.in_ok-leaf.leaf.image of v full in
+    (refl, in_leaf place c.in_ok-leaf.leaf.page c.in_ok-leaf.leaf.image of filled)
+
+pub returns-clause-crowded : goal.returns-clause-crowded
+returns-clause-crowded g c s all can is = absurd (split_never_crowded _ _ _ _ c.plan_splits.result c.plan_splits.ensures.refused is)
+
+pub returns-then-not-may_split-clause-one_block : goal.returns-then-not-may_split-clause-one_block
+returns-then-not-may_split-clause-one_block g c s all can = inl (spends_none g.O.OnceDisk c.args.shelf.now)

@@ -1,4 +1,4 @@
-use Rattle.std.proofs.Common.{rules, ◌≡◌, ◌<◌, ◌≤◌, ℕ, Err, Result, IfOk, IfErr, inl, inr, sym, ◌∙◌, ap, subst, arith}
+use Rattle.std.proofs.Common.{rules, true, ◌≡◌, ◌<◌, ◌≤◌, ℕ, Err, Result, IfOk, IfErr, inl, inr, sym, ◌∙◌, ap, subst, arith}
 use Rattle.std.proofs.lemmas.Result.{err_from_is_err_and}
 use Rattle.once_store.specs.Shelves.{next_of}
 use Rattle.version_model.specs.Entries.{version_of}
@@ -25,8 +25,8 @@ pub returns-in_err-whole-clause-refused : goal.returns-in_err-whole-clause-refus
 returns-in_err-whole-clause-refused g c =
     let h = c.in_err-whole.ensures.refused in
     let d : c.from_residual.result ≡ Err c.in_err-whole.field-0.0 = search rules in
-    subst (λ (r : Result Change TreeError). IfErr r (PlanRefusal (g.P.Pages.homes c.args.pages.now) (g.P.Pages.next c.args.pages.now) c.args.place.now.level (g.P.Pages.down c.args.pages.now))) (sym d)
-    (read_plan (g.P.Pages.homes c.args.pages.now) (g.P.Pages.next c.args.pages.now) c.args.place.now.level (g.P.Pages.down c.args.pages.now) _ h)
+    subst (λ (r : Result Change TreeError). IfErr r (PlanRefusal (g.P.Pages.homes c.args.pages.now) (g.P.Pages.next c.args.pages.now) c.args.place.now.level (g.P.Pages.down c.args.pages.now) true)) (sym d)
+    (read_plan (g.P.Pages.homes c.args.pages.now) (g.P.Pages.next c.args.pages.now) c.args.place.now.level (g.P.Pages.down c.args.pages.now) true _ h)
 
 pub returns-in_err-whole-clause-shelf : goal.returns-in_err-whole-clause-shelf
 returns-in_err-whole-clause-shelf g c =
@@ -44,8 +44,8 @@ returns-clause-refused g c =
     let h = c.split_column.ensures.refused down in
     let homes_is : homes ≡ g.P.Pages.homes c.args.pages.now = c.home_pages.ensures ∙ c.in_ok-whole.ensures.reads.homes in
     let next_is : next ≡ g.P.Pages.next c.args.pages.now = c.next_page.ensures ∙ c.in_ok-whole.ensures.reads.next in
-    subst (λ (m : ℕ). IfErr r (PlanRefusal (g.P.Pages.homes c.args.pages.now) (g.P.Pages.next c.args.pages.now) m down)) (sym c.requires.level)
-    (subst (λ (m : ℕ). IfErr r (PlanRefusal (g.P.Pages.homes c.args.pages.now) m 1 down)) next_is (subst (λ (m : ℕ). IfErr r (PlanRefusal m next 1 down)) homes_is h))
+    subst (λ (m : ℕ). IfErr r (PlanRefusal (g.P.Pages.homes c.args.pages.now) (g.P.Pages.next c.args.pages.now) m down true)) (sym c.requires.level)
+    (subst (λ (m : ℕ). IfErr r (PlanRefusal (g.P.Pages.homes c.args.pages.now) m 1 down true)) next_is (subst (λ (m : ℕ). IfErr r (PlanRefusal m next 1 down true)) homes_is h))
 
 pub returns-clause-plans : goal.returns-clause-plans
 returns-clause-plans g c s all can at_leaf =
