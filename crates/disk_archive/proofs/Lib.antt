@@ -36,6 +36,7 @@ mod Staying
 mod Limited
 mod OneNeed
 mod Lacking
+mod Changing
 mod Faults
 mod Failing
 mod ReadFaults

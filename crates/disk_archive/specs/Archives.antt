@@ -1,4 +1,4 @@
--- What contracts say of an archive.
+-- The terms of contracts on an archive.
 use Rattle.std.specs.Prelude.{◌≡◌, ◌⊎◌, ℕ, List, Bool, true}
 use Rattle.disk_models.specs.declared.erase.EraseDisk.{Ghosts as EraseGhosts}
 use Rattle.disk_models.specs.declared.once.OnceDisk.{Ghosts as OnceGhosts}
@@ -58,7 +58,7 @@ IsHonest {erase = erase} {once = once} a = erase.honest (erase_of a) × once.hon
 abbrev pub HeadRepresentsOn : {E O Pen Seen : Type 0} {erase : EraseGhosts E} {once : OnceGhosts O Pen Seen} → Archive E O Pen Seen erase once → List (List ℕ) → History → Type 0
 HeadRepresentsOn {once = once} a pages h = HeadRepresents (TreeLocated (once.block_count (once_of a))) a.settings (settled_in (once_state a)) a.head pages h
 
--- A usable archive represents the history on its disks, whose note says what it was made with, and has in memory what it answers by.
+-- A usable archive represents the history on its disks, whose note has its settings, and has in memory what answers need.
 pub record Represents {E O Pen Seen : Type 0} {erase : EraseGhosts E} {once : OnceGhosts O Pen Seen} (a : Archive E O Pen Seen erase once) (h : History) : Type 0 where
   pub honest : IsHonest a
   pub noted : IsNoted (site_of a)
@@ -69,7 +69,7 @@ pub record Represents {E O Pen Seen : Type 0} {erase : EraseGhosts E} {once : On
   pub head_represents : HeadRepresentsOn a pages h
   pub mirrors : Mirrors a.sequencer h
 
--- The archive must be opened again. It has in memory what it answers by, and whatever its disks read as, or a crash may leave of them
+-- The archive must be opened again. It has in memory what answers need, and whatever its disks read as, or a crash may leave of them
 -- now, represents a history that this one begins.
 pub record Waits {E O Pen Seen : Type 0} {erase : EraseGhosts E} {once : OnceGhosts O Pen Seen} (a : Archive E O Pen Seen erase once) (h : History) : Type 0 where
   pub honest : IsHonest a
@@ -80,11 +80,11 @@ pub record Waits {E O Pen Seen : Type 0} {erase : EraseGhosts E} {once : OnceGho
   pub mirrors : Mirrors a.sequencer h
   pub rests : Rests (site_of a) (erase_state a) (once_state a) h
 
--- it carries the history on, or reports it until it is opened again
+-- it represents the history, or reports it until it is opened again
 abbrev pub GoesOn : {E O Pen Seen : Type 0} {erase : EraseGhosts E} {once : OnceGhosts O Pen Seen} → Archive E O Pen Seen erase once → History → Type 0
 GoesOn a h = Represents a h ⊎ Waits a h
 
--- The archive holds the history. Where a disk doesn't follow its model, nothing is claimed.
+-- The archive represents the history. If a disk doesn't follow its model, nothing is claimed.
 abbrev pub Holds : {E O Pen Seen : Type 0} {erase : EraseGhosts E} {once : OnceGhosts O Pen Seen} → Archive E O Pen Seen erase once → History → Type 0
 Holds a h = IsHonest a → GoesOn a h
 

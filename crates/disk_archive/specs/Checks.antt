@@ -14,7 +14,7 @@ use Rattle.tsb_check.specs.InUse.{AreInUse, IsUnusedUnder}
 use Rattle.tsb_check.specs.Pages.{ReportsTree, IsBadUnder, IsUnknownUnder, IsDamagedUnder}
 use Rattle.disk_archive.specs.declared.archive.Archive.{Archive}
 
--- these are its pages: what its journal and its cache mean
+-- these are its pages: what its journal and its cache represent
 abbrev pub HasPages : {E O Pen Seen : Type 0} {erase : EraseGhosts E} {once : OnceGhosts O Pen Seen} → Archive E O Pen Seen erase once → List (List ℕ) → Type 0
 HasPages {erase = erase} a pages = Maps erase (pool_of a.tx) pages
 
@@ -36,7 +36,7 @@ pub record IsRootPlace (root : ℕ) (place : PagePlace) : Type 0 where
   pub page : place.page ≡ root
   pub keys : keys_at place ≡ all_keys
 
--- Every page of the tree with this root, and every block of its past, says what the one above asks for, and a count of their versions
+-- Every page of the tree with this root, and every block of its past, represents what the one above requires, and a count of their versions
 -- returns `n`; or some block to which they lead isn't known to be settled, of which a disk gives any octets. The pages, and the blocks that
 -- they name, are in use.
 pub record IsAllRead (pages : List (List ℕ)) (known : ℕ → Option (List ℕ)) (blocks root : ℕ) (in_use : InUse) (n : ℕ) : Type 0 where
@@ -47,7 +47,7 @@ pub record IsAllRead (pages : List (List ℕ)) (known : ℕ → Option (List ℕ
 
 -- The page is damaged: it is that of the root, and no root; or the tree leads to it, and it isn't what it has to be; or it is at fault for a
 -- page or a block that isn't in use, as the page of a column that names a block which was never burnt, and page 0 for the others; or it is
--- page 0, and the tree, whose pages and blocks all are what they have to be, has another number of versions than the head says.
+-- page 0, and the tree, whose pages and blocks all are what they have to be, has another number of versions than the head counts.
 pub data IsBadPage (pages : List (List ℕ)) (known : ℕ → Option (List ℕ)) (blocks root applied : ℕ) (in_use : InUse) : ℕ → Type 0 where
   no_root : ((level : ℕ) → ShowsRoot pages root level → ⊥) → IsBadPage pages known blocks root applied in_use root
   bad_under : (place : PagePlace) → IsRootPlace root place → (page : ℕ) → IsBadUnder pages (place ∷ []) page → IsBadPage pages known blocks root applied in_use page

@@ -20,7 +20,7 @@ IsTooSmall s size = homes_on size < tree_low s + 2
 abbrev pub site_on : Settings → ℕ → ℕ → Site
 site_on s size blocks = record { settings = s; homes = homes_on size; note = note_octets blocks s; blocks = blocks }
 
--- What a crash left holds no journal, or represents the history of an archive to which nothing was given.
+-- What a crash left has no journal, or represents the history of an archive to which nothing was given.
 abbrev pub LeavesNoneOrEmpty : Site → Left → Type 0
 LeavesNoneOrEmpty site left = HoldsNone left.erase ⊎ LeftRepresents site (empty site.settings.collectors) left
 

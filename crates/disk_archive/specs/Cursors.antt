@@ -16,7 +16,7 @@ abbrev pub asks : Cursor → Query
 asks (Rows c) = queries.Rows c.question
 asks (Events c) = queries.Events c.question
 
--- the key, or the stamp, that its walk has come to; none where the walk is over
+-- the key, or the stamp, that its walk has come to; none if the walk is over
 abbrev pub walked_to : Cursor → Option ℕ
 walked_to (Rows c) = front_number c.front
 walked_to (Events c) = c.at
@@ -26,11 +26,11 @@ abbrev pub HasGathered : List Version → History → Cursor → Type 0
 HasGathered all h (Rows c) = Gathered all (applied h) c
 HasGathered all h (Events c) = HasReportedSo all (applied h) c
 
--- What it has gathered is right over this history, and over each right one that this begins, whatever versions stand for what is applied.
+-- What it has gathered is right over this history, and over each right one that this begins, whatever versions represent what is applied.
 abbrev pub IsGathered : Cursor → History → Type 0
 IsGathered c h = (g : History) → IsHistory g → Begins h g → (all : List Version) → Kept (applied g) all → HasGathered all g c
 
--- both say the same
+-- both are the same
 abbrev pub SaysSame : Cursor → Cursor → Type 0
 SaysSame (Rows c) (Rows d) = IsSame c d
 SaysSame (Rows c) (Events d) = ⊥

@@ -30,7 +30,7 @@ IsErrandFor (Rows c) (errands.Events errand) = ⊥
 IsErrandFor (Events c) (errands.Rows errand) = ⊥
 IsErrandFor (Events c) (errands.Events errand) = IsEventsErrandOf c errand
 
--- the places of the errand stand for these versions by these blocks
+-- the places of the errand represent these versions by these blocks
 abbrev pub StandsFor : (ℕ → Option BlockNode) → List Version → Cursor → Errand → Type 0
 StandsFor blocks all (Rows c) (errands.Rows errand) = PlaceStands blocks all errand.place
 StandsFor blocks all (Rows c) (errands.Events errand) = ⊥
@@ -42,8 +42,8 @@ abbrev pub is_known : (ℕ → Option (List ℕ)) → ℕ → List ℕ → Type 
 is_known known n octets = known n ≡ Some octets
 
 -- On a disk of `count` blocks, of which these are known to be settled, the errand of the cursor lies: it is the cursor of a question of a
--- moment that is settled in this history, over which it has gathered so far; and its places stand, by those blocks, for versions of what is
--- applied.
+-- moment that is settled in this history, over which it has gathered so far; and its places represent, by those blocks, versions of what
+-- is applied.
 pub record Located (count : ℕ) (known : ℕ → Option (List ℕ)) (errand : Errand) (c : Cursor) (h : History) : Type 0 where
   pub right : IsHistory h
   pub below : last_moment (asks c) < settled h
@@ -66,7 +66,7 @@ Descends count known h c d (Done answer) = IsAnswered (applied h) (asks c) answe
 Descends count known h c d Again = ⊤
 Descends count known h c d (Historical errand) = Located count known errand d h
 
--- Whatever the archive holds: where the walk goes on it has come further, and an errand is one of the next cursor, whose walk hasn't gone back.
+-- Whatever the archive represents: if the walk goes on it has come further, and an errand is of the next cursor, whose walk hasn't gone back.
 abbrev pub GoesFurther : Cursor → Cursor → Descent → Type 0
 GoesFurther c d (Done answer) = ⊤
 GoesFurther c d Again = Rose (walked_to c) (walked_to d)

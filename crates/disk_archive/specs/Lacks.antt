@@ -1,4 +1,4 @@
--- What a step of applying needs, and has or doesn't have.
+-- What a step of applying needs, and what it lacks.
 use Rattle.std.specs.Prelude.{◌≡◌, ◌<◌, ◌⊎◌, ℕ, List, [], ◌∷◌, length}
 use Rattle.route_model.specs.Admission.{Admitted}
 use Rattle.route_meaning.specs.Merged.{Placed}
@@ -43,18 +43,18 @@ pub record NeedsBlock (is : Version → Type 0) (pages : List (List ℕ)) (root 
   pub needs : AtRoot (LeadsToOutdated pages version) root level
 
 -- To take the version, the tree with this root on these pages lacks nothing: neither pages, of which `left` were never used, nor a level; and
--- it doesn't need a block where none is blank.
+-- it doesn't need a block if none is blank.
 pub record LacksNone (v : Version) (pages : List (List ℕ)) (left root : ℕ) (none_blank : Type 0) : Type 0 where
   pub enough : LacksPages (λ w. w ≡ v) pages left root → ⊥
   pub below : LacksLevel (λ w. w ≡ v) pages root → ⊥
   pub block : NeedsBlock (λ w. w ≡ v) pages root → none_blank → ⊥
 
--- one of the versions of which this holds, where there is one, lacks nothing: a change has one, but for the end of a session, at which any
--- value stands
+-- one of the versions of which this holds, if there is one, lacks nothing: a change has one, but for the end of a session, at which any
+-- value will do
 abbrev pub OneLacksNone : (Version → Type 0) → List (List ℕ) → ℕ → ℕ → Type 0 → Type 0
 OneLacksNone is pages left root none_blank = ((v : Version) → is v → ⊥) ⊎ ((v : Version) × is v × LacksNone v pages left root none_blank)
 
--- What is there where the next change is applied, after `count` others: one more can be counted, and its version, where it has one, lacks
+-- What is there when the next change is applied, after `count` others: one more can be counted, and its version, if it has one, lacks
 -- neither pages nor a level, nor a block that it needs.
 pub record HasRoom (is : Version → Type 0) (pages : List (List ℕ)) (left root count : ℕ) (none_blank : Type 0) : Type 0 where
   pub counted : count < 18446744073709551615

@@ -1,4 +1,4 @@
--- What is returned and left where an archive is opened.
+-- What is returned and left when an archive is opened.
 use Rattle.std.specs.Prelude.{◌≡◌, ◌≤◌, ℕ, List}
 use Rattle.disk_models.specs.Erase.{DiskState}
 use Rattle.disk_models.specs.Once.{OnceState}
@@ -19,7 +19,7 @@ pub record ReadsAs (site : Site) (blocks : ℕ) (e : DiskState) (o : OnceState) 
   pub noted : IsNoted site
   pub represents : LeftRepresents site h (present e o)
 
--- The erasable disk, of this size, says that it is an archive's: it names home pages for which it has room, and in its note settings within
+-- The erasable disk, of this size, is an archive's: it names home pages for which it has room, and in its note settings within
 -- their limits, with which head and rings lie on those pages, and as many blocks as the write-once disk has.
 pub record NamesArchive (size : ℕ) (f : ℕ → ℕ) (blocks : ℕ) : Type 0 where
   pub homes : ℕ

@@ -1,4 +1,4 @@
--- What a check of an archive reads of what waits.
+-- What a check of an archive reads of pending admissions.
 use Rattle.std.specs.Prelude.{◌≡◌, ℕ, List, length}
 use Rattle.disk_models.specs.declared.erase.EraseDisk.{Ghosts as EraseGhosts}
 use Rattle.disk_models.specs.declared.once.OnceDisk.{Ghosts as OnceGhosts}
@@ -13,7 +13,7 @@ use Rattle.archive_pages.specs.Batches.{HasLane}
 use Rattle.archive_pages.specs.Places.{ring_of}
 use Rattle.disk_archive.specs.declared.archive.Archive.{Archive}
 
--- what its head says
+-- what its head represents
 abbrev pub head_in : {E O Pen Seen : Type 0} {erase : EraseGhosts E} {once : OnceGhosts O Pen Seen} → Archive E O Pen Seen erase once → Contents
 head_in a = a.head
 

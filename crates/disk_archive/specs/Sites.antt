@@ -1,4 +1,4 @@
--- What disks hold for an archive, also after a crash.
+-- What disks represent, also after a crash.
 use Rattle.std.specs.Prelude.{◌≡◌, ◌⊎◌, ℕ, List}
 use Rattle.disk_models.specs.Erase.{DiskState}
 use Rattle.disk_models.specs.Once.{OnceState, settled_in}
@@ -19,12 +19,12 @@ pub record Site : Type 0 where
   pub note : List ℕ
   pub blocks : ℕ
 
--- The note says what is there: the settings, which are within their limits, and how many blocks there are.
+-- The note has the settings, which are within their limits, and how many blocks there are.
 pub record IsNoted (site : Site) : Type 0 where
   pub settings : AreSettings site.settings
   pub note : site.note ≡ note_octets site.blocks site.settings
 
--- What a crash left of both disks represents the history: the octets mean pages that, with the blocks that are settled, represent it.
+-- What a crash left of both disks represents the history: the octets represent pages that, with the blocks that are settled, represent it.
 pub record LeftRepresents (site : Site) (h : History) (left : Left) : Type 0 where
   pub pages : List (List ℕ)
   pub means : Recovers site.homes site.note left.erase pages

@@ -1,4 +1,4 @@
-//! A batch is admitted.
+//! Admits a batch.
 
 ghost use Rattle.std.specs.Prelude.{◌≡◌, ◌≢◌, ◌<◌, ◌≤◌, ◌+◌, ◌-◌, ◌*◌, ◌⊎◌, ◌↔◌, ℕ, List, [], length, min, sum_by, Some, IfOk, OnOk, OnErr, IfErr, Err, slice_get, IsTrue, true, false};
 ghost use Rattle.std.specs.List.{AllByRecursion};
@@ -27,7 +27,7 @@ use route_model::{Admission, Mark};
 use sequencer::Sequencer;
 use std::alloc::Global;
 
-// Whether what isn't late of a batch takes more octets than are free in the collector's ring.
+// Whether the records of a batch that aren't late take more octets than are free in the collector's ring.
 fn is_crowded(settings: Settings, lane: Lane, mark: Mark, batch: &[Admission]) -> bool
     requires octets { sum_by entry_octets batch.now ≤ 262144 }
     ensures crowded { IsTrue result ↔ (16384 * settings.ring - lane.used < octets_for (timely admitted_time mark [] batch.now)) }
@@ -36,7 +36,7 @@ fn is_crowded(settings: Settings, lane: Lane, mark: Mark, batch: &[Admission]) -
     size.saturating_sub(lane.used) < timely_len(mark, batch)
 }
 
-// Whether there is such a collector, the batch isn't too large, its records can be counted, and what isn't late of it has room in the
+// Whether there is such a collector, the batch isn't too large, its records can be counted, and those that aren't late have room in the
 // collector's ring. It takes no memory.
 fn may_take(
     settings: Settings,
@@ -99,7 +99,7 @@ impl<E: EraseDisk + Drop, O: OnceDisk + Drop> Archive<E, O> {
     ghost use Rattle.disk_archive.specs.Limits.{IsCounterFull, IsRingFull};
     ghost use Rattle.disk_archive.specs.inner.Idle.{IsAsBefore};
 
-    // Admits a batch where the archive represents a history.
+    // Admits a batch if the archive represents a history.
     fn try_admit(&mut self, collector: u8, batch: &[Admission]) -> Result<BatchReply, AdmitError>
         ensures usable { OnOk result (is_down self.old ≡ false) }
         ensures still_usable { OnOk result (is_down self.new ≡ false) }
@@ -154,11 +154,11 @@ impl<E: EraseDisk + Drop, O: OnceDisk + Drop> Archive<E, O> {
         })
     }
 
-    /// Admits the records of a collector, in their order, but for those that come late: whose time is below the collector's mark or
+    /// Admits the records of a collector, in order, but for those that are late: whose time is below the collector's mark or
     /// below an earlier time of the batch. Each late record is reported. The mark is raised to the greatest of these times. A batch without
     /// a record changes nothing, and nothing is written for it.
     ///
-    /// From an Ok on each crash leaves a history with the batch. After a refusal the archive holds the history from before the call; where
+    /// From an Ok on each crash leaves a history with the batch. After a refusal the archive represents the history from before the call; if
     /// a write or a sync failed, it must be opened again, and the batch is then in the history whole or not at all.
     pub fn admit(&mut self, collector: u8, batch: &[Admission]) -> Result<BatchReply, AdmitError>
         ensures ok { OnOk result ((h : History) → Holds self.old h → Holds self.new (given h collector batch.now)) }

@@ -1,4 +1,4 @@
-//! Questions are answered over what is applied.
+//! Answers questions over what is applied.
 
 ghost use Rattle.std.specs.Prelude.{◌≡◌, ◌↔◌, ◌<◌, ◌≤◌, ℕ, List, length, map, IfOk, IfErr, OnOk, OnErr, Err, true, false};
 ghost use Rattle.once_store.specs.Readers.{capacity_of, reader_disk};
@@ -33,10 +33,10 @@ use tsb_tree::open;
 use tsb_walk::PagePlace;
 use version_model::Stamp;
 
-// How many blocks a question keeps in memory at most.
+// How many blocks a question caches at most.
 const KEPT_BLOCKS: usize = 64;
 
-// That the last moment of a question is settled; or the settled watermark, where it isn't.
+// That the last moment of a question is settled; or the settled watermark, if it isn't.
 pub(crate) fn check_settled(sequencer: &Sequencer, query: &Query) -> Result<(), AskError>
     requires { 0 < length sequencer.now }
     ensures below { OnOk result (last_moment query.now < least (map bound_of sequencer.now)) }
@@ -104,7 +104,7 @@ pub(crate) fn answer_by<P: Pages, O: OnceDisk + Drop>(
             Ok(Answer::Rows(answer))
         }
         Query::Events(question) => {
-            // What peers and prefixes are limited to is known to a proof by a call on each.
+            // A call on each peer and prefix gives the proof its limits.
             let _len = question.peer.encoded_len();
             let _address = question.prefix.address();
             let answer = events(pages, reader, seen, alloc, &root, burnt, question)?;
@@ -120,7 +120,7 @@ impl<E: EraseDisk + Drop, O: OnceDisk + Drop> Archive<E, O> {
     ghost use Rattle.disk_archive.specs.Failures.{ReportsFailure};
     ghost use Rattle.disk_archive.specs.inner.Idle.{IsAsBefore};
 
-    // Answers a question where the archive represents a history.
+    // Answers a question if the archive represents a history.
     fn try_answer(&mut self, query: Query) -> Result<Answer, AskError>
         ensures usable { OnOk result (is_down self.old ≡ false) }
         ensures down { is_down self.new ≡ is_down self.old }
@@ -158,12 +158,12 @@ impl<E: EraseDisk + Drop, O: OnceDisk + Drop> Archive<E, O> {
         Ok(answer)
     }
 
-    /// Answers a question over what is applied, where its last moment is below the settled watermark: the rows of a moment, or the
+    /// Answers a question over what is applied, if its last moment is below the settled watermark: the rows of a moment, or the
     /// events of a span, the first 256 and whether more follow.
     ///
     /// It looks from key to key, or from stamp to stamp, until the answer is complete. Nothing is written; pages and blocks are read, of
-    /// which the pages are kept in the archive's cache, and at most 64 blocks for the time of the call. `Fault` is returned exactly where a
-    /// read, or the look at what is settled, failed. After each outcome the archive holds the same history as before.
+    /// which the pages stay in the archive's cache, and at most 64 blocks in one for the time of the call. `Fault` is returned exactly if a
+    /// read, or the look at what is settled, failed. After each outcome the archive represents the same history as before.
     pub fn answer(&mut self, query: Query) -> Result<Answer, AskError>
         ensures answered { IfOk result (λ answer. IsHonest self.old → (h : History) → Holds self.old h → IsAnswered (applied h) query answer) }
         ensures below { OnOk result (IsHonest self.old → (h : History) → Holds self.old h → last_moment query < settled h) }

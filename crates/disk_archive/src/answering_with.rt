@@ -1,4 +1,4 @@
-//! Questions are answered by a reader that goes on keeping the blocks that it read.
+//! Answers questions by a reader that goes on caching the blocks that it read.
 
 ghost use Rattle.std.specs.Prelude.{◌≡◌, ◌↔◌, ◌<◌, ◌≤◌, ℕ, IfOk, IfErr, OnOk, Err, true, false};
 ghost use Rattle.once_store.specs.Readers.{capacity_of, reader_disk};
@@ -23,7 +23,7 @@ impl<E: EraseDisk + Drop, O: OnceDisk + Drop> Archive<E, O> {
     ghost use Rattle.disk_archive.specs.Reading.{ReadsFrom};
     ghost use Rattle.disk_archive.specs.inner.Idle.{IsAsBefore};
 
-    // Answers a question by a reader of its blocks, where the archive represents a history.
+    // Answers a question by a reader of its blocks, if the archive represents a history.
     fn try_answer_with(
         &mut self,
         reader: &mut ShelfReader<O>,
@@ -67,11 +67,11 @@ impl<E: EraseDisk + Drop, O: OnceDisk + Drop> Archive<E, O> {
         Ok(answer)
     }
 
-    /// Answers a question as `answer` does, by a reader of the archive's blocks that goes on keeping what it read: questions that come to
+    /// Answers a question as `answer` does, by a reader of the archive's blocks that goes on caching them: questions that come to
     /// the same blocks read each of them once.
     ///
-    /// The reader was obtained from this archive, however many calls ago, and is used only for its blocks: what is settled never changes.
-    /// `Fault` is returned exactly where a read, or the look at what is settled, failed.
+    /// The reader is one of this archive, however many calls old, and is used only for its blocks: what is settled never changes.
+    /// `Fault` is returned exactly if a read, or the look at what is settled, failed.
     pub fn answer_with(
         &mut self,
         reader: &mut ShelfReader<O>,

@@ -1,20 +1,16 @@
 //! Why a change isn't applied.
 
-ghost use Rattle.std.specs.Prelude.{◌≡◌, ◌≢◌, ◌<◌, ◌+◌, ◌⊎◌, ◌↔◌, ℕ, Bool, true};
+ghost use Rattle.std.specs.Prelude.{◌≡◌, ◌≢◌, ◌<◌, ◌+◌, ◌↔◌, ℕ, Bool, true};
 ghost use Rattle.intake.specs.Calls.{PageRefusal};
-ghost use Rattle.once_store.specs.declared.error.AppendError.TheVariants as appends;
-ghost use Rattle.page_tx.specs.declared.error.PageError.TheVariants as pages;
 ghost use Rattle.disk_archive.specs.declared.apply_error.ApplyError.TheVariants as applies;
 ghost use Rattle.disk_archive.specs.inner.Applications.{ApplyRefusal, FrontRefusal, LimitRefusal};
 
 use crate::error::NeedsRecovery;
 use disk_models::Fault;
-use once_store::AppendError;
 use page_journal::UseError;
 use page_tx::PageError;
 use std::alloc::AllocError;
 use thiserror::Error;
-use tsb_tree::TreeError;
 
 /// Why a change isn't applied.
 #[derive(Clone, Copy, Debug, PartialEq, Eq, Error)]
@@ -40,7 +36,7 @@ pub enum ApplyError {
     /// A device failed. After a write or a sync of pages the archive must be opened again.
     #[error("the device failed")]
     Fault,
-    /// A growth was refused, before a page was written.
+    /// An allocation failed, before a page was written.
     #[error("out of memory")]
     OutOfMemory,
 }
@@ -82,7 +78,7 @@ impl From<NeedsRecovery> for ApplyError {
     }
 }
 
-/// A refusal of pages of which few are held as images.
+/// A refusal of pages of which few have images.
 pub(crate) fn of_pages(refusal: PageError) -> ApplyError
     requires few { refusal ≢ PageError.TooManyImages }
     ensures bad { (page : ℕ) → result ≢ ApplyError.BadNode page }
@@ -100,29 +96,5 @@ pub(crate) fn of_pages(refusal: PageError) -> ApplyError
         PageError::PagesFull => ApplyError::PagesFull,
         PageError::OutOfMemory => ApplyError::OutOfMemory,
         PageError::TooManyImages => unreachable!(),
-    }
-}
-
-/// A refusal of the tree, where the stamp isn't below the least one, and few pages are held as images.
-pub(crate) fn of_tree(refusal: TreeError) -> ApplyError
-    requires back { refusal ≢ TreeError.StampBack }
-    requires damaged { (block : ℕ) → refusal ≢ TreeError.Damaged block }
-    requires few { refusal ≢ TreeError.Pages pages.TooManyImages }
-    ensures bad { (page : ℕ) → result ≡ ApplyError.BadNode page → refusal ≡ TreeError.BadNode page }
-    ensures once { result ≡ ApplyError.OnceFull → refusal ≡ TreeError.Once appends.OnceFull }
-    ensures high { result ≡ ApplyError.TooHigh → refusal ≡ TreeError.TooHigh }
-    ensures full { result ≡ ApplyError.PagesFull → refusal ≡ TreeError.Pages pages.PagesFull }
-    ensures fault { (result ≡ ApplyError.Fault) ↔ ((refusal ≡ TreeError.Pages pages.Fault) ⊎ (refusal ≡ TreeError.Once appends.Fault)) }
-    ensures limits { (homes next count : ℕ) → (refusal ≡ TreeError.Pages pages.PagesFull → homes < next + 9) → LimitRefusal homes next count result }
-    ensures refused { (down : Bool) → (refusal ≡ TreeError.Pages pages.NeedsRecovery → down ≡ true) → ApplyRefusal down result }
-{
-    match refusal {
-        TreeError::TooHigh => ApplyError::TooHigh,
-        TreeError::BadNode(page) => ApplyError::BadNode(page),
-        TreeError::Pages(refusal) => of_pages(refusal),
-        TreeError::Once(AppendError::Fault) => ApplyError::Fault,
-        TreeError::Once(AppendError::OnceFull) => ApplyError::OnceFull,
-        TreeError::OutOfMemory => ApplyError::OutOfMemory,
-        TreeError::StampBack | TreeError::Damaged(_) => unreachable!(),
     }
 }

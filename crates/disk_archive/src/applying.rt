@@ -1,4 +1,4 @@
-//! The next changes are applied.
+//! Applies the next changes.
 
 ghost use Rattle.std.specs.Prelude.{◌≡◌, ◌⊎◌, ◌↔◌, ◌<◌, ℕ, List, [], length, min, sum_by, IfOk, OnOk, OnErr, IfErr, Ok, Err, true, false};
 ghost use Rattle.route_meaning.specs.History.{History, applied};
@@ -22,7 +22,7 @@ use page_tx::{Pages, Tx};
 pub enum Step {
     /// At least one change is applied, or an admission without changes.
     Applied,
-    /// No admission may be applied: none that waits is below every mark.
+    /// No admission may be applied: no pending one is below every mark.
     Idle,
 }
 
@@ -58,7 +58,7 @@ impl<E: EraseDisk + Drop, O: OnceDisk + Drop> Archive<E, O> {
     ghost use Rattle.disk_archive.specs.inner.Idle.{IsAsBefore};
     ghost use Rattle.disk_archive.specs.inner.Outcomes.{StepIs, CrashesOnStep};
 
-    // Applies the next changes where the archive represents a history.
+    // Applies the next changes if the archive represents a history.
     fn try_apply(&mut self) -> Result<Step, ApplyError>
         ensures usable { OnOk result (is_down self.old ≡ false) }
         ensures still_usable { OnOk result (is_down self.new ≡ false) }
@@ -103,15 +103,15 @@ impl<E: EraseDisk + Drop, O: OnceDisk + Drop> Archive<E, O> {
         Ok(Step::Applied)
     }
 
-    /// Applies the next changes, of the first admission that waits and of those after it, of any collector: as many as surely fit one
+    /// Applies the next changes, of the first pending admission and of those after it, of any collector: as many as surely fit one
     /// transaction, up to 1,000, and none that isn't below every mark. An admission without changes counts as a change, and is applied at
     /// once. With its last change an admission is wholly applied, and leaves its ring.
     ///
-    /// Blocks that are burnt for it, at most two a change, are settled before a page is written. Where a change after the first one is
+    /// Blocks that are burnt for it, at most two a change, are settled before a page is written. If a change after the first one is
     /// refused, the changes before it are applied, and the refusal is left to the next call. A failure of a device is returned by the call
     /// in which it occurs, at whichever change: then none is applied, and the next call plans them anew, in further blocks.
     ///
-    /// After a refusal the archive holds the history from before the call, and the call leaves nothing but spent blocks; where a write or a
+    /// After a refusal the archive represents the history from before the call, and the call leaves nothing but spent blocks; if a write or a
     /// sync of pages failed, it must be opened again, and the changes are then applied, all of them or none.
     pub fn apply_step(&mut self) -> Result<Step, ApplyError>
         ensures applied { IfOk result (λ step. step ≡ Step.Applied → IsHonest self.old → (h : History) → Holds self.old h → (g : History) × Moves h g × Holds self.new g) }

@@ -21,10 +21,10 @@ use sequencer::Sequencer;
 use std::alloc::Global;
 use std::sync::Arc;
 
-/// What some collectors gave, on two disks: home pages with a head, a ring of what waits for each collector and a tree, and blocks
+/// What some collectors gave, on two disks: home pages with a head, a ring of pending admissions for each collector and a tree, and blocks
 /// with the tree's past.
 ///
-/// In memory it has the head, the marks, and the times of what waits.
+/// In memory it has the head, the marks, and the times of pending admissions.
 #[derive(Drop)]
 pub struct Archive<E: EraseDisk + Drop, O: OnceDisk + Drop> {
     pub(crate) alloc: Global,
@@ -33,8 +33,8 @@ pub struct Archive<E: EraseDisk + Drop, O: OnceDisk + Drop> {
     pub(crate) settings: Settings,
     pub(crate) head: Head,
     pub(crate) sequencer: Sequencer,
-    // The admission of which changes were applied last. It is no part of what the archive holds: the ring is read each time, and this one
-    // is used where its octets are those that are in the ring.
+    // The admission of which changes were applied last. It is no part of the history: the ring is read each time, and this one
+    // is used if its octets are those in the ring.
     pub(crate) kept: Option<Encoded>,
     ghost some: { 1 ≤ settings.collectors },
     ghost few: { settings.collectors ≤ 16 },
@@ -73,7 +73,7 @@ impl<E: EraseDisk + Drop, O: OnceDisk + Drop> Archive<E, O> {
         self.sequencer.settled()
     }
 
-    /// Where the collector goes on. An archive that must be opened again returns the value from before the call that failed.
+    /// Where the collector's feed goes on. An archive that must be opened again returns the value from before the call that failed.
     pub fn resume(&self, collector: u8) -> Resume
         requires collector { collector < (settings_of self.now).collectors }
         ensures resume { IsHonest self.now → (h : History) → Holds self.now h → slice_get (map resume_of h.intakes) collector ≡ Some result }
@@ -112,7 +112,7 @@ impl<E: EraseDisk + Drop, O: OnceDisk + Drop> Archive<E, O> {
         self.shelf.seen()
     }
 
-    /// Gives both disks up.
+    /// Returns both disks.
     pub fn into_disks(self) -> (E, Arc<O>, O::Pen)
         ensures erase { result.0 ≡ erase_of self }
         ensures once { result.1.value ≡ once_of self }

@@ -32,7 +32,7 @@ pub enum AskError {
     /// A device failed. Nothing was written.
     #[error("the device failed")]
     Fault,
-    /// A growth was refused.
+    /// An allocation failed.
     #[error("out of memory")]
     OutOfMemory,
 }
@@ -77,7 +77,7 @@ impl From<NodeError> for AskError {
     }
 }
 
-/// Why a root isn't read.
+/// Why a tree's root isn't read.
 pub(crate) fn of_root(refusal: TreeError) -> AskError
     requires read { (down : Bool) × ReadRefusal down refusal }
     ensures bad { (page : ℕ) → result ≡ AskError.BadNode page → refusal ≡ TreeError.BadNode page }

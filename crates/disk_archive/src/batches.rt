@@ -1,4 +1,4 @@
-//! Batches: how large one is, and what of it isn't late.
+//! Batches: how large one is, and which of its records aren't late.
 
 ghost use Rattle.std.specs.Prelude.{◌≡◌, ◌≤◌, ◌<◌, ◌↔◌, ℕ, [], map, length, sum_by, Some, IfOk, IsTrue, slice_get};
 ghost use Rattle.std.specs.List.{AllByRecursion};
@@ -19,7 +19,7 @@ use std::alloc::{AllocError, Global};
 /// The maximum length of a batch in octets: for each admission the octets of its encoding, and 4 more.
 pub const MAX_BATCH_LEN: usize = 262_144;
 
-/// A batch, sifted: what is kept of it, and what the sequencer takes in.
+/// A batch, sifted: the admissions that are kept, and what the sequencer adds.
 #[derive(Drop)]
 pub(crate) struct Parted {
     pub(crate) kept: Sifted,
@@ -42,7 +42,7 @@ pub(crate) fn fits(batch: &[Admission]) -> bool
     true
 }
 
-/// How many octets what isn't late of a batch takes in a ring, where the collector's mark is this one. It is counted without memory.
+/// How many octets the records of a batch that aren't late take in a ring, if the collector's mark is this one. It is counted without memory.
 pub(crate) fn timely_len(mark: Mark, batch: &[Admission]) -> u64
     requires octets { sum_by entry_octets batch.now ≤ 262144 }
     ensures octets { result ≡ octets_for (timely admitted_time mark [] batch.now) }
@@ -60,7 +60,7 @@ pub(crate) fn timely_len(mark: Mark, batch: &[Admission]) -> u64
     octets
 }
 
-/// Parts what is late of a collector's batch from what isn't, and makes room for the times. Nothing is taken in yet.
+/// Separates the late records of a collector's batch from the others, and makes room for the times. Nothing is added yet.
 pub(crate) fn part(
     alloc: Global,
     sequencer: &mut Sequencer,

@@ -1,4 +1,4 @@
-//! What an archive begins with, in memory: the head of one to which nothing was given, and its first pages.
+//! What a new archive begins with, in memory: its head, and its first pages.
 
 ghost use Rattle.std.specs.Prelude.{◌≡◌, ◌≤◌, ◌<◌, ◌+◌, ◌^◌, ℕ, List, length, replicate, IfOk};
 ghost use Rattle.disk_models.specs.Once.{OnceState, settled_in};
@@ -19,7 +19,7 @@ use sequencer::Sequencer;
 use std::alloc::{AllocError, Global};
 use tsb_tree::first_images;
 
-/// All that an archive is made of in memory, to which nothing was given.
+/// All that a new archive has in memory.
 #[derive(Drop)]
 pub(crate) struct Empty {
     pub(crate) head: Head,
@@ -28,7 +28,7 @@ pub(crate) struct Empty {
     pub(crate) images: Vec<(u64, Page)>,
 }
 
-// What the head keeps of `collectors` collectors that gave nothing.
+// What the head has of `collectors` collectors that gave nothing.
 fn make_lanes(alloc: Global, collectors: u8) -> Result<Vec<Lane>, AllocError>
     ensures lanes { IfOk result (λ lanes. lanes.items ≡ replicate collectors bare_lane) }
 {
@@ -82,7 +82,7 @@ fn make_images(
     Ok(images)
 }
 
-/// What an archive of these settings begins with, where no block before this one is blank.
+/// What an archive of these settings begins with, if no block before this one is blank.
 pub(crate) fn make_empty(alloc: Global, settings: Settings, block: u64) -> Result<Empty, AllocError>
     requires settings { AreSettings settings }
     ensures head { IfOk result (λ made. made.head ≡ bare_head settings block) }

@@ -28,7 +28,7 @@ pub enum CheckError {
     /// A device failed. Nothing was written.
     #[error("the device failed")]
     Fault,
-    /// A growth was refused.
+    /// An allocation failed.
     #[error("out of memory")]
     OutOfMemory,
 }
@@ -73,7 +73,7 @@ impl From<NodeError> for CheckError {
     }
 }
 
-/// Why a root isn't read.
+/// Why a tree's root isn't read.
 pub(crate) fn of_root(refusal: TreeError) -> CheckError
     requires read { (down : Bool) × ReadRefusal down refusal }
     ensures bad { (page : ℕ) → result ≡ CheckError.BadNode page → refusal ≡ TreeError.BadNode page }

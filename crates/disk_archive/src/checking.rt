@@ -1,4 +1,4 @@
-//! The whole tree is read, and what is applied is counted.
+//! Checks an archive: reads the whole tree, and counts the applied changes.
 
 ghost use Rattle.std.specs.Prelude.{◌≡◌, ◌⊎◌, ◌↔◌, ◌<◌, ◌≤◌, ◌^◌, ℕ, List, length, sum_by, IfOk, IfErr, OnOk, Err, true, false};
 ghost use Rattle.once_store.specs.Readers.{reader_disk};
@@ -34,7 +34,7 @@ use tsb_tree::open;
 use tsb_walk::PagePlace;
 use version_model::Stamp;
 
-// How many blocks a check keeps in memory at most: columns that were divided lead to the same ones.
+// How many blocks a check caches at most: columns that were divided lead to the same ones.
 const KEPT_BLOCKS: usize = 64;
 
 // Where the root of a tree lies.
@@ -105,7 +105,7 @@ fn count_tree<P: Pages, O: OnceDisk + Drop>(
     Ok(count)
 }
 
-// Reads what waits and the tree, and returns how many versions the tree has.
+// Reads the rings and the tree, and returns how many versions the tree has.
 fn count_by<P: Pages, O: OnceDisk + Drop>(
     alloc: Global,
     pages: &mut P,
@@ -147,7 +147,7 @@ impl<E: EraseDisk + Drop, O: OnceDisk + Drop> Archive<E, O> {
     ghost use Rattle.disk_archive.specs.Failures.{ReportsFailure};
     ghost use Rattle.disk_archive.specs.inner.Idle.{IsAsBefore};
 
-    // Checks the archive where it needn't be opened again.
+    // Checks the archive if it needn't be opened again.
     fn try_check(&mut self) -> Result<u64, CheckError>
         ensures usable { OnOk result (is_down self.old ≡ false) }
         ensures down { is_down self.new ≡ is_down self.old }
@@ -186,13 +186,13 @@ impl<E: EraseDisk + Drop, O: OnceDisk + Drop> Archive<E, O> {
         )
     }
 
-    /// Reads all that waits in the rings, and every page and every block that the tree leads to, and returns how many changes are applied:
+    /// Reads all pending admissions in the rings, and each page and block that the tree leads to, and returns how many changes are applied:
     /// as many as the tree has versions. The error names the first page or block that isn't what it has to be: the page of a ring on which no
-    /// admission begins where one has to; page 0, where the head has another number, or calls a page or a block unused that the tree uses;
+    /// admission begins where one has to; page 0, if the head has another number, or calls a page or a block unused that the tree uses;
     /// the page of a column that names a block which was never burnt.
     ///
-    /// Nothing is written. Pages come through the archive's cache, and at most 64 blocks are kept, for the time of the call. `Fault` is returned
-    /// only where a read, or the look at what is settled, failed. After each outcome the archive holds the same history as before.
+    /// Nothing is written. Pages come through the archive's cache, and at most 64 blocks are cached, during the call. `Fault` is returned
+    /// only if a read, or the look at what is settled, failed. After each outcome the archive represents the same history.
     pub fn check(&mut self) -> Result<u64, CheckError>
         ensures counted { IfOk result (λ n. IsHonest self.old → (h : History) → Holds self.old h → n ≡ sum_by (λ p. length p.item.changes) (applied h)) }
         ensures head { IfOk result (λ n. n ≡ applied_in self.old) }

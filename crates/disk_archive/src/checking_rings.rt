@@ -1,4 +1,4 @@
-//! All that waits is read.
+//! Reads all pending admissions.
 
 ghost use Rattle.std.specs.Prelude.{◌≡◌, ◌≢◌, ◌<◌, ◌↔◌, ℕ, List, length, OnOk, IfErr, Err};
 ghost use Rattle.page_tx.specs.Device.{KeepsDevice};
@@ -34,7 +34,7 @@ fn of_pages(error: PageError) -> CheckError
     }
 }
 
-// Reads what waits of a collector.
+// Reads the pending admissions of a collector.
 fn check_ring<P: Pages>(
     alloc: Global,
     pages: &mut P,
@@ -61,7 +61,7 @@ fn check_ring<P: Pages>(
     }
 }
 
-/// Reads what waits of every collector.
+/// Reads the pending admissions of every collector.
 pub(crate) fn check_rings<P: Pages>(
     alloc: Global,
     pages: &mut P,

@@ -1,4 +1,4 @@
-//! How a transaction is committed: the one place where a call that changes the history writes to the erasable disk. It is given no
+//! Commits a transaction: the one place where a call that changes the history writes to the erasable disk. It is given no
 //! shelf, so that whatever a call burns is settled before.
 
 ghost use Rattle.std.specs.Prelude.{◌≡◌, ◌≢◌, ◌<◌, ◌⊎◌, ℕ, List, [], OnOk, OnErr, IfOk, IfErr, IsErrOf, Err, true, false};
@@ -51,7 +51,7 @@ fn make_room<E: EraseDisk + Drop>(tx: &mut Tx<E>) -> Result<(), UseError>
     tx.checkpoint()
 }
 
-/// Makes the pages that are shown those of the pool, all of them or none. Where no slot of the journal is closed, a checkpoint
+/// Makes the pages that are shown those of the pool, all of them or none. If no slot of the journal is closed, a checkpoint
 /// comes first. After a refusal the pages are those of the start, or the archive must be opened again.
 pub(crate) fn commit<E: EraseDisk + Drop>(tx: &mut Tx<E>) -> Result<(), UseError>
     ensures crash { (start : Start) (shown : List (List ℕ)) → Shows E.EraseDisk tx.old start shown
@@ -70,7 +70,7 @@ pub(crate) fn commit<E: EraseDisk + Drop>(tx: &mut Tx<E>) -> Result<(), UseError
     }
 }
 
-/// Begins a transaction without an image, where the archive needn't be opened again. A commit of no image does nothing, and returns
+/// Begins a transaction without an image, if the archive needn't be opened again. A commit of no image does nothing, and returns
 /// whether it must be.
 pub(crate) fn begin<E: EraseDisk + Drop>(tx: &mut Tx<E>) -> Result<(), NeedsRecovery>
     ensures shown { OnOk result (E.honest (disk_of (journal_of (pool_of tx.old))) → (pages : List (List ℕ)) → Maps E.EraseDisk (pool_of tx.old) pages

@@ -11,7 +11,7 @@ pub enum CreateError {
     /// A device failed.
     #[error("the device failed")]
     Fault,
-    /// A growth was refused.
+    /// An allocation failed.
     #[error("out of memory")]
     OutOfMemory,
 }

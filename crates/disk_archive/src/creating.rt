@@ -1,4 +1,4 @@
-//! An archive is created: the disk names its journal only once all that an archive begins with is on it.
+//! Creates an archive: the disk names its journal only once all that an archive begins with is on it.
 
 ghost use Rattle.std.specs.Prelude.{◌≡◌, ◌≢◌, ◌↔◌, ◌<◌, ◌≤◌, ◌+◌, ◌⊎◌, ℕ, List, IfOk, IfErr, Err};
 ghost use Rattle.disk_models.specs.Erase.{Leaves};
@@ -69,7 +69,7 @@ fn make_pages<E: EraseDisk + Drop>(
     ensures large { reported result ≢ Err CreateError.PagesFull }
     ensures serves { Serves E.EraseDisk erase (disk_left result) (reported result ≡ Err CreateError.Fault) }
 
-    // Where memory runs out the disk is handed back as it was, or with all these pages.
+    // If memory runs out the disk is returned as it was, or with all these pages.
     ensures memory { E.honest erase → IfErr result (λ refused. refused.error ≡ CreateError.OutOfMemory
         → (refused.disk ≡ erase) ⊎ Means homes note (E.model refused.disk) (laid images.now (homes_from (E.model erase).octet 0 homes))) }
     ensures crash { E.honest erase → Leaves (E.model erase) (E.model (disk_left result)) (NoneOrJournal homes note (laid images.now (homes_from (E.model erase).octet 0 homes))) }
@@ -96,7 +96,7 @@ impl<E: EraseDisk + Drop, O: OnceDisk + Drop> Archive<E, O> {
     ghost use Rattle.disk_archive.specs.Outcome.{erase_after, once_after, outcome, pen_after};
     ghost use Rattle.disk_archive.specs.Sites.{Rests};
 
-    // Creates an archive where the disk is large enough, over a shelf of the write-once disk.
+    // Creates an archive if the disk is large enough, over a shelf of the write-once disk.
     fn begin(
         alloc: Global,
         erase: E,
@@ -162,7 +162,7 @@ impl<E: EraseDisk + Drop, O: OnceDisk + Drop> Archive<E, O> {
 
     /// Creates an archive of these settings, to which nothing was given, on both disks.
     ///
-    /// All pages after the journal of the erasable disk become home pages. What that disk held is lost, and blocks of the write-once disk
+    /// All pages after the journal of the erasable disk become home pages. What was on that disk is lost, and blocks of the write-once disk
     /// that aren't blank are passed over. The erasable disk names its journal only once all that the archive begins with is on it.
     pub fn create(
         alloc: Global,
@@ -184,18 +184,18 @@ impl<E: EraseDisk + Drop, O: OnceDisk + Drop> Archive<E, O> {
         ensures full { (outcome result ≡ Err CreateError.PagesFull) ↔ IsTooSmall settings (E.octet_count erase) }
         ensures untouched { IsTooSmall settings (E.octet_count erase) → (erase_after result ≡ erase) × (pen_after result ≡ pen) }
 
-        // Where memory runs out the erasable disk is handed back as it was, or as that of an archive to which nothing was given.
+        // If memory runs out the erasable disk is returned as it was, or as that of an archive to which nothing was given.
         ensures memory { E.honest erase → O.honest once.value pen → IfErr result (λ refused. refused.error ≡ CreateError.OutOfMemory → (refused.erase ≡ erase)
             ⊎ Rests (site_on settings (E.octet_count erase) (O.block_count once.value)) (E.model refused.erase) (O.model refused.pen) (empty settings.collectors)) }
 
-        // What a crash during the call or after it leaves could also be left before the call; or the disk holds no journal then; or it is an
+        // What a crash during the call or after it leaves could also be left before the call; or the disk has no journal then; or it is an
         // archive to which nothing was given.
         ensures inside { E.honest erase → O.honest once.value pen → (left : Left) → CrashPair (E.model erase) (E.model (erase_after result)) (O.model pen) (O.model pen) (O.model (pen_after result)) left
             → LeftNow (E.model erase) (O.model pen) left ⊎ LeavesNoneOrEmpty (site_on settings (E.octet_count erase) (O.block_count once.value)) left }
         ensures after { E.honest erase → O.honest once.value pen → (left : Left) → LeftNow (E.model (erase_after result)) (O.model (pen_after result)) left
             → LeftNow (E.model erase) (O.model pen) left ⊎ LeavesNoneOrEmpty (site_on settings (E.octet_count erase) (O.block_count once.value)) left }
 
-        // Both disks are the archive's, or handed back. One of them failed where `Fault` is returned, and otherwise none did.
+        // Both disks are the archive's, or returned. One of them failed if `Fault` is returned, and otherwise none did.
         ensures size { E.octet_count (erase_after result) ≡ E.octet_count erase }
         ensures erase { E.honest erase ↔ E.honest (erase_after result) }
         ensures disk { once_after result ≡ once.value }

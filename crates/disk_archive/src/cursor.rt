@@ -9,7 +9,7 @@ use route_history::laws::versions_report;
 use route_history::{EventsCursor, RowsCursor};
 use std::alloc::Global;
 
-/// A question in progress: how far its walk over keys, or over stamps, has come, and what it has gathered so far. It holds no page and no
+/// A question in progress: how far its walk over keys, or over stamps, has come, and what it has gathered so far. It has no page and no
 /// block, so that anything may be called between its turns.
 #[derive(Debug, Drop)]
 pub enum Cursor {
@@ -18,7 +18,7 @@ pub enum Cursor {
 }
 
 impl Cursor {
-    /// The start of a question. It asks no disk and takes no memory.
+    /// The start of a question. It needs no disk and no memory.
     pub fn start(alloc: Global, query: Query) -> Cursor
         ensures asks { asks result ≡ query }
         ensures gathered { (h : History) → IsGathered result h }
@@ -27,7 +27,7 @@ impl Cursor {
         match query {
             Query::Rows(question) => Cursor::Rows(RowsCursor::start(alloc, question)),
             Query::Events(question) => {
-                // What peers and prefixes are limited to is known to a proof by a call on each.
+                // A call on each peer and prefix gives the proof its limits.
                 let _len = question.peer.encoded_len();
                 let _address = question.prefix.address();
                 Cursor::Events(EventsCursor::start(alloc, question))

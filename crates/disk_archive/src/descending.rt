@@ -25,7 +25,7 @@ use route_history::{EventsTurn, RowsTurn};
 use std::alloc::Global;
 use tree_questions::{events_turn, rows_turn};
 
-/// What a turn of a question came to.
+/// The result of a turn of a question.
 #[derive(Debug, Drop)]
 pub enum Descent {
     /// The whole answer. The cursor is at the start of its question again.
@@ -90,7 +90,7 @@ fn descend_by<P: Pages>(
             Ok(of_rows(turn))
         }
         Cursor::Events(events) => {
-            // What peers and prefixes are limited to is known to a proof by a call on each.
+            // A call on each peer and prefix gives the proof its limits.
             let _len = events.question.peer.encoded_len();
             let _address = events.question.prefix.address();
             let turn = events_turn(pages, alloc, &root, burnt, events)?;
@@ -106,7 +106,7 @@ impl<E: EraseDisk + Drop, O: OnceDisk + Drop> Archive<E, O> {
     ghost use Rattle.disk_archive.specs.Crashes.{Crashes, Lasts};
     ghost use Rattle.disk_archive.specs.inner.Idle.{IsAsBefore};
 
-    /// The start of a question. It asks no disk and takes no memory.
+    /// The start of a question. It needs no disk and no memory.
     pub fn start(&self, query: Query) -> Cursor
         ensures asks { asks result ≡ query }
         ensures gathered { (h : History) → IsGathered result h }
@@ -114,7 +114,7 @@ impl<E: EraseDisk + Drop, O: OnceDisk + Drop> Archive<E, O> {
         Cursor::start(self.alloc, query)
     }
 
-    // A turn of a question where the archive represents a history.
+    // A turn of a question if the archive represents a history.
     fn try_descend(&mut self, cursor: &mut Cursor) -> Result<Descent, AskError>
         ensures usable { OnOk result (is_down self.old ≡ false) }
         ensures down { is_down self.new ≡ is_down self.old }
@@ -149,14 +149,14 @@ impl<E: EraseDisk + Drop, O: OnceDisk + Drop> Archive<E, O> {
         Ok(descent)
     }
 
-    /// A turn of a question over what is applied, where its last moment is below the settled watermark: the answer; or the walk has come
-    /// further, to a higher key or a later stamp, and the question goes on with its next turn; or settled blocks are to be read for it,
-    /// which the errand does without the archive. The answer is that of what is applied now, and of each later history. Where a column
+    /// A turn of a question over what is applied, if its last moment is below the settled watermark: the answer; or the walk has come
+    /// further, to a higher key or a later stamp, and the question goes on with its next turn; or settled blocks have to be read for it,
+    /// which the errand does without the archive. The answer is that of what is applied now, and of each later history. If a column
     /// names a block that was never burnt, its page is reported as bad, and no errand is returned.
     ///
     /// What the question has gathered so far stays right, whatever was called since its last turn. A turn looks at one key and what follows
-    /// in its leaf, or at one stamp, reads only pages, which are kept in the archive's cache, and writes nothing. After each outcome the
-    /// archive holds the same history as before, and what the question has gathered is right over it.
+    /// in its leaf, or at one stamp, reads only pages, which stay in the archive's cache, and writes nothing. After each outcome the
+    /// archive represents the same history as before, and what the question has gathered is right over it.
     pub fn descend(&mut self, cursor: &mut Cursor) -> Result<Descent, AskError>
         ensures descends { IfOk result (λ descent. IsHonest self.old → (h : History) → Holds self.old h → IsGathered cursor.old h → Descends (O.block_count (once_of self.old)) (once_state self.old).settled h cursor.old cursor.new descent) }
         ensures further { IfOk result (GoesFurther cursor.old cursor.new) }

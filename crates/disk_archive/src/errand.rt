@@ -1,4 +1,4 @@
-//! Errands of questions: what is read of settled blocks, without the archive.
+//! Errands of questions: they read settled blocks, without the archive.
 
 ghost use Rattle.std.specs.Prelude.{◌≡◌, ◌↔◌, ◌+◌, ℕ, OnOk, OnErr, IsErrOf, Err, min};
 ghost use Rattle.route_meaning.specs.History.{History};
@@ -16,7 +16,7 @@ use route_history::laws::{gathered_follows_histories, versions_report};
 use route_history::{EventsErrand, RowsErrand};
 use std::alloc::Global;
 
-/// What a turn of a question leaves to be read of settled blocks: one place in the past, or two.
+/// The part of a turn that reads settled blocks: one place in the past, or two.
 #[derive(Debug, Drop)]
 pub enum Errand {
     Rows(RowsErrand),
@@ -27,9 +27,9 @@ impl Errand {
     /// Reads the blocks, and finishes the turn: the cursor, which is as its turn left it, has then gathered what comes next, and has come
     /// further.
     ///
-    /// It needs no archive, takes no lock, and waits for nothing but the disk. `seen` was obtained with the errand or later. Only a block
-    /// that isn't what its place requires is reported as damaged, and a fault is returned only where a read failed. It takes memory for rows
-    /// or events, and for blocks that the reader keeps. After a refusal the cursor says the same as before.
+    /// It needs no archive, takes no lock, and waits for nothing but the disk. `seen` is as new as the errand, or newer. Only a block
+    /// that isn't what its place requires is reported as damaged, and a fault is returned only if a read failed. It takes memory for rows
+    /// or events, and for blocks that the reader caches. After a refusal the cursor is as before.
     pub fn finish<O: OnceDisk + Drop>(
         self,
         alloc: Global,
@@ -58,7 +58,7 @@ impl Errand {
         match (self, cursor) {
             (Errand::Rows(errand), Cursor::Rows(rows)) => errand.finish(reader, seen, alloc, rows),
             (Errand::Events(errand), Cursor::Events(events)) => {
-                // What peers and prefixes are limited to is known to a proof by a call on each.
+                // A call on each peer and prefix gives the proof its limits.
                 let _len = events.question.peer.encoded_len();
                 let _address = events.question.prefix.address();
                 errand.finish(reader, seen, alloc, events)

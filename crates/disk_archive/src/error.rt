@@ -1,4 +1,4 @@
-//! Why the calls of an archive refuse.
+//! Why the calls of an archive are refused.
 
 ghost use Rattle.std.specs.Prelude.{◌≡◌};
 ghost use Rattle.disk_archive.specs.declared.error.AdmitError.TheVariants as admits;
@@ -11,7 +11,7 @@ use thiserror::Error;
 #[derive(Clone, Copy, Debug, PartialEq, Eq)]
 pub(crate) struct NeedsRecovery;
 
-/// Why a batch isn't taken. The first of these that holds is returned, except for a failure of a device and running out of memory.
+/// Why a batch isn't admitted. The first reason that applies is returned, except for a failure of a device and out of memory.
 #[derive(Clone, Copy, Debug, PartialEq, Eq, Error)]
 pub enum AdmitError {
     /// An earlier write or sync failed, and the archive wasn't opened again since.
@@ -35,7 +35,7 @@ pub enum AdmitError {
     /// A device failed. After a write or a sync the archive must be opened again.
     #[error("the device failed")]
     Fault,
-    /// A growth was refused, before anything was written.
+    /// An allocation failed, before anything was written.
     #[error("out of memory")]
     OutOfMemory,
 }

@@ -1,4 +1,4 @@
-//! What was committed goes home.
+//! Writes committed pages home.
 
 ghost use Rattle.std.specs.Prelude.{◌≡◌, ◌≢◌, ◌+◌, ◌↔◌, ◌==◌, ℕ, List, [], ◌∷◌, filter, length, min, not, OnOk, OnErr, IfOk, IfErr, IsErrOf, Err, true, false};
 ghost use Rattle.disk_models.specs.Erase.{Leaves};
@@ -23,13 +23,13 @@ use page_tx::Tx;
 /// What a step of flushing did.
 #[derive(Clone, Copy, Debug, PartialEq, Eq)]
 pub enum Flush {
-    /// A page went home.
+    /// A page was written home.
     Flushed,
-    /// No page waits to go home, and the whole journal is free again.
+    /// All pages are home, and the whole journal is free again.
     Clean,
 }
 
-// Writes a page home, or, where all are, closes the journal's slots. It is given no shelf: nothing is burnt.
+// Writes a page home, or, if all are home, closes the journal's slots. It is given no shelf: nothing is burnt.
 fn write_home<E: EraseDisk + Drop>(tx: &mut Tx<E>) -> Result<Flush, UseError>
     ensures crash { (start : Start) (shown : List (List ℕ)) → Shows E.EraseDisk tx.old start shown
         → Leaves (E.model (disk_of (journal_of (pool_of tx.old)))) (E.model (disk_of (journal_of (pool_of tx.new)))) (λ c. Recovers (home_pages (journal_of (pool_of tx.old))) start.note c start.pages) }
@@ -57,7 +57,7 @@ impl<E: EraseDisk + Drop, O: OnceDisk + Drop> Archive<E, O> {
     ghost use Rattle.disk_archive.specs.Homes.{closed_in, dirty_pages};
     ghost use Rattle.disk_archive.specs.inner.Idle.{IsAsBefore};
 
-    // A step of flushing where the archive represents a history.
+    // A step of flushing if the archive represents a history.
     fn try_flush(&mut self) -> Result<Flush, FlushError>
         ensures usable { OnOk result ((is_down self.old ≡ false) × (is_down self.new ≡ false)) }
         ensures idle { is_down self.old ≡ true → IsAsBefore self.old self.new }
@@ -78,10 +78,10 @@ impl<E: EraseDisk + Drop, O: OnceDisk + Drop> Archive<E, O> {
         Ok(write_home(&mut self.tx)?)
     }
 
-    /// A step of flushing: the page that waits for longest goes home, or, where none waits, the journal is made free. So calls
+    /// A step of flushing: the page that has waited longest is written home, or, if none waits, the journal is made free. So calls
     /// until it is `Clean` write each page home that was committed.
     ///
-    /// The archive holds the same history, and so does what any crash leaves. After a write or a sync that failed it must be opened
+    /// The archive represents the same history, and so does what any crash leaves. After a write or a sync that failed it must be opened
     /// again.
     pub fn flush_step(&mut self) -> Result<Flush, FlushError>
         ensures holds { (h : History) → Holds self.old h → Holds self.new h }

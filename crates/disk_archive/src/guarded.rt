@@ -1,4 +1,4 @@
-//! Pages that are only looked at, where something is known of what crashes could leave before.
+//! Pages that are only read, with what crashes could leave before.
 
 ghost use Rattle.std.specs.Prelude.{ℕ, [], length};
 ghost use Rattle.page_journal.specs.Journal.{disk_of, home_pages, needs_recovery};
@@ -22,7 +22,7 @@ impl Before for Brand {
     ghost left = { λ c. Unit {0} };
 }
 
-/// Pages that are looked at, as a map in which there is no room for an image: no page is set.
+/// Pages that are only read, as a map in which there is no room for an image: no page is set.
 #[derive(Drop)]
 pub(crate) struct Guarded<E: EraseDisk + Drop, B: Before> {
     pub(crate) looks: Looks<E>,

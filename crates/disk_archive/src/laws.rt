@@ -12,7 +12,7 @@ pub fn gathered_stays()
     ensures { (c : Cursor) (h g : History) → Begins h g → IsGathered c h → IsGathered c g }
 {}
 
-/// An errand that lies in settled blocks lies in them where more are settled.
+/// An errand that lies in settled blocks lies in them if more are settled.
 pub fn errands_stay()
     ensures { (count : ℕ) (few many : ℕ → Option (List ℕ)) (errand : Errand) (c : Cursor) (h : History) → ((n : ℕ) (octets : List ℕ) → few n ≡ Some octets → many n ≡ Some octets) → Located count few errand c h → Located count many errand c h }
 {}

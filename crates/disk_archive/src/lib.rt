@@ -1,5 +1,4 @@
-//! An archive on two disks: pages that are written over, and blocks that are written once. What some collectors gave is on them, through
-//! crashes.
+//! An archive on two disks, pages that are overwritten and blocks that are written once: it keeps what collectors gave, through crashes.
 //!
 //!     a call                              write-once disk   erasable disk             a crash then leaves
 //!     begin, read pages, plan in memory                     reads                     the history of before
@@ -13,17 +12,18 @@
 //! So what a crash inside a call leaves is stated with the write-once disk as it is after the call (`Crashes`). `Holds` is an
 //! implication, from disks that follow their models, so the same program serves disks of which nothing is promised, as files.
 //!
-//! A step of applying goes on with the next change while its images surely have room: with a change a tree of level l names at most
-//! 2 l + 3 pages, so one begins if at most 27 - 2 l are held; with the head's page there are never more than 31. It commits nothing if a
-//! device failed: with `Applied` nobody would learn of the failure, with `Fault` a refused call would have changed the history. The
+//! A step of applying goes on with the next change while one image has room beside the head's: most changes set one page, or none. If
+//! a leaf is full, the tree asks for room for a split, 2 l + 3 pages at level l, before a block is burnt; without it the step ends before
+//! that change, which is the first of the next step and has room there. A step commits nothing if a
+//! device failed: `Applied` would hide the failure, and with `Fault` a refused call would have changed the history. The
 //! sequencer moves only once the commit is done (`Ahead`). The admission at hand is decoded once and kept with its octets (`Encoded`);
-//! the next step compares these with the ring's front, so nothing kept can be stale. Room in a ring is counted before memory is asked
-//! for, so `IntakeFull` is returned exactly if due.
+//! the next step compares these with the ring's front, so nothing kept can be stale. Room in a ring is counted before memory is
+//! allocated, so `IntakeFull` is returned exactly if the ring is too full.
 //!
-//! Creating lays the head and the tree's first pages home with the journal's own creation, so no crash leaves a new journal without an
-//! archive. An opening reads its pages through a page map that takes no image, so only the journal's recovery writes. It tests of the
+//! A creation writes the head and the tree's first pages home with the journal's own creation, so no crash leaves a new journal without an
+//! archive. An opening reads its pages through a page map that takes no image, so only the journal's recovery writes. It checks of the
 //! head what a later call needs: each ring is on home pages, the times in it rise up to the collector's mark, the root is one of the
-//! tree's used pages. A check also decodes what waits, of which an opening reads the times alone. Its result is stated for arbitrary
+//! tree's used pages. A check also decodes the pending admissions, of which an opening reads the times alone. Its result is stated for arbitrary
 //! pages: stated only for archives that represent a history, a check that reads nothing would satisfy it.
 //!
 //! What a cursor has gathered is stated over a history and each later one (`IsGathered`), so between two turns its owner needs to know
@@ -40,6 +40,7 @@ mod archive;
 mod ask_error;
 mod batches;
 mod beginning;
+mod change_error;
 mod check_error;
 mod checking;
 mod checking_rings;

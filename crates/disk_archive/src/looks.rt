@@ -1,4 +1,4 @@
-//! A pool whose pages are only looked at, while an archive is opened.
+//! A pool whose pages are only read, while an archive is opened.
 
 use buffer_pool::Pool;
 use disk_models::EraseDisk;

@@ -15,7 +15,7 @@ use std::num::NonZeroUsize;
 // How many pages that are home stay in memory: 16 MiB.
 const CACHED_PAGES: usize = 1024;
 
-/// A transaction without an image over the pages of a journal. Where memory runs out the disk is handed back.
+/// A transaction without an image over the pages of a journal. If memory runs out the disk is returned.
 pub(crate) fn map_pages<E: EraseDisk + Drop>(alloc: Global, journal: Journal<E>) -> Result<Tx<E>, E>
     ensures maps { IfOk result (λ tx. (pages : List (List ℕ)) → Keeps E.EraseDisk journal pages → Maps E.EraseDisk (pool_of tx) pages) }
     ensures journal { IfOk result (λ tx. journal_of (pool_of tx) ≡ journal) }

@@ -1,4 +1,4 @@
-//! Why a mark isn't taken.
+//! Why a mark isn't set.
 
 ghost use Rattle.std.specs.Prelude.{◌≡◌};
 ghost use Rattle.disk_archive.specs.declared.mark_error.MarkError.TheVariants as marks;
@@ -8,7 +8,7 @@ use page_journal::UseError;
 use std::alloc::AllocError;
 use thiserror::Error;
 
-/// Why a mark isn't taken. The first of these that holds is returned, except for a failure of a device and running out of memory.
+/// Why a mark isn't set. The first reason that applies is returned, except for a failure of a device and out of memory.
 #[derive(Clone, Copy, Debug, PartialEq, Eq, Error)]
 pub enum MarkError {
     /// An earlier write or sync failed, and the archive wasn't opened again since.
@@ -23,7 +23,7 @@ pub enum MarkError {
     /// A device failed. After a write or a sync the archive must be opened again.
     #[error("the device failed")]
     Fault,
-    /// A growth was refused, before anything was written.
+    /// An allocation failed, before anything was written.
     #[error("out of memory")]
     OutOfMemory,
 }

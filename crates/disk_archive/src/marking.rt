@@ -1,4 +1,4 @@
-//! A collector's mark is raised.
+//! Raises a collector's mark.
 
 ghost use Rattle.std.specs.Prelude.{◌≡◌, ◌≢◌, ◌<◌, ◌≤◌, ◌+◌, ◌⊎◌, ◌↔◌, ℕ, List, [], length, min, Some, IfOk, OnOk, OnErr, IfErr, IsOk, Err, slice_get, slice_set, true, false};
 ghost use Rattle.disk_models.specs.Once.{OnceState, settled_in};
@@ -23,7 +23,7 @@ use route_model::Mark;
 use sequencer::Sequencer;
 use std::alloc::Global;
 
-// Whether a mark is above the collector's, of which it may be the present one.
+// Whether a mark is above the collector's; it may also be the same.
 fn is_raised(
     settings: Settings,
     sequencer: &Sequencer,
@@ -49,7 +49,7 @@ fn is_raised(
     Ok(present < seconds)
 }
 
-// The sequencer takes a mark that isn't below the collector's.
+// Gives the sequencer a mark that isn't below the collector's.
 fn raise(sequencer: &mut Sequencer, collector: u8, mark: Mark)
     requires collector { collector < length sequencer.old }
     requires forward { (present : ℕ) → slice_get (marks sequencer.old) collector ≡ Some present → present ≤ mark }
@@ -61,7 +61,7 @@ fn raise(sequencer: &mut Sequencer, collector: u8, mark: Mark)
     }
 }
 
-// Why the head wasn't laid over its page, where no other image is held.
+// Why the head wasn't laid over its page, if no other image is held.
 fn of_head(error: PageError) -> MarkError
     requires memory { error ≡ PageError.OutOfMemory }
     ensures memory { result ≡ MarkError.OutOfMemory }
@@ -114,7 +114,7 @@ impl<E: EraseDisk + Drop, O: OnceDisk + Drop> Archive<E, O> {
     ghost use Rattle.disk_archive.specs.Crashes.{Crashes, Lasts};
     ghost use Rattle.disk_archive.specs.inner.Idle.{IsAsBefore};
 
-    // Raises a mark where the archive represents a history.
+    // Raises a mark if the archive represents a history.
     fn try_mark(&mut self, collector: u8, mark: Mark) -> Result<(), MarkError>
         ensures usable { OnOk result (is_down self.old ≡ false) }
         ensures still_usable { OnOk result (is_down self.new ≡ false) }
@@ -148,10 +148,10 @@ impl<E: EraseDisk + Drop, O: OnceDisk + Drop> Archive<E, O> {
         Ok(())
     }
 
-    /// Raises the mark of a collector: what it gives from now on isn't earlier. The present mark may be given again, and then
+    /// Raises the mark of a collector: no later record of it is earlier. The present mark may be given again, and then
     /// nothing is written.
     ///
-    /// From an Ok on each crash leaves a history with the mark. After a refusal the archive holds the history from before the call; where
+    /// From an Ok on each crash leaves a history with the mark. After a refusal the archive represents the history from before the call; if
     /// a write or a sync failed, it must be opened again, and the collector then has its mark from before the call, or this one.
     pub fn mark(&mut self, collector: u8, mark: Mark) -> Result<(), MarkError>
         ensures ok { OnOk result ((h : History) → Holds self.old h → Holds self.new (marked h collector mark)) }

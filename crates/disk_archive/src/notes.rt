@@ -1,4 +1,4 @@
-//! The note of an archive's journal: it says how the archive was made, before any other page is read.
+//! The note of an archive's journal: it has the archive's settings, before any other page is read.
 
 ghost use Rattle.std.specs.Prelude.{◌≡◌};
 ghost use Rattle.disk_archive.specs.Notes.{note_octets};

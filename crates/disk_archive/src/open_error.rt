@@ -12,8 +12,8 @@ pub enum OpenError {
     /// A device failed.
     #[error("the device failed")]
     Fault,
-    /// The erasable disk holds no journal, or one whose note isn't an archive's, gives another count of blocks than the
-    /// write-once disk has, or calls for more pages than there are.
+    /// The erasable disk has no journal, or one whose note isn't an archive's, has another count of blocks than the
+    /// write-once disk, or requires more pages than there are.
     #[error("the disks hold no archive")]
     NotAJournal,
     /// A slot of the journal can't be recovered. The number is that of the disk page of its header.
@@ -22,7 +22,7 @@ pub enum OpenError {
     /// The content read from the home page of this number isn't valid in an archive.
     #[error("page {0} is damaged")]
     BadNode(u64),
-    /// A growth was refused.
+    /// An allocation failed.
     #[error("out of memory")]
     OutOfMemory,
 }

@@ -1,4 +1,4 @@
-//! Disks are opened as an archive, as a crash may have left them.
+//! Opens disks as an archive, as a crash may have left them.
 
 ghost use Rattle.std.specs.Prelude.{◌≡◌, ◌≢◌, ◌↔◌, ◌⊎◌, ◌<◌, ◌≤◌, ℕ, List, length, IfOk, OnOk, IfErr, Err, false};
 ghost use Rattle.disk_models.specs.Erase.{Counts, MayLeave};
@@ -40,14 +40,14 @@ use std::alloc::Global;
 use std::marker::{Brand, PhantomData};
 use std::sync::Arc;
 
-/// What an archive keeps in memory.
+/// What an archive has in memory.
 #[derive(Drop)]
 pub(crate) struct Memory {
     pub(crate) head: Head,
     pub(crate) sequencer: Sequencer,
 }
 
-// What an archive of these settings keeps in memory, from its pages.
+// What an archive of these settings has in memory, from its pages.
 fn remember<P: Pages>(alloc: Global, pages: &mut P, settings: Settings) -> Result<Memory, OpenError>
     requires some { 0 < P.homes pages.old }
     requires few { settings.collectors ≤ 16 }
@@ -74,7 +74,7 @@ fn remember<P: Pages>(alloc: Global, pages: &mut P, settings: Settings) -> Resul
     Ok(Memory { head, sequencer })
 }
 
-// The same, of pages that are looked at, and of what a crash leaves while they are read.
+// The same, of pages that are only read, and of what a crash leaves while they are read.
 fn remember_on<E: EraseDisk + Drop, B: Before>(
     alloc: Global,
     looks: Looks<E>,
@@ -118,7 +118,7 @@ impl<E: EraseDisk + Drop, O: OnceDisk + Drop> Archive<E, O> {
     ghost use Rattle.disk_archive.specs.Sites.{IsNoted, LeftRepresents, Rests, Site};
     ghost use Rattle.disk_archive.specs.inner.Looking.{LooksAt};
 
-    // The archive of what is in memory, once the first blank block is found.
+    // The archive, from what is in memory, once the first blank block is found.
     fn assemble(
         alloc: Global,
         looks: Looks<E>,
@@ -216,21 +216,21 @@ impl<E: EraseDisk + Drop, O: OnceDisk + Drop> Archive<E, O> {
         }
     }
 
-    /// Opens both disks as an archive, as a crash may have left them: what was begun on the erasable disk is ended, and what the
-    /// archive keeps in memory is read. Nothing is burnt, and a block that was tried is never burnt again.
+    /// Opens both disks as an archive, as a crash may have left them: what was begun on the erasable disk is completed, and what the
+    /// archive has in memory is read. Nothing is burnt, and a block that was tried is never burnt again.
     pub fn open(
         alloc: Global,
         erase: E,
         once: Arc<O>,
         pen: O::Pen,
     ) -> Result<Self, Refused<E, O, OpenError>>
-        // The archive represents what the disks read as; so, where they are found after a crash, it represents what the crash left.
+        // The archive represents what the disks read as; so, if they are found after a crash, it represents what the crash left.
         ensures opened { E.honest erase → O.honest once.value pen → IfOk result (λ archive. (site : Site) (h : History) → ReadsAs site (O.block_count once.value) (E.model erase) (O.model pen) h → Represents archive h) }
         ensures found { E.honest erase → O.honest once.value pen → IfOk result (λ archive. (left : Left) (site : Site) (h : History) → IsFound (E.model erase) (O.model pen) left → site.blocks ≡ O.block_count once.value → IsNoted site → LeftRepresents site h left → Represents archive h) }
         ensures site { E.honest erase → IfOk result (λ archive. (site : Site) (h : History) → ReadsAs site (O.block_count once.value) (E.model erase) (O.model pen) h → site_of archive ≡ site) }
         ensures noted { E.honest erase → IfOk result (λ archive. IsNoted (site_of archive)) }
 
-        // Where the disks are those of an archive that needs to be opened again, a history that stood there still stands.
+        // If the disks are those of an archive that must be opened again, a history that stood there still stands.
         ensures stands { E.honest erase → O.honest once.value pen → IfOk result (λ archive. (site : Site) (h : History) → Rests site (E.model erase) (O.model pen) h → site.blocks ≡ O.block_count once.value → IsNoted site → Stands archive h) }
 
         // What a crash during the call or after it leaves could also be left before the call, or represents what the disks read as.
@@ -239,13 +239,13 @@ impl<E: EraseDisk + Drop, O: OnceDisk + Drop> Archive<E, O> {
         ensures after { E.honest erase → O.honest once.value pen → (site : Site) (h : History) → ReadsAs site (O.block_count once.value) (E.model erase) (O.model pen) h
             → (left : Left) → LeftNow (E.model (erase_after result)) (O.model (pen_after result)) left → LeftNow (E.model erase) (O.model pen) left ⊎ LeftRepresents site h left }
 
-        // Disks that represent a history are refused only where a device fails or memory runs out, and those that name no archive aren't opened.
+        // Disks that represent a history are refused only if a device fails or memory runs out, and those that name no archive aren't opened.
         ensures undamaged { E.honest erase → (site : Site) (h : History) → ReadsAs site (O.block_count once.value) (E.model erase) (O.model pen) h → home_place site.homes ≤ E.octet_count erase → IfErr (outcome result) IsFaultOrMemory }
         ensures named { E.honest erase → OnOk result (NamesArchive (E.octet_count erase) (E.model erase).octet (O.block_count once.value)) }
         ensures unnamed { E.honest erase → outcome result ≡ Err OpenError.NotAJournal → NamesArchive (E.octet_count erase) (E.model erase).octet (O.block_count once.value) → ⊥ }
         ensures none { E.honest erase → HoldsNone (E.model erase).octet → IfErr (outcome result) IsNoneFaultOrMemory }
 
-        // Both disks are the archive's, or handed back, and nothing was burnt. One of them failed where `Fault` is returned, and otherwise
+        // Both disks are the archive's, or returned, and nothing was burnt. One of them failed if `Fault` is returned, and otherwise
         // none did.
         ensures erase { E.honest erase ↔ E.honest (erase_after result) }
         ensures disk { once_after result ≡ once.value }

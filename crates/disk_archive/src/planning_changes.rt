@@ -1,7 +1,7 @@
 //! What the application of many changes is to commit: pages that are shown in one transaction, and their head. The sequencer stays as it
 //! is meanwhile, and no page is written yet.
 
-ghost use Rattle.std.specs.Prelude.{◌≡◌, ◌≢◌, ◌<◌, ◌≤◌, ◌+◌, ◌-◌, ◌*◌, ◌↔◌, ℕ, List, [], length, min, IfOk, OnOk, OnErr, IfErr, IsErr, Err, IsTrue, true, false};
+ghost use Rattle.std.specs.Prelude.{◌≡◌, ◌≢◌, ◌<◌, ◌≤◌, ◌+◌, ◌-◌, ◌↔◌, ℕ, List, [], length, min, IfOk, OnOk, OnErr, IfErr, IsErr, Err, true, false};
 ghost use Rattle.disk_models.specs.Once.{OnceState, settled_in};
 ghost use Rattle.once_store.specs.Shelves.{disk_of, next_of, pen_of};
 ghost use Rattle.page_tx.specs.Device.{KeepsDevice};
@@ -17,9 +17,10 @@ ghost use Rattle.disk_archive.specs.Failures.{ReportsOne};
 ghost use Rattle.disk_archive.specs.Lacks.{HasRoom, IsNextVersion};
 ghost use Rattle.disk_archive.specs.Mirrors.{Mirrors};
 ghost use Rattle.disk_archive.specs.Trees.{TreeLocated};
-ghost use Rattle.disk_archive.specs.inner.Applications.{Advances, ApplyRefusal, FrontRefusal, IsPlan, KeepsBlocks, LackRefusal, LimitRefusal, PlansMove, Reached, Reaches};
+ghost use Rattle.disk_archive.specs.inner.Applications.{Advances, ApplyRefusal, FrontRefusal, IsPlan, KeepsBlocks, LackRefusal, LimitRefusal, OfApply, PlansMove, Reached, Reaches};
 
-use crate::apply_error::{ApplyError, of_pages, of_tree};
+use crate::apply_error::{ApplyError, of_pages};
+use crate::change_error::ChangeError;
 use crate::planning_application::{front_of, plan_change};
 use crate::stop::Stop;
 use archive_head::Head;
@@ -30,14 +31,9 @@ use once_store::Shelf;
 use page_tx::Pages;
 use sequencer::{Ahead, Sequencer};
 use std::alloc::Global;
-use tsb_tree::open;
-use version_model::Stamp;
 
 // Of how many pages, without the head's, a transaction may hold images.
 const MOST_IMAGES: usize = 30;
-
-// The highest level of a root.
-const HIGHEST_LEVEL: u8 = 7;
 
 // How many changes are applied at most after the first one of a transaction.
 const MORE_CHANGES: u32 = 999;
@@ -133,18 +129,70 @@ fn plan_step<P: Pages, O: OnceDisk + Drop>(
     settings: Settings,
     sequencer: &Sequencer,
     plan: &mut Plan,
-    most_level: u8,
-) -> Result<(), ApplyError>
+) -> Result<(), ChangeError>
     requires fits { IsPlan settings (P.homes pages.old) (P.next pages.old) (next_of shelf.old) sequencer.now plan.old }
     requires hand { plan.old.whole ≡ false }
-    requires few { length (P.named pages.old) + (2 * most_level + 3) ≤ 30 }
+    requires few { length (P.named pages.old) < 30 }
     ensures moves { OnOk result ((start : Start) (h : History) → O.honest (disk_of shelf.old) (pen_of shelf.old)
         → Reached (O.block_count (disk_of shelf.old)) settings (settled_in (O.model (pen_of shelf.old))) (P.shows pages.old start) sequencer.now plan.old h
         → Advances (O.block_count (disk_of shelf.old)) settings (settled_in (O.model (pen_of shelf.new))) (P.shows pages.new start) sequencer.now plan.new h) }
+    ensures first { length (P.named pages.old) ≤ 13 → result ≡ Err ChangeError.NoRoom → ⊥ }
     ensures as_before { OnErr result (plan.new ≡ plan.old) }
     ensures as_shown { OnErr result ((start : Start) (shown : List (List ℕ)) → P.shows pages.old start shown → P.shows pages.new start shown) }
     ensures fits { IsPlan settings (P.homes pages.new) (P.next pages.new) (next_of shelf.new) sequencer.now plan.new }
-    ensures sound { 7 ≤ most_level → (start : Start) (h : History) → O.honest (disk_of shelf.old) (pen_of shelf.old)
+    ensures sound { (start : Start) (h : History) → O.honest (disk_of shelf.old) (pen_of shelf.old)
+        → Reached (O.block_count (disk_of shelf.old)) settings (settled_in (O.model (pen_of shelf.old))) (P.shows pages.old start) sequencer.now plan.old h
+        → (page : ℕ) → result ≡ Err (ChangeError.Apply (ApplyError.BadNode page)) → ⊥ }
+    ensures few { length (P.named pages.new) ≤ 30 }
+    ensures refused { IfErr result (OfApply (ApplyRefusal (P.down pages.old))) }
+    ensures high { (start : Start) (shown : List (List ℕ)) → P.shows pages.old start shown → result ≡ Err (ChangeError.Apply ApplyError.TooHigh) → HasRootLevel shown plan.old.head.root 7 }
+    ensures limits { IfErr result (OfApply (LimitRefusal (P.homes pages.old) (P.next pages.old) plan.old.head.applied)) }
+    ensures lacks { (start : Start) (h : History) → O.honest (disk_of shelf.old) (pen_of shelf.old)
+        → (r : Reached (O.block_count (disk_of shelf.old)) settings (settled_in (O.model (pen_of shelf.old))) (P.shows pages.old start) sequencer.now plan.old h)
+        → IfErr result (OfApply (LackRefusal (IsNextVersion h) r.pages (P.homes pages.old - P.next pages.old) plan.old.head.root)) }
+    ensures room { (start : Start) (h : History) → O.honest (disk_of shelf.old) (pen_of shelf.old)
+        → (r : Reached (O.block_count (disk_of shelf.old)) settings (settled_in (O.model (pen_of shelf.old))) (P.shows pages.old start) sequencer.now plan.old h)
+        → OnOk result (HasRoom (IsNextVersion h) r.pages (P.homes pages.old - P.next pages.old) plan.old.head.root plan.old.head.applied (HasNoneBlank O.OnceDisk shelf.old)) }
+    ensures shows { (start : Start) (shown : List (List ℕ)) → P.shows pages.old start shown → (after : List (List ℕ)) × P.shows pages.new start after }
+    ensures shelf { KeepsBlocks O.OnceDisk 2 shelf.old shelf.new (result ≡ Err (ChangeError.Apply ApplyError.OnceFull)) }
+    ensures homes { P.homes pages.new ≡ P.homes pages.old }
+    ensures down { P.down pages.new ≡ P.down pages.old }
+    ensures honest { P.honest pages.old ↔ P.honest pages.new }
+    ensures failed { ReportsOne (P.faults pages.old) (P.faults pages.new) (O.pen_fault_count (pen_of shelf.old)) (O.pen_fault_count (pen_of shelf.new)) (result ≡ Err (ChangeError.Apply ApplyError.Fault)) }
+{
+    let collector = plan.front.collector;
+    let admission = plan.front.admission.admission();
+    let whole = plan_change(
+        alloc,
+        pages,
+        shelf,
+        settings,
+        &mut plan.head,
+        collector,
+        admission,
+    )?;
+    pass_whole(sequencer, &mut plan.ahead, collector, whole);
+    plan.whole = whole;
+    Ok(())
+}
+
+// Applies the first change of a transaction, which holds no image yet.
+fn plan_first<P: Pages, O: OnceDisk + Drop>(
+    alloc: Global,
+    pages: &mut P,
+    shelf: &mut Shelf<O>,
+    settings: Settings,
+    sequencer: &Sequencer,
+    plan: &mut Plan,
+) -> Result<(), ApplyError>
+    requires fits { IsPlan settings (P.homes pages.old) (P.next pages.old) (next_of shelf.old) sequencer.now plan.old }
+    requires hand { plan.old.whole ≡ false }
+    requires none { P.named pages.old ≡ [] }
+    ensures moves { OnOk result ((start : Start) (h : History) → O.honest (disk_of shelf.old) (pen_of shelf.old)
+        → Reached (O.block_count (disk_of shelf.old)) settings (settled_in (O.model (pen_of shelf.old))) (P.shows pages.old start) sequencer.now plan.old h
+        → Advances (O.block_count (disk_of shelf.old)) settings (settled_in (O.model (pen_of shelf.new))) (P.shows pages.new start) sequencer.now plan.new h) }
+    ensures fits { IsPlan settings (P.homes pages.new) (P.next pages.new) (next_of shelf.new) sequencer.now plan.new }
+    ensures sound { (start : Start) (h : History) → O.honest (disk_of shelf.old) (pen_of shelf.old)
         → Reached (O.block_count (disk_of shelf.old)) settings (settled_in (O.model (pen_of shelf.old))) (P.shows pages.old start) sequencer.now plan.old h
         → (page : ℕ) → result ≡ Err (ApplyError.BadNode page) → ⊥ }
     ensures few { length (P.named pages.new) ≤ 30 }
@@ -164,21 +212,11 @@ fn plan_step<P: Pages, O: OnceDisk + Drop>(
     ensures honest { P.honest pages.old ↔ P.honest pages.new }
     ensures failed { ReportsOne (P.faults pages.old) (P.faults pages.new) (O.pen_fault_count (pen_of shelf.old)) (O.pen_fault_count (pen_of shelf.new)) (result ≡ Err ApplyError.Fault) }
 {
-    let collector = plan.front.collector;
-    let admission = plan.front.admission.admission();
-    let whole = plan_change(
-        alloc,
-        pages,
-        shelf,
-        settings,
-        &mut plan.head,
-        collector,
-        admission,
-        most_level,
-    )?;
-    pass_whole(sequencer, &mut plan.ahead, collector, whole);
-    plan.whole = whole;
-    Ok(())
+    match plan_step(alloc, pages, shelf, settings, sequencer, plan) {
+        Ok(()) => Ok(()),
+        Err(ChangeError::Apply(refusal)) => Err(refusal),
+        Err(ChangeError::NoRoom) => unreachable!(),
+    }
 }
 
 // Ensures that an admission is at hand that isn't wholly applied, where another one may be.
@@ -219,32 +257,7 @@ fn find_front<P: Pages>(
     Ok(())
 }
 
-// The level of the tree's root, where it is one.
-fn level_of<P: Pages>(pages: &mut P, head: &Head) -> Result<u8, Stop>
-    ensures reads { (start : Start) (shown : List (List ℕ)) → P.shows pages.old start shown → P.shows pages.new start shown }
-    ensures homes { P.homes pages.new ≡ P.homes pages.old }
-    ensures next { P.next pages.new ≡ P.next pages.old }
-    ensures named { P.named pages.new ≡ P.named pages.old }
-    ensures down { P.down pages.new ≡ P.down pages.old }
-    ensures honest { P.honest pages.old ↔ P.honest pages.new }
-    ensures device { KeepsDevice (P.honest pages.old) (P.honest pages.new) (P.faults pages.old) (P.faults pages.new) (result ≡ Err Stop.Failed) }
-{
-    let least = Stamp::new(head.last.seconds(), head.applied);
-    match open(pages, head.root, least) {
-        Ok(place) => Ok(place.level),
-        Err(refusal) => Err(Stop::from(of_tree(refusal))),
-    }
-}
-
-// Whether images of two pages a level, a new root's and one more have room for a tree of this level.
-fn has_room(images: usize, level: u8) -> bool
-    requires few { images ≤ 30 }
-    ensures room { IsTrue result → images + (2 * level + 3) ≤ 30 }
-{
-    images + 2 * usize::from(level) + 3 <= MOST_IMAGES
-}
-
-// Applies one more change, where one may be, it isn't refused, and its images have room.
+// Applies one more change, where an image has room, one may be, and it isn't refused.
 fn plan_another<P: Pages, O: OnceDisk + Drop>(
     alloc: Global,
     pages: &mut P,
@@ -268,16 +281,15 @@ fn plan_another<P: Pages, O: OnceDisk + Drop>(
     ensures honest { P.honest pages.old ↔ P.honest pages.new }
     ensures failed { ReportsOne (P.faults pages.old) (P.faults pages.new) (O.pen_fault_count (pen_of shelf.old)) (O.pen_fault_count (pen_of shelf.new)) (result ≡ Err Stop.Failed) }
 {
-    let level = level_of(pages, &plan.head)?;
-    if !has_room(pages.images(), level) {
+    if pages.images() >= MOST_IMAGES {
         return Err(Stop::Enough);
     }
     find_front(alloc, pages, settings, sequencer, plan)?;
-    plan_step(alloc, pages, shelf, settings, sequencer, plan, level)?;
+    plan_step(alloc, pages, shelf, settings, sequencer, plan)?;
     Ok(())
 }
 
-// Applies further changes, up to the first that may not be, is refused, or whose images might have no room. Where a device fails, the plan
+// Applies further changes, up to the first that may not be, is refused, or whose images have no room. Where a device fails, the plan
 // is of no use any more.
 fn plan_more<P: Pages, O: OnceDisk + Drop>(
     alloc: Global,
@@ -358,15 +370,7 @@ pub(crate) fn plan_changes<P: Pages, O: OnceDisk + Drop>(
     ensures failed { ReportsOne (P.faults pages.old) (P.faults pages.new) (O.pen_fault_count (pen_of shelf.old)) (O.pen_fault_count (pen_of shelf.new)) (result ≡ Err ApplyError.Fault) }
 {
     let mut plan = begin_plan(alloc, pages, settings, head, sequencer, number, kept)?;
-    plan_step(
-        alloc,
-        pages,
-        shelf,
-        settings,
-        sequencer,
-        &mut plan,
-        HIGHEST_LEVEL,
-    )?;
+    plan_first(alloc, pages, shelf, settings, sequencer, &mut plan)?;
     plan_more(alloc, pages, shelf, settings, sequencer, &mut plan)?;
     let Plan {
         head,

@@ -11,7 +11,7 @@ use std::alloc::AllocError;
 impl<E: EraseDisk + Drop, O: OnceDisk + Drop> Archive<E, O> {
     ghost use Rattle.disk_archive.specs.Archives.{once_of};
 
-    /// A reader of the archive's blocks that keeps at most `capacity` of them in memory, 1 to 1,024. It fails where memory is refused,
+    /// A reader of the archive's blocks that caches at most `capacity` of them, 1 to 1,024. It fails if an allocation fails,
     /// and only then.
     pub fn reader(&self, capacity: usize) -> Result<ShelfReader<O>, AllocError>
         requires some { 0 < capacity }

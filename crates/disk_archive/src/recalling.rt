@@ -1,4 +1,4 @@
-//! What an archive keeps in memory is read from its pages again: the head, each collector's mark, and the times of what waits.
+//! Reads what an archive has in memory from its pages: the head, each collector's mark, and the times of its pending admissions.
 
 ghost use Rattle.std.specs.Prelude.{◌≡◌, ◌≢◌, ◌<◌, ◌≤◌, ◌↔◌, ℕ, List, length, map, IfOk, OnOk, IfErr, Err, IsTrue, slice_set, false};
 ghost use Rattle.std.specs.List.{AllByRecursion};
@@ -28,7 +28,7 @@ use route_model::{Mark, Moment};
 use sequencer::Sequencer;
 use std::alloc::Global;
 
-// Why a page wasn't read, where the journal needn't be opened again.
+// Why a page wasn't read, if the journal needn't be opened again.
 fn of_pages(error: PageError) -> OpenError
     requires recovery { error ≢ PageError.NeedsRecovery }
     requires few { error ≢ PageError.TooManyImages }
@@ -83,7 +83,7 @@ pub(crate) fn has_root(homes: u64, settings: Settings, head: &Head) -> bool
     settings.tree_low() <= head.root && head.root < head.fresh && head.root < homes
 }
 
-// The times of all that waits of a collector, in its order.
+// The times of a collector's pending admissions, in order.
 fn waiting_of<P: Pages>(
     alloc: Global,
     pages: &mut P,
@@ -111,7 +111,7 @@ fn waiting_of<P: Pages>(
     }
 }
 
-// The mark of a collector of which nothing is known, and the times of what waits, are taken in. The times must rise, up to the mark.
+// Adds the mark and the times of a collector's pending admissions. The times must rise, up to the mark.
 fn know_lane(
     alloc: Global,
     sequencer: &mut Sequencer,
@@ -139,7 +139,7 @@ fn know_lane(
     }
 }
 
-/// The marks of all collectors, and the times of what waits of each.
+/// The marks of all collectors, and the times of the pending admissions of each.
 pub(crate) fn recall<P: Pages>(
     alloc: Global,
     pages: &mut P,

@@ -1,4 +1,4 @@
-//! A refusal that hands both disks back.
+//! A refusal that returns both disks.
 
 use disk_models::OnceDisk;
 use std::sync::Arc;
@@ -12,6 +12,6 @@ pub struct Refused<E, O: OnceDisk + Drop, X> {
     pub once: Arc<O>,
     /// Its pen.
     pub pen: O::Pen,
-    /// Why they are handed back.
+    /// Why they are returned.
     pub error: X,
 }

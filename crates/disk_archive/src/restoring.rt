@@ -1,4 +1,4 @@
-//! The journal of an archive is opened, and its note read.
+//! Opens the journal of an archive, and reads its note.
 
 ghost use Rattle.std.specs.Prelude.{◌≡◌, ◌≤◌, ℕ, List, IfOk, OnOk, IfErr, Err, IfSome, IfNone, false};
 ghost use Rattle.disk_models.specs.Erase.{MayLeave};
@@ -44,7 +44,7 @@ fn of_journal(error: JournalError) -> OpenError
     }
 }
 
-// The settings in a note, where they are within their limits and the note gives this number of blocks.
+// The settings in a note, if they are within their limits and the note gives this number of blocks.
 fn settings_in(note: &[u8; 11], blocks: u64) -> Option<Settings>
     ensures note { IfSome result (λ s. note.now ≡ note_octets blocks s) }
     ensures within { IfSome result (λ s. AreSettings s) }
@@ -63,7 +63,7 @@ fn settings_in(note: &[u8; 11], blocks: u64) -> Option<Settings>
     Some(settings)
 }
 
-// The settings of a journal of `homes` home pages, where head and rings lie on these pages.
+// The settings of a journal of `homes` home pages, if head and rings lie on these pages.
 fn settings_of(note: &[u8; 11], homes: u64, blocks: u64) -> Option<Settings>
     ensures note { IfSome result (λ s. note.now ≡ note_octets blocks s) }
     ensures within { IfSome result (λ s. AreSettings s) }
@@ -79,7 +79,7 @@ fn settings_of(note: &[u8; 11], homes: u64, blocks: u64) -> Option<Settings>
     Some(settings)
 }
 
-// The pages of a journal, to be looked at. Where memory runs out the disk is handed back.
+// The pages of a journal, to be read. If memory runs out the disk is returned.
 fn look_at<E: EraseDisk + Drop>(alloc: Global, journal: Journal<E>) -> Result<Looks<E>, E>
     ensures maps { IfOk result (λ looks. (pages : List (List ℕ)) → Keeps E.EraseDisk journal pages → Maps E.EraseDisk looks.pool pages) }
     ensures journal { IfOk result (λ looks. journal_of looks.pool ≡ journal) }
@@ -94,7 +94,7 @@ fn look_at<E: EraseDisk + Drop>(alloc: Global, journal: Journal<E>) -> Result<Lo
     }
 }
 
-/// Opens the journal of a disk, where its note gives an archive's settings and this number of blocks.
+/// Opens the journal of a disk, if its note gives an archive's settings and this number of blocks.
 pub(crate) fn restore<E: EraseDisk + Drop>(
     alloc: Global,
     erase: E,
@@ -105,12 +105,12 @@ pub(crate) fn restore<E: EraseDisk + Drop>(
     ensures rings { IfOk result (λ found. tree_low found.settings ≤ home_pages (journal_of found.looks.pool)) }
     ensures usable { IfOk result (λ found. needs_recovery (journal_of found.looks.pool) ≡ false) }
 
-    // What the disk reads as is what is looked at.
+    // What the disk reads as is what the pages represent.
     ensures looks { E.honest erase → IfOk result (λ found. (homes : ℕ) (note : List ℕ) (pages : List (List ℕ)) → Recovers homes note (E.model erase).octet pages
         → Restores E.EraseDisk found.looks homes note pages) }
     ensures found { E.honest erase → IfOk result (λ found. (pages : List (List ℕ)) × Recovers (home_pages (journal_of found.looks.pool)) (note_of (journal_of found.looks.pool)) (E.model erase).octet pages) }
 
-    // What a crash leaves could be left before, or means what the disk reads as.
+    // What a crash leaves could be left before, or represents what the disk reads as.
     ensures left { E.honest erase → (homes : ℕ) (note : List ℕ) (pages : List (List ℕ)) → Recovers homes note (E.model erase).octet pages
         → MeansOr (E.model (disk_restored result)) (E.model erase).clock (MayLeave (E.model erase)) homes note pages }
 

@@ -24,6 +24,8 @@ use Rattle.archive_pages.specs.Changes.{next_change}
 use Rattle.archive_pages.specs.Batches.{CanPop, HasLane}
 use Rattle.disk_archive.specs.declared.apply_error.ApplyError.{ApplyError}
 use Rattle.disk_archive.specs.declared.apply_error.ApplyError.TheVariants as applies
+use Rattle.disk_archive.specs.declared.change_error.ChangeError.{ChangeError}
+use Rattle.disk_archive.specs.declared.change_error.ChangeError.TheVariants as changes
 use Rattle.page_journal.specs.declared.error.UseError.{UseError}
 use Rattle.page_journal.specs.declared.error.UseError.TheVariants as uses
 use Rattle.disk_archive.specs.declared.stop.Stop.{Stop}
@@ -53,7 +55,17 @@ stop_of applies.OnceFull = stops.Enough
 stop_of (applies.BadNode page) = stops.Enough
 stop_of applies.OutOfMemory = stops.Enough
 
--- that the archive must be opened again is reported only where it must
+-- the same after a change wasn't planned
+abbrev pub stop_of_change : ChangeError → Stop
+stop_of_change changes.NoRoom = stops.Enough
+stop_of_change (changes.Apply refusal) = stop_of refusal
+
+-- this holds of why the change isn't applied, if images for it have room
+abbrev pub OfApply : (ApplyError → Type 0) → ChangeError → Type 0
+OfApply fact changes.NoRoom = ⊤
+OfApply fact (changes.Apply refusal) = fact refusal
+
+-- that the archive must be opened again is reported only if it must
 abbrev pub ApplyRefusal : Bool → ApplyError → Type 0
 ApplyRefusal down applies.NeedsRecovery = down ≡ true
 ApplyRefusal down applies.CounterFull = ⊤
@@ -64,7 +76,7 @@ ApplyRefusal down (applies.BadNode page) = ⊤
 ApplyRefusal down applies.Fault = ⊤
 ApplyRefusal down applies.OutOfMemory = ⊤
 
--- A count is reported as full only where `count` changes are the most that can be counted, and the pages only where fewer were never used
+-- A count is reported as full only if `count` changes are the most that can be counted, and the pages only if fewer were never used
 -- than a tree of the highest level may need for a version; `next` is the first of those among `homes` home pages.
 abbrev pub LimitRefusal : ℕ → ℕ → ℕ → ApplyError → Type 0
 LimitRefusal homes next count applies.NeedsRecovery = ⊤
@@ -87,7 +99,7 @@ FrontRefusal down (applies.BadNode page) = ⊤
 FrontRefusal down applies.Fault = ⊤
 FrontRefusal down applies.OutOfMemory = ⊤
 
--- Pages, a level or a block are refused only where the version of which this holds needs more than there are.
+-- Pages, a level or a block are refused only if the version of which this holds needs more than there are.
 abbrev pub LackRefusal : (Version → Type 0) → List (List ℕ) → ℕ → ℕ → ApplyError → Type 0
 LackRefusal is shown left root applies.NeedsRecovery = ⊤
 LackRefusal is shown left root applies.CounterFull = ⊤
@@ -99,7 +111,7 @@ LackRefusal is shown left root applies.Fault = ⊤
 LackRefusal is shown left root applies.OutOfMemory = ⊤
 
 -- The shelf still has its disk, which follows its model as before; what is tried or settled stays so, at most `most` blocks are spent, and
--- the next number doesn't fall. Where the disk is reported to be full, no blank block is left.
+-- the next number doesn't fall. If the disk is reported to be full, no blank block is left.
 pub record KeepsBlocks {O Pen Seen : Type 0} (device : OnceGhosts O Pen Seen) (most : ℕ) (old new : Shelf O Pen Seen) (full : Type 0) : Type 0 where
   pub disk : disk_of new ≡ disk_of old
   pub honest : device.honest (disk_of old) (pen_of old) ↔ device.honest (disk_of new) (pen_of new)
@@ -108,20 +120,20 @@ pub record KeepsBlocks {O Pen Seen : Type 0} (device : OnceGhosts O Pen Seen) (m
   pub spends : device.honest (disk_of old) (pen_of old) → SpendsAtMost most (device.model (pen_of old)) (device.model (pen_of new))
   pub none_left : device.honest (disk_of old) (pen_of old) → full → AllTried (device.model (pen_of new)) (next_of new) (device.block_count (disk_of old))
 
--- Pages are shown on which the tree lies there and stands for these versions, and no page before its own is changed.
+-- Pages are shown on which the tree lies there and represents these versions, and no page before its own is changed.
 pub record TreeTakes (count : ℕ) (settled : ℕ → List ℕ → Type 0) (shows : List (List ℕ) → Type 0) (low root fresh block next_stamp : ℕ) (versions : List Version) (old : List (List ℕ)) : Type 0 where
   pub pages : List (List ℕ)
   pub shown : shows pages
   pub changes : ChangesFrom low old pages
   pub tree : TreeLocated count pages settled low root fresh block next_stamp versions
 
--- Pages are shown on which the tree lies there and took the version of the next change, where the admission has one.
+-- Pages are shown on which the tree lies there and took the version of the next change, if the admission has one.
 pub record TakesNext (count : ℕ) (s : Settings) (settled : ℕ → List ℕ → Type 0) (shows : List (List ℕ) → Type 0) (head : Contents) (next : Placed Admitted) (root fresh block : ℕ) (before : List Version) (old : List (List ℕ)) : Type 0 where
   pub more : List Version
   pub versions : AreVersions head.applied (next_change head.begun next) more
   pub takes : TreeTakes count settled shows (tree_low s) root fresh block (stamp_of (last_time head.last (next_change head.begun next)) (head.applied + length (next_change head.begun next))) (before ++ more) old
 
--- The history moves on: pages are shown that represent it then, and `whole` says whether the first admission that waited is wholly applied.
+-- The history moves on: pages are shown that represent it then, and `whole` is true if the first pending admission is wholly applied.
 -- Until then no other one is begun.
 pub record MovesOn (count : ℕ) (s : Settings) (settled : ℕ → List ℕ → Type 0) (shows : List (List ℕ) → Type 0) (head : Contents) (whole : Bool) (h : History) : Type 0 where
   pub after : History
@@ -147,7 +159,7 @@ pub record IsFirst (h : History) (front : Front) : Type 0 where
   pub below : IsBelowMarks h front.admission.time
 
 -- What is planned goes with `homes` home pages, of which `unused` was the first that was never used, with the next block, and with these
--- lanes: its admission is at hand, where that isn't wholly applied.
+-- lanes: its admission is at hand, if that isn't wholly applied.
 pub record IsPlan (s : Settings) (homes unused block : ℕ) (waits : List Waiting) (plan : Plan) : Type 0 where
   pub pages : unused ≡ min plan.head.fresh homes
   pub blocks : plan.head.block ≤ block
@@ -156,7 +168,7 @@ pub record IsPlan (s : Settings) (homes unused block : ℕ) (waits : List Waitin
   pub hand : plan.whole ≡ false → IsAtHand s plan.head (beyond plan.ahead waits) plan.front
 
 -- Pages are shown that represent the history with the head of what is planned. The lanes, after what it passes over, are those of the history,
--- and the admission at hand is the first that waits, where it isn't wholly applied.
+-- and the admission at hand is the first that waits, if it isn't wholly applied.
 pub record Reached (count : ℕ) (s : Settings) (settled : ℕ → List ℕ → Type 0) (shows : List (List ℕ) → Type 0) (lanes : List Waiting) (plan : Plan) (h : History) : Type 0 where
   pub pages : List (List ℕ)
   pub shown : shows pages

@@ -26,7 +26,7 @@ ask_of_node nodes.OnceFault = asks.Fault
 ask_of_node nodes.NeedsRecovery = asks.NeedsRecovery
 ask_of_node nodes.OutOfMemory = asks.OutOfMemory
 
--- that the archive must be opened again is reported only where it must; no look reports the watermark
+-- that the archive must be opened again is reported only if it must; no look reports the watermark
 abbrev pub LookRefusal : Bool → AskError → Type 0
 LookRefusal down asks.NeedsRecovery = down ≡ true
 LookRefusal down (asks.AboveWatermark mark) = ⊥
@@ -49,7 +49,7 @@ abbrev pub known_in : (ℕ → Option (List ℕ)) → ℕ → List ℕ → Type 
 known_in known n octets = known n ≡ Some octets
 
 -- On the pages of a transaction, and in the blocks that a reader knows, a tree lies with this root, which uses no page and no block from
--- these on. It stands for the versions of these admissions' changes, whose times never fall.
+-- these on. It represents the versions of these admissions' changes, whose times never fall.
 pub record HasTree {P : Type 0} (pages : Ghosts P) (held : P) {O Pen Seen : Type 0} (device : OnceGhosts O Pen Seen) (reader : ShelfReader O Pen Seen device) (seen : Seen) (root fresh block : ℕ) (ps : List (Placed Admitted)) : Type 0 where
   pub start : Start
   pub shown : List (List ℕ)

@@ -14,7 +14,7 @@ check_of_node nodes.OnceFault = checks.Fault
 check_of_node nodes.NeedsRecovery = checks.NeedsRecovery
 check_of_node nodes.OutOfMemory = checks.OutOfMemory
 
--- that the archive must be opened again is reported only where it must
+-- that the archive must be opened again is reported only if it must
 abbrev pub CountRefusal : Bool → CheckError → Type 0
 CountRefusal down checks.NeedsRecovery = down ≡ true
 CountRefusal down (checks.BadNode page) = ⊤

@@ -13,11 +13,11 @@ use Rattle.archive_head.specs.Head.{Contents}
 use Rattle.archive_pages.specs.declared.settings.Settings.{Settings}
 use Rattle.archive_pages.specs.Places.{tree_low}
 
--- what the head keeps of a collector that gave nothing
+-- what the head has of a collector that gave nothing
 abbrev pub bare_lane : Lane
 bare_lane = record { offered = 0; admitted = 0; mark = 0; first = 0; used = 0 }
 
--- the head of an archive to which nothing was given, where no block before this one is blank
+-- the head of an archive to which nothing was given, if no block before this one is blank
 abbrev pub bare_head : Settings → ℕ → Contents
 bare_head s block = record {
   applied = 0;
@@ -29,16 +29,16 @@ bare_head s block = record {
   lanes = replicate s.collectors bare_lane;
 }
 
--- the disk below the pages that were made, or the one that is handed back
+-- the disk below the new pages, or the one that is returned
 abbrev pub disk_left : {E X : Type 0} {erase : EraseGhosts E} → Result (Tx E erase) (Handed E X) → E
 disk_left (Ok tx) = disk_of (journal_of (pool_of tx))
 disk_left (Err refused) = refused.disk
 
--- the result without what it hands out
+-- the result without the pages and the disk
 abbrev pub reported : {E X : Type 0} {erase : EraseGhosts E} → Result (Tx E erase) (Handed E X) → Result (Unit {0}) X
 reported (Ok tx) = Ok tt
 reported (Err refused) = Err refused.error
 
--- whatever a crash now leaves on the disk means these pages
+-- whatever a crash now leaves on the disk represents these pages
 abbrev pub Means : ℕ → List ℕ → DiskState → List (List ℕ) → Type 0
 Means homes note s pages = (c : ℕ → ℕ) → MayLeave s c → Recovers homes note c pages

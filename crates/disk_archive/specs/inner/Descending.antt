@@ -29,7 +29,7 @@ of_events events.Again = Again
 of_events (events.Historical errand) = Historical (errands.Events errand)
 
 -- On the pages of a transaction, and in settled blocks of a disk of `count` blocks, a tree lies with this root, which uses no block from
--- this one on. It stands for versions of what the right history has applied.
+-- this one on. It represents versions of what the right history has applied.
 pub record HasPages {P : Type 0} (pages : Ghosts P) (held : P) (count : ℕ) (known : ℕ → Option (List ℕ)) (root block : ℕ) (h : History) : Type 0 where
   pub right : IsHistory h
   pub start : Start

@@ -35,6 +35,6 @@ pub record KnowsMarks (reported : List Lane) (lanes : List Waiting) (known : ℕ
   pub marks : (c : ℕ) (lane : Lane) → c < known → slice_get reported c ≡ Some lane → slice_get (marks lanes) c ≡ Some lane.mark
   pub others : (c : ℕ) → known ≤ c → c < length reported → IsUnknown lanes c
 
--- of the first collectors these times wait, where their rings hold admissions
+-- of the first collectors these times wait, if their rings represent admissions
 abbrev pub KnowsTimes : Settings → List Lane → List (List ℕ) → List Waiting → ℕ → Type 0
 KnowsTimes s reported shown lanes known = (c : ℕ) (lane : Lane) (waits : List Admitted) → c < known → slice_get reported c ≡ Some lane → Holds shown (ring_of s c lane) waits → slice_get (waiting_times lanes) c ≡ Some (map time_of waits)

@@ -25,12 +25,12 @@ pub record Restores {E : Type 0} (device : Ghosts E) (looks : Looks E device) (c
   pub note : note_of (journal_of looks.pool) ≡ reported
   pub looked : LooksAt device looks (record { note = reported; pages = pages; clock = (device.model (disk_of (journal_of looks.pool))).clock }) pages
 
--- the disk that is looked at, or the one that is handed back
+-- the disk that is read, or the one that is returned
 abbrev pub disk_restored : {E : Type 0} {device : Ghosts E} → Result (Restored E device) (Handed E OpenError) → E
 disk_restored (Ok found) = disk_of (journal_of found.looks.pool)
 disk_restored (Err refused) = refused.disk
 
--- the result without what it hands out
+-- the result without the pages and the disk
 abbrev pub restored : {E : Type 0} {device : Ghosts E} → Result (Restored E device) (Handed E OpenError) → Result (Unit {0}) OpenError
 restored (Ok found) = Ok tt
 restored (Err refused) = Err refused.error

@@ -6,8 +6,10 @@ use Rattle.once_store.specs.Shelves.{disk_of, pen_of}
 use Rattle.archive_head.specs.Head.{Contents}
 use Rattle.archive_pages.proofs.api.Passing.{Passes}
 use Rattle.disk_archive.specs.declared.apply_error.ApplyError.TheVariants as applies
+use Rattle.disk_archive.specs.declared.change_error.ChangeError.TheVariants as changes
 use Rattle.disk_archive.proofs.Failing.{reports_none, reports_as}
 use Rattle.disk_archive.proofs.Faults.{done_not_reported, one_reported}
+use Rattle.disk_archive.proofs.Changing.{change_as}
 use Rattle.disk_archive.proofs.Lacking.{lacks_as, next_version, one_as, version_next}
 use Rattle.disk_archive.proofs.Limited.{on_reported}
 use Rattle.disk_archive.proofs.Outcomes.{is_less}
@@ -16,7 +18,7 @@ use Rattle.disk_archive.proofs.Stepping.{moves_on, kept_passed, last_no_later}
 use Rattle.disk_archive.proofs.planning_application.plan_change.Goals as goal
 
 pub returns-in_err-place-clause-sound : goal.returns-in_err-place-clause-sound
-returns-in_err-place-clause-sound g c most start shown h later shows honest b here page bad = c.take_next.ensures.sound most start shown _ b.versions shows honest b.tree page (search (rules, bad))
+returns-in_err-place-clause-sound g c start shown h later shows honest b here page bad = c.take_next.ensures.sound start shown _ b.versions shows honest b.tree page (search (rules, bad))
 
 pub returns-clause-moves : goal.returns-clause-moves
 returns-clause-moves g c start shown h later shows honest b here below =
@@ -55,7 +57,7 @@ returns-clause-block g c =
     omega (arith, k, low)
 
 pub returns-then-lt-clause-sound : goal.returns-then-lt-clause-sound
-returns-then-lt-clause-sound g c most start shown h later shows honest b here page bad =
+returns-then-lt-clause-sound g c start shown h later shows honest b here page bad =
     let low = last_no_later (g.O.OnceDisk.block_count (disk_of c.args.shelf.now)) c.args.settings (settled_in (g.O.OnceDisk.model (pen_of c.args.shelf.now))) c.args.head.now shown h (placed c.args.collector c.args.admission.now) later b here in
     let lt = is_less c.lt.result c.time.result c.head.inside.last c.lt.ensures c.if-lt.true in
     let time = c.time.ensures.time in
@@ -77,7 +79,7 @@ pub returns-in_err-place-clause-lacks : goal.returns-in_err-place-clause-lacks
 returns-in_err-place-clause-lacks g c start shown h later shows honest b here =
     let e = c.in_err-place.field-0.0 in
     on_reported c.from_residual.result e _ c.from_residual.ensures.1
-    (lacks_as _ _ shown _ _ e (λ v is. next_version _ c.args.settings _ c.args.head.now shown h (placed c.args.collector c.args.admission.now) later v b here is)
+    (change_as _ _ e (λ refusal. lacks_as _ _ shown _ _ refusal (λ v is. next_version _ c.args.settings _ c.args.head.now shown h (placed c.args.collector c.args.admission.now) later v b here is))
     (c.in_err-place.ensures.lacks start shown _ c.args.collector b.versions shows honest b.tree))
 
 pub returns-clause-room : goal.returns-clause-room
@@ -92,6 +94,9 @@ returns-clause-room g c start shown h later shows honest b here =
           (c.in_ok-place.ensures.room start shown _ c.args.collector b.versions shows honest b.tree);
     }
 
+pub returns-in_err-place-clause-first : goal.returns-in_err-place-clause-first
+returns-in_err-place-clause-first g c few is = c.take_next.ensures.first few (search (rules, is))
+
 -- ---- how often both disks failed
 
 pub returns-then-head-clause-failed : goal.returns-then-head-clause-failed
@@ -105,9 +110,9 @@ returns-in_err-place-clause-failed g c =
     let e = c.in_err-place.field-0.0 in
     let r : c.take_next.result ≡ Err e = search rules in
     let d : c.from_residual.result ≡ Err e = search rules in
-    reports_as _ _ _ _ _ _ (λ reported. r ∙ ap Err (one_reported c.from_residual.result e applies.Fault d reported)) (λ failed. d ∙ ap Err (one_reported c.take_next.result e applies.Fault r failed)) c.take_next.ensures.failed
+    reports_as _ _ _ _ _ _ (λ reported. r ∙ ap Err (one_reported c.from_residual.result e (changes.Apply applies.Fault) d reported)) (λ failed. d ∙ ap Err (one_reported c.take_next.result e (changes.Apply applies.Fault) r failed)) c.take_next.ensures.failed
 
 pub returns-clause-failed : goal.returns-clause-failed
 returns-clause-failed g c =
     let r : c.take_next.result ≡ Ok c.in_ok-place.place = search rules in
-    reports_as _ _ _ _ _ _ (λ reported. absurd cc) (λ failed. absurd (done_not_reported c.take_next.result c.in_ok-place.place applies.Fault r failed)) c.take_next.ensures.failed
+    reports_as _ _ _ _ _ _ (λ reported. absurd cc) (λ failed. absurd (done_not_reported c.take_next.result c.in_ok-place.place (changes.Apply applies.Fault) r failed)) c.take_next.ensures.failed

@@ -10,6 +10,7 @@ use Rattle.archive_pages.specs.Changes.{next_change}
 use Rattle.sequencer.proofs.api.Calls.{if_ok}
 use Rattle.disk_archive.specs.inner.Applications.{TakesNext}
 use Rattle.disk_archive.proofs.Failing.{reports_none}
+use Rattle.disk_archive.proofs.Changing.{change_as}
 use Rattle.disk_archive.proofs.Lacking.{lacks_as, none_versions}
 use Rattle.disk_archive.proofs.Outcomes.{if_err, if_none_at, if_some_at, ok_then}
 use Rattle.disk_archive.proofs.Stepping.{takes_none, takes_one}
@@ -35,7 +36,7 @@ pub returns-in-Some-clause-lacks : goal.returns-in-Some-clause-lacks
 returns-in-Some-clause-lacks g c start shown low collector versions shows honest t =
     let is = if_some_at c.in_ok-next.next c.in-Some.entry _ c.in-Some.is c.in_ok-next.ensures.some collector in
     if_err c.take_version.result _ _
-    (λ e. lacks_as _ _ shown _ _ e (λ v same. subst (λ (x : Version). AreVersions c.args.head.now.applied (next_change c.args.head.now.begun (placed collector c.args.admission.now)) (x ∷ [])) (sym same) is))
+    (λ e. change_as _ _ e (λ refusal. lacks_as _ _ shown _ _ refusal (λ v same. subst (λ (x : Version). AreVersions c.args.head.now.applied (next_change c.args.head.now.begun (placed collector c.args.admission.now)) (x ∷ [])) (sym same) is)))
     (c.take_version.ensures.lacks start shown low versions shows honest t)
 
 -- ---- what there is enough of

@@ -6,6 +6,7 @@ use Rattle.archive_head.specs.Head.{Contents}
 use Rattle.route_history.specs.Stamps.{stamp_of}
 use Rattle.version_model.specs.Pages.{TreeStands}
 use Rattle.disk_archive.specs.declared.apply_error.ApplyError.TheVariants as applies
+use Rattle.disk_archive.specs.declared.change_error.ChangeError.TheVariants as changes
 use Rattle.version_model.specs.Entries.{version_of}
 use Rattle.once_store.specs.declared.error.AppendError.TheVariants as appends
 use Rattle.page_tx.specs.declared.error.PageError.TheVariants as pages
@@ -18,10 +19,10 @@ use Rattle.tsb_tree.specs.Refusals.{BlamesNone, InsertRefusal, ReadRefusal}
 use Rattle.disk_archive.specs.inner.Applications.{TreeTakes}
 use Rattle.disk_archive.proofs.Failing.{reports_both, reports_first, reports_none, reports_then, reports_as, tree_apart}
 use Rattle.disk_archive.proofs.Faults.{done_not_reported, one_reported}
-use Rattle.disk_archive.proofs.Keeping.{joined_few}
 use Rattle.tsb_tree.specs.Outlived.{LeadsToOutdated}
 use Rattle.tsb_tree.proofs.Roots.{tree_root}
-use Rattle.disk_archive.proofs.Lacking.{lacks_by, lacks_none}
+use Rattle.disk_archive.proofs.Changing.{change_lacks}
+use Rattle.disk_archive.proofs.Lacking.{lacks_none}
 use Rattle.disk_archive.proofs.Taking.{shown_at, taken_at}
 use Rattle.disk_archive.proofs.planning_application.take_version.Goals as goal
 
@@ -33,13 +34,19 @@ returns-in-Err-insert-clause-refused g c = c.of_tree-in-Err-insert.ensures.refus
 
 pub returns-in-Ok-insert-clause-few : goal.returns-in-Ok-insert-clause-few
 returns-in-Ok-insert-clause-few g c =
-    let n = c.in-Ok-insert.ensures.named in
-    let len = ap length n.2 in
-    let some = joined_few (g.P.Pages.named c.open.new.pages) n.0 in
     let was = ap length c.open.ensures.reads.named in
-    let few = c.in-Ok.ensures.few in
-    let most = n.1 in
-    omega (arith, len, some, was, few, most)
+    let few = c.requires.few in
+    c.in-Ok-insert.ensures.fits (omega (arith, was, few))
+
+pub returns-in-Err-clause-first : goal.returns-in-Err-clause-first
+returns-in-Err-clause-first g c few is = absurd (subst (ReadRefusal _) (c.of_tree.ensures.room (cc is)) c.in-Err.ensures.refused)
+
+pub returns-in-Err-insert-clause-first : goal.returns-in-Err-insert-clause-first
+returns-in-Err-insert-clause-first g c few is =
+    let many = subst (InsertRefusal _ _ _ _ _ _ _) (c.of_tree-in-Err-insert.ensures.room (cc is)) c.in-Err-insert.ensures.refused in
+    let was = ap length c.open.ensures.reads.named in
+    let level = c.in-Ok.ensures.few in
+    absurd (omega (arith, many, was, level, few))
 
 pub returns-in-Ok-insert-clause-takes : goal.returns-in-Ok-insert-clause-takes
 returns-in-Ok-insert-clause-takes g c start shown low versions shows honest t =
@@ -67,7 +74,7 @@ returns-in-Ok-insert-clause-takes g c start shown low versions shows honest t =
     (subst (λ (l : ℕ). T (P.next c.insert.new.pages) (next_of c.insert.new.shelf) l) c.in-Ok-insert.ensures.least took))
 
 pub returns-in-Err-insert-clause-sound : goal.returns-in-Err-insert-clause-sound
-returns-in-Err-insert-clause-sound g c most start shown low versions shows honest t page e =
+returns-in-Err-insert-clause-sound g c start shown low versions shows honest t page e =
     let P = g.P.Pages in
     let O = g.O.OnceDisk in
     let h = c.args.head.now in
@@ -81,7 +88,7 @@ returns-in-Err-insert-clause-sound g c most start shown low versions shows hones
     let level = c.in-Ok.ensures.opened start shown shows t.store versions t.level t.says (subst (λ (r : ℕ). TreeStands t.store versions r t.level) (sym root) t.has.stands) in
     let tree = shown_at P c.open.new.pages O c.args.shelf.now start shown low h.root h.fresh h.block (stamp_of h.last h.applied) versions shows' honest count next' c.requires.block t
     c.in-Ok.place.root c.in-Ok.place.level c.in-Ok.place.least (c.in-Ok.ensures.root ∙ root) level (c.in-Ok.ensures.least ∙ least) in
-    let reported : c.of_tree-in-Err-insert.result ≡ applies.BadNode page = cc in
+    let reported : c.of_tree-in-Err-insert.result ≡ changes.Apply (applies.BadNode page) = cc in
     subst BlamesNone (c.of_tree-in-Err-insert.ensures.bad page reported) (c.in-Err-insert.ensures.honest start shown versions tree)
 
 -- ---- what is too much
@@ -109,7 +116,7 @@ returns-in-Err-insert-clause-high g c start shown shows reported =
 
 pub returns-in-Err-clause-lacks : goal.returns-in-Err-clause-lacks
 returns-in-Err-clause-lacks g c start shown low versions shows honest t =
-    lacks_by _ shown _ _ c.of_tree.result (λ full. absurd (subst (ReadRefusal _) (c.of_tree.ensures.full full) c.in-Err.ensures.refused)) (λ high. absurd (subst (ReadRefusal _) (c.of_tree.ensures.high high) c.in-Err.ensures.refused)) (λ once. absurd (subst (ReadRefusal _) (c.of_tree.ensures.once once) c.in-Err.ensures.refused))
+    change_lacks _ shown _ _ c.of_tree.result (λ full. absurd (subst (ReadRefusal _) (c.of_tree.ensures.full full) c.in-Err.ensures.refused)) (λ high. absurd (subst (ReadRefusal _) (c.of_tree.ensures.high high) c.in-Err.ensures.refused)) (λ once. absurd (subst (ReadRefusal _) (c.of_tree.ensures.once once) c.in-Err.ensures.refused))
 
 pub returns-in-Err-insert-clause-lacks : goal.returns-in-Err-insert-clause-lacks
 returns-in-Err-insert-clause-lacks g c start shown low versions shows honest t =
@@ -131,7 +138,7 @@ returns-in-Err-insert-clause-lacks g c start shown low versions shows honest t =
     let tree = shown_at P c.open.new.pages O c.args.shelf.now start shown low h.root h.fresh h.block (stamp_of h.last h.applied) versions shows' honest count next' c.requires.block t
     c.in-Ok.place.root c.in-Ok.place.level c.in-Ok.place.least here level (c.in-Ok.ensures.least ∙ least) in
     let e = c.of_tree-in-Err-insert.ensures in
-    lacks_by _ shown _ _ c.of_tree-in-Err-insert.result
+    change_lacks _ shown _ _ c.of_tree-in-Err-insert.result
     (λ full.
     let w = c.in-Err-insert.ensures.lacks_pages start shown versions tree (ap Err (e.full full)) in
     let more = w.2 in
@@ -193,17 +200,12 @@ returns-in-Ok-insert-clause-room g c start shown low versions shows honest t =
 pub returns-in-Err-clause-failed : goal.returns-in-Err-clause-failed
 returns-in-Err-clause-failed g c =
     reports_as _ _ _ _ _ _
-    (λ reported. (let is : c.of_tree.result ≡ applies.Fault = cc in elim (c.of_tree.ensures.fault.0 is) [
+    (λ reported. (let is : c.of_tree.result ≡ changes.Apply applies.Fault = cc in elim (c.of_tree.ensures.fault.0 is) [
       | inl pages ↦ c.in-Err.is ∙ ap Err pages
       | inr once ↦ absurd (subst (ReadRefusal _) once c.in-Err.ensures.refused)
     ]))
     (λ failed. ap Err (c.of_tree.ensures.fault.1 (inl (one_reported c.open.result c.in-Err.refusal (trees.Pages pages.Fault) c.in-Err.is failed))))
     (reports_first _ _ _ _ _ _ c.open.ensures.reads.device)
-
-pub returns-then-place-most_level-clause-failed : goal.returns-then-place-most_level-clause-failed
-returns-then-place-most_level-clause-failed g c =
-    let quiet = c.open.ensures.reads.device.quiet (done_not_reported c.open.result c.in-Ok.place (trees.Pages pages.Fault) c.in-Ok.is) in
-    reports_then _ _ _ _ _ _ _ (quiet, refl) (reports_none _ _ _ (λ reported. absurd cc))
 
 pub returns-in-Ok-insert-clause-failed : goal.returns-in-Ok-insert-clause-failed
 returns-in-Ok-insert-clause-failed g c =
@@ -221,7 +223,7 @@ returns-in-Err-insert-clause-failed g c =
     let e = c.in-Err-insert.refusal in
     reports_then _ _ _ _ _ _ _ (quiet, refl)
     (reports_both c.insert.result (trees.Pages pages.Fault) (trees.Once appends.Fault) _ _ _ _ _ _ _ tree_apart
-    (λ reported. (let is : c.of_tree-in-Err-insert.result ≡ applies.Fault = cc in elim (c.of_tree-in-Err-insert.ensures.fault.0 is) [
+    (λ reported. (let is : c.of_tree-in-Err-insert.result ≡ changes.Apply applies.Fault = cc in elim (c.of_tree-in-Err-insert.ensures.fault.0 is) [
       | inl pages ↦ inl (c.in-Err-insert.is ∙ ap Err pages)
       | inr once ↦ inr (c.in-Err-insert.is ∙ ap Err once)
     ]))

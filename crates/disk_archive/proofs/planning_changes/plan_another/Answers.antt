@@ -2,10 +2,12 @@ use Rattle.std.proofs.Common.{rules, ◌≡◌, ℕ, refl, sym, ◌∙◌, ap, s
 use Rattle.disk_models.specs.Once.{settled_in}
 use Rattle.once_store.specs.Shelves.{disk_of, next_of, pen_of}
 use Rattle.disk_archive.specs.declared.apply_error.ApplyError.TheVariants as applies
+use Rattle.disk_archive.specs.declared.change_error.ChangeError.TheVariants as changes
 use Rattle.disk_archive.specs.declared.stop.Stop.TheVariants as stops
 use Rattle.disk_archive.specs.declared.planning_changes.Plan.{Plan}
-use Rattle.disk_archive.specs.inner.Applications.{IsPlan, Reached, stop_of}
-use Rattle.disk_archive.proofs.Failing.{stop_failed, reports_first, reports_none, reports_then, reports_as}
+use Rattle.disk_archive.specs.inner.Applications.{Reached, stop_of_change}
+use Rattle.disk_archive.proofs.Failing.{reports_first, reports_none, reports_then, reports_as}
+use Rattle.disk_archive.proofs.Changing.{change_failed}
 use Rattle.disk_archive.proofs.Faults.{done_not_reported, one_reported}
 use Rattle.disk_archive.proofs.Keeping.{keeps_reported}
 use Rattle.disk_archive.proofs.Reaching.{reached_grown, reaches_one, reaches_same}
@@ -13,11 +15,7 @@ use Rattle.disk_archive.proofs.planning_changes.plan_another.Goals as goal
 
 pub plan_step-requires-clause-fits : goal.plan_step-requires-clause-fits
 plan_step-requires-clause-fits g c =
-    let P = g.P.Pages in
-    let e = c.level_of.ensures in
-    let was = subst (λ (n : ℕ). IsPlan c.args.settings n (P.next c.level_of.new.pages) (next_of c.args.shelf.now) c.args.sequencer.now c.args.plan.now) (sym e.homes)
-    (subst (λ (n : ℕ). IsPlan c.args.settings (P.homes c.args.pages.now) n (next_of c.args.shelf.now) c.args.sequencer.now c.args.plan.now) (sym e.next) c.requires.fits) in
-    let fits = c.find_front.ensures.fits (next_of c.args.shelf.now) was in
+    let fits = c.find_front.ensures.fits (next_of c.args.shelf.now) c.requires.fits in
     search (rules, fits)
 
 pub returns-in_err-plan_step-clause-reaches : goal.returns-in_err-plan_step-clause-reaches
@@ -29,9 +27,7 @@ returns-in_err-plan_step-clause-reaches g c start h honest r =
     let many = settled_in (O.model (pen_of c.plan_step.new.shelf)) in
     let old = P.shows c.find_front.new.pages start in
     let new = P.shows c.plan_step.new.pages start in
-    let seen : Reached count c.args.settings few (P.shows c.level_of.new.pages start) c.args.sequencer.now c.args.plan.now h =
-    record { pages = r.pages; shown = c.level_of.ensures.reads start r.pages r.shown; head_represents = r.head_represents; mirrors = r.mirrors; first = r.first } in
-    let found = c.find_front.ensures.reached count (O.model (pen_of c.args.shelf.now)) start h seen in
+    let found = c.find_front.ensures.reached count (O.model (pen_of c.args.shelf.now)) start h r in
     let e = c.in_err-plan_step.ensures in
     reaches_same count c.args.settings many new c.args.sequencer.now c.plan_step.new.plan h
     (subst (λ (x : Plan). Reached count c.args.settings many new c.args.sequencer.now x h) (sym e.as_before)
@@ -43,9 +39,7 @@ returns-clause-reaches g c start h honest r =
     let O = g.O.OnceDisk in
     let count = O.block_count (disk_of c.args.shelf.now) in
     let few = settled_in (O.model (pen_of c.args.shelf.now)) in
-    let seen : Reached count c.args.settings few (P.shows c.level_of.new.pages start) c.args.sequencer.now c.args.plan.now h =
-    record { pages = r.pages; shown = c.level_of.ensures.reads start r.pages r.shown; head_represents = r.head_represents; mirrors = r.mirrors; first = r.first } in
-    let found = c.find_front.ensures.reached count (O.model (pen_of c.args.shelf.now)) start h seen in
+    let found = c.find_front.ensures.reached count (O.model (pen_of c.args.shelf.now)) start h r in
     reaches_one count c.args.settings (settled_in (O.model (pen_of c.plan_step.new.shelf))) (P.shows c.plan_step.new.pages start) c.args.sequencer.now c.plan_step.new.plan h (c.in_ok-plan_step.ensures.moves start h honest found)
 
 pub returns-in_err-plan_step-clause-shelf : goal.returns-in_err-plan_step-clause-shelf
@@ -55,62 +49,41 @@ pub returns-clause-shelf : goal.returns-clause-shelf
 returns-clause-shelf g c = keeps_reported g.O.OnceDisk 2 c.args.shelf.now c.plan_step.new.shelf _ ⊥ (λ never. absurd never) c.plan_step.ensures.shelf
 
 pub returns-in_err-plan_step-clause-shows : goal.returns-in_err-plan_step-clause-shows
-returns-in_err-plan_step-clause-shows g c start shown s = c.plan_step.ensures.shows start shown (c.find_front.ensures.reads start shown (c.level_of.ensures.reads start shown s))
+returns-in_err-plan_step-clause-shows g c start shown s = c.plan_step.ensures.shows start shown (c.find_front.ensures.reads start shown s)
 
 pub returns-clause-shows : goal.returns-clause-shows
-returns-clause-shows g c start shown s = c.plan_step.ensures.shows start shown (c.find_front.ensures.reads start shown (c.level_of.ensures.reads start shown s))
+returns-clause-shows g c start shown s = c.plan_step.ensures.shows start shown (c.find_front.ensures.reads start shown s)
 
 pub returns-in_err-find_front-clause-fits : goal.returns-in_err-find_front-clause-fits
 returns-in_err-find_front-clause-fits g c =
-    let P = g.P.Pages in
-    let e = c.level_of.ensures in
-    let was = subst (λ (n : ℕ). IsPlan c.args.settings n (P.next c.level_of.new.pages) (next_of c.args.shelf.now) c.args.sequencer.now c.args.plan.now) (sym e.homes)
-    (subst (λ (n : ℕ). IsPlan c.args.settings (P.homes c.args.pages.now) n (next_of c.args.shelf.now) c.args.sequencer.now c.args.plan.now) (sym e.next) c.requires.fits) in
-    c.find_front.ensures.fits (next_of c.args.shelf.now) was
+    c.find_front.ensures.fits (next_of c.args.shelf.now) c.requires.fits
 
 -- ---- how often both disks failed
 
-pub returns-in_err-level-clause-failed : goal.returns-in_err-level-clause-failed
-returns-in_err-level-clause-failed g c =
-    let e = c.in_err-level.field-0.0 in
-    let r : c.level_of.result ≡ Err e = search rules in
-    let d : c.from_residual.result ≡ Err e = search rules in
-    reports_as _ _ _ _ _ _ (λ reported. r ∙ ap Err (one_reported c.from_residual.result e stops.Failed d reported)) (λ failed. d ∙ ap Err (one_reported c.level_of.result e stops.Failed r failed)) (reports_first _ _ _ _ _ _ c.level_of.ensures.device)
-
-pub returns-then-not-has_room-clause-failed : goal.returns-then-not-has_room-clause-failed
-returns-then-not-has_room-clause-failed g c =
-    let level : c.level_of.result ≡ Ok c.in_ok-level.level = search rules in
-    let quiet = c.level_of.ensures.device.quiet (done_not_reported c.level_of.result c.in_ok-level.level stops.Failed level) in
-    reports_then _ _ _ _ _ _ _ (quiet, refl) (reports_none _ _ _ (λ reported. absurd cc))
+pub returns-then-images-ge-MOST_IMAGES-clause-failed : goal.returns-then-images-ge-MOST_IMAGES-clause-failed
+returns-then-images-ge-MOST_IMAGES-clause-failed g c = reports_none _ _ _ (λ reported. absurd cc)
 
 pub returns-in_err-find_front-clause-failed : goal.returns-in_err-find_front-clause-failed
 returns-in_err-find_front-clause-failed g c =
-    let level : c.level_of.result ≡ Ok c.in_ok-level.level = search rules in
-    let quiet = c.level_of.ensures.device.quiet (done_not_reported c.level_of.result c.in_ok-level.level stops.Failed level) in
     let e = c.in_err-find_front.field-0.0 in
     let r : c.find_front.result ≡ Err e = search rules in
-    let d : c.from_residual-in_err-find_front.result ≡ Err e = search rules in
-    reports_then _ _ _ _ _ _ _ (quiet, refl)
-    (reports_as _ _ _ _ _ _ (λ reported. r ∙ ap Err (one_reported c.from_residual-in_err-find_front.result e stops.Failed d reported)) (λ failed. d ∙ ap Err (one_reported c.find_front.result e stops.Failed r failed)) (reports_first _ _ _ _ _ _ c.find_front.ensures.device))
+    let d : c.from_residual.result ≡ Err e = search rules in
+    reports_as _ _ _ _ _ _ (λ reported. r ∙ ap Err (one_reported c.from_residual.result e stops.Failed d reported)) (λ failed. d ∙ ap Err (one_reported c.find_front.result e stops.Failed r failed)) (reports_first _ _ _ _ _ _ c.find_front.ensures.device)
 
 pub returns-in_err-plan_step-clause-failed : goal.returns-in_err-plan_step-clause-failed
 returns-in_err-plan_step-clause-failed g c =
-    let level : c.level_of.result ≡ Ok c.in_ok-level.level = search rules in
-    let quiet = c.level_of.ensures.device.quiet (done_not_reported c.level_of.result c.in_ok-level.level stops.Failed level) in
     let front : c.find_front.result ≡ Ok tt = search rules in
     let found = c.find_front.ensures.device.quiet (done_not_reported c.find_front.result tt stops.Failed front) in
     let e = c.in_err-plan_step.field-0.0 in
     let r : c.plan_step.result ≡ Err e = search rules in
-    let d : c.from_residual-in_err-plan_step.result ≡ Err (stop_of e) = search rules in
-    reports_then _ _ _ _ _ _ _ (found ∙ quiet, refl)
-    (reports_as _ _ _ _ _ _ (λ reported. r ∙ ap Err (stop_failed e (one_reported c.from_residual-in_err-plan_step.result (stop_of e) stops.Failed d reported))) (λ failed. d ∙ ap Err (ap stop_of (one_reported c.plan_step.result e applies.Fault r failed))) c.plan_step.ensures.failed)
+    let d : c.from_residual-in_err-plan_step.result ≡ Err (stop_of_change e) = search rules in
+    reports_then _ _ _ _ _ _ _ (found, refl)
+    (reports_as _ _ _ _ _ _ (λ reported. r ∙ ap Err (change_failed e (one_reported c.from_residual-in_err-plan_step.result (stop_of_change e) stops.Failed d reported))) (λ failed. d ∙ ap Err (ap stop_of_change (one_reported c.plan_step.result e (changes.Apply applies.Fault) r failed))) c.plan_step.ensures.failed)
 
 pub returns-clause-failed : goal.returns-clause-failed
 returns-clause-failed g c =
-    let level : c.level_of.result ≡ Ok c.in_ok-level.level = search rules in
-    let quiet = c.level_of.ensures.device.quiet (done_not_reported c.level_of.result c.in_ok-level.level stops.Failed level) in
     let front : c.find_front.result ≡ Ok tt = search rules in
     let found = c.find_front.ensures.device.quiet (done_not_reported c.find_front.result tt stops.Failed front) in
     let r : c.plan_step.result ≡ Ok tt = search rules in
-    reports_then _ _ _ _ _ _ _ (found ∙ quiet, refl)
-    (reports_as _ _ _ _ _ _ (λ reported. absurd cc) (λ failed. absurd (done_not_reported c.plan_step.result tt applies.Fault r failed)) c.plan_step.ensures.failed)
+    reports_then _ _ _ _ _ _ _ (found, refl)
+    (reports_as _ _ _ _ _ _ (λ reported. absurd cc) (λ failed. absurd (done_not_reported c.plan_step.result tt (changes.Apply applies.Fault) r failed)) c.plan_step.ensures.failed)

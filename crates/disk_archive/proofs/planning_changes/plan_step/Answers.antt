@@ -10,6 +10,7 @@ use Rattle.once_store.specs.Shelves.{next_of}
 use Rattle.disk_archive.specs.declared.planning_changes.Plan.{Plan}
 use Rattle.disk_archive.specs.inner.Applications.{IsPlan}
 use Rattle.disk_archive.specs.declared.apply_error.ApplyError.TheVariants as applies
+use Rattle.disk_archive.specs.declared.change_error.ChangeError.TheVariants as changes
 use Rattle.disk_archive.proofs.Failing.{reports_as}
 use Rattle.disk_archive.proofs.Faults.{done_not_reported, one_reported}
 use Rattle.disk_archive.proofs.Limited.{on_reported}
@@ -69,9 +70,9 @@ pub returns-in_err-whole-clause-as_before : goal.returns-in_err-whole-clause-as_
 returns-in_err-whole-clause-as_before g c = on_each_err _ _ (ap (λ (x : Contents). record c.args.plan.now { head = x }) c.in_err-whole.ensures.as_before)
 
 pub returns-in_err-whole-clause-sound : goal.returns-in_err-whole-clause-sound
-returns-in_err-whole-clause-sound g c most start h honest r page bad =
+returns-in_err-whole-clause-sound g c start h honest r page bad =
     let f = at_hand h c.args.plan.now.front c.admission-admission.result.now (r.first c.requires.hand) (sym c.admission-admission.ensures) in
-    c.plan_change.ensures.sound most start r.pages h f.later r.shown honest r.head_represents f.here page (search (rules, bad))
+    c.plan_change.ensures.sound start r.pages h f.later r.shown honest r.head_represents f.here page (search (rules, bad))
 
 pub returns-in_err-whole-clause-high : goal.returns-in_err-whole-clause-high
 returns-in_err-whole-clause-high g c start shown shows reported = c.plan_change.ensures.high start shown shows (search (rules, reported))
@@ -86,6 +87,9 @@ returns-clause-room g c start h honest r =
     let f = at_hand h c.args.plan.now.front c.admission-admission.result.now (r.first c.requires.hand) (sym c.admission-admission.ensures) in
     c.in_ok-whole.ensures.room start r.pages h f.later r.shown honest r.head_represents f.here
 
+pub returns-in_err-whole-clause-first : goal.returns-in_err-whole-clause-first
+returns-in_err-whole-clause-first g c few is = c.plan_change.ensures.first few (search (rules, is))
+
 -- ---- how often both disks failed
 
 pub returns-in_err-whole-clause-failed : goal.returns-in_err-whole-clause-failed
@@ -93,9 +97,9 @@ returns-in_err-whole-clause-failed g c =
     let e = c.in_err-whole.field-0.0 in
     let r : c.plan_change.result ≡ Err e = search rules in
     let d : c.from_residual.result ≡ Err e = search rules in
-    reports_as _ _ _ _ _ _ (λ reported. r ∙ ap Err (one_reported c.from_residual.result e applies.Fault d reported)) (λ failed. d ∙ ap Err (one_reported c.plan_change.result e applies.Fault r failed)) c.plan_change.ensures.failed
+    reports_as _ _ _ _ _ _ (λ reported. r ∙ ap Err (one_reported c.from_residual.result e (changes.Apply applies.Fault) d reported)) (λ failed. d ∙ ap Err (one_reported c.plan_change.result e (changes.Apply applies.Fault) r failed)) c.plan_change.ensures.failed
 
 pub returns-clause-failed : goal.returns-clause-failed
 returns-clause-failed g c =
     let r : c.plan_change.result ≡ Ok c.in_ok-whole.whole = search rules in
-    reports_as _ _ _ _ _ _ (λ reported. absurd cc) (λ failed. absurd (done_not_reported c.plan_change.result c.in_ok-whole.whole applies.Fault r failed)) c.plan_change.ensures.failed
+    reports_as _ _ _ _ _ _ (λ reported. absurd cc) (λ failed. absurd (done_not_reported c.plan_change.result c.in_ok-whole.whole (changes.Apply applies.Fault) r failed)) c.plan_change.ensures.failed
