@@ -1,6 +1,6 @@
 -- What a turn of a question gives.
 use Rattle.std.specs.Prelude.{◌≡◌, ◌≤◌, ⊤}
-use Rattle.route_meaning.specs.History.{History, settled}
+use Rattle.route_meaning.specs.History.{History, Begins, settled}
 use Rattle.interleaving_core.specs.declared.query.Query.{Query}
 use Rattle.interleaving_core.specs.declared.query.Answer.{Answer}
 use Rattle.interleaving_core.specs.Does.{last_moment}
@@ -15,6 +15,10 @@ abbrev pub TurnGives : {E : Type 0} → (E → Type 0) → Type 0 → (Answer �
 TurnGives historical again answered (Done answer) = answered answer
 TurnGives historical again answered Again = again
 TurnGives historical again answered (Historical errand) = historical errand
+
+-- what a question has gathered holds over this history and each later one
+abbrev pub HoldsOnward : {C : Type 0} → (C → History → Type 0) → C → History → Type 0
+HoldsOnward gathered cursor h = (g : History) → Begins h g → gathered cursor g
 
 -- a question is refused as above the watermark only where it is, and the watermark is returned; else for a trouble from outside
 abbrev pub IsReported : AskError → History → Query → Type 0

@@ -8,7 +8,7 @@ ghost use Rattle.board.specs.Past.{Past, GoesOnAs, reach};
 ghost use Rattle.board.specs.Views.{View, Within, Reached, IsCaughtUp, IsFrontOf, BeginsView};
 ghost use Rattle.query_threads.specs.Steps.{IsCrowded, DoesAdmit, DoesMark, DoesApply, DoesFlush, DoesReopen};
 ghost use Rattle.query_threads.specs.Looks.{IsErrandOn};
-ghost use Rattle.query_threads.specs.Turns.{TurnGives, IsReported};
+ghost use Rattle.query_threads.specs.Turns.{HoldsOnward, TurnGives, IsReported};
 ghost use Rattle.query_threads.specs.Seeing.{Sees, ComesOf};
 ghost use Rattle.query_threads.specs.Troubles.{OnAdmitTrouble, OnMarkTrouble, OnAskTrouble};
 ghost use Rattle.query_threads.specs.inner.Unpromised.{ReachesAll};
@@ -59,7 +59,7 @@ pub(crate) fn catch_up<A: Store, N: Named + OnDisk<A::Disk>>(
 }
 
 // The writing seat goes on to a past that fits, which the archive represents, and all words are raised to it. What it is
-// about is for the caller's choice of `X`. Where nothing is promised of the archive, it stays at one that reaches all.
+// about is for the caller's choice of `X`. If nothing is promised of the archive, it stays at one that reaches all.
 fn follow<X: Target, A: Store, N: Named + OnDisk<A::Disk>, T>(
     board: &Board<N>,
     writer: &mut Writer<N>,
@@ -212,7 +212,7 @@ impl<A: Store, N: Named + OnDisk<A::Disk>> Desk<A, N> {
         reported
     }
 
-    /// Which call on a device failed, and why, in words for a person; none where the archive has none.
+    /// Which call on a device failed, and why, in words for a person; none if the archive has none.
     pub fn failure(&self, alloc: Global) -> Option<String> {
         self.archive.failure(alloc)
     }
@@ -244,6 +244,35 @@ impl<A: Store, N: Named + OnDisk<A::Disk>> Desk<A, N> {
                 Ok(Turn::Historical((errand, seen)))
             }
         }
+    }
+
+    /// Turns of a question, one after another, until one doesn't say [`Turn::Again`], but at most `more` after the first. The pass then
+    /// knows the history over which all of them were made.
+    pub fn turns(
+        &mut self,
+        board: &Board<N>,
+        pass: &mut Pass<N>,
+        cursor: &mut A::Cursor,
+        more: u32,
+    ) -> Result<Turn<(A::Errand, A::Seen)>, AskError>
+        ensures begins { BeginsView pass.old pass.new }
+        ensures reached { Reached pass.old.numbers pass.new.past.history }
+        ensures asks { A.asks cursor.new ≡ A.asks cursor.old }
+        ensures fits { IfOk result (λ turn. TurnGives (λ e. A.fits e.0 cursor.new) ⊤ (λ _. ⊤) turn) }
+        ensures right { IsSome N.disk → IsHistory pass.new.past.history }
+        ensures settled { IsSome N.disk → OnOk result (last_moment (A.asks cursor.old) < settled pass.new.past.history) }
+        ensures gives { IsSome N.disk → HoldsOnward A.gathered cursor.old pass.old.past.history → IfOk result (λ turn. TurnGives (λ e. IfSome N.disk (IsErrandOn (λ errand. A.located errand cursor.new) A.honest A.block_count A.known pass.new.past e.0 e.1)) (A.gathered cursor.new pass.new.past.history) (λ answer. IsAnswered (applied pass.new.past.history) (A.asks cursor.old) answer) turn) }
+        ensures reported { IsSome N.disk → IfErr result (λ e. IsReported e pass.new.past.history (A.asks cursor.old)) }
+        ensures trouble { IfErr result (OnAskTrouble (λ t. ComesOf N.disk A.disk_of A.represents (λ a b. A.reports a t b) pass.old pass.new)) }
+    {
+        for _ in 0..more {
+            match self.turn(board, pass, cursor)? {
+                Turn::Done(answer) => return Ok(Turn::Done(answer)),
+                Turn::Again => {}
+                Turn::Historical(look) => return Ok(Turn::Historical(look)),
+            }
+        }
+        self.turn(board, pass, cursor)
     }
 
     /// A reader of this archive's blocks, which keeps none yet. Fails only when out of memory.

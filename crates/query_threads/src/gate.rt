@@ -2,10 +2,10 @@
 
 /// Is called for the questions of a shared archive, while no lock is held.
 pub trait Gate {
-    /// The request's first turn has come back. Called once a request, also where that turn was refused.
+    /// The request's first turn has come back. Called once a request, also if that turn was refused.
     fn descended(&self, request: u64);
 
-    /// The request's reply is made. Called once a request, also where the reply is a refusal.
+    /// The request's reply is made. Called once a request, also if the reply is a refusal.
     fn answered(&self, request: u64);
 }
 

@@ -8,7 +8,7 @@ ghost use Rattle.interleaving_core.specs.Headline.{IsAnswered};
 ghost use Rattle.board.specs.Views.{View, BeginsView, with_seen};
 ghost use Rattle.query_threads.specs.Asking.{IsSameAnswer};
 
-/// A question that a pass asks again has the same answer: where its last moment was below the settled watermark of what
+/// A question that a pass asks again has the same answer: if its last moment was below the settled watermark of what
 /// the pass had seen at the first answer, that answer is the one over all that the pass sees later.
 pub fn answers_stay()
     ensures same { (v w : View) (query : Query) (first later : Answer) → BeginsView v w → last_moment query < settled v.past.history → IsAnswered (applied v.past.history) query first → IsAnswered (applied w.past.history) query later → IsSameAnswer first later }

@@ -7,7 +7,7 @@
 //!
 //!     ask   lock: a turn, and a look at the settled blocks     no lock: the blocks of the errand are read     lock: the next turn  ..
 //!
-//! What threads need of an archive is a trait ([`Store`]), so that their proofs wait for no archive. What it represents
+//! What threads need of an archive is a trait ([`Store`]), so that their proofs need no archive. What it represents
 //! is a relation with a past (a history, and the settled blocks), not its value. A call is a relation between the
 //! history before it and after it, with its answer; a trouble is one that a call on the archive returned, by a
 //! relation that each archive states itself, so threads can't make one up.
@@ -21,7 +21,7 @@
 //! promised of its archive ([`Unpromised`]), as of files: it calls the same code with nothing to prove. A look finds
 //! blocks by a function of numbers, a past has a list of them, since what a pass knows must be plain data; they agree
 //! on the numbers that the disk has. `Shared::new` takes a board that was opened before, so an archive is never handed
-//! back for memory.
+//! back when memory runs out.
 #![tactic(auto)]
 
 mod desk;

@@ -33,7 +33,7 @@ pub enum Trouble {
     /// No blank block is left.
     #[error("no block is left")]
     OnceFull,
-    /// A growth was refused.
+    /// An allocation failed.
     #[error("out of memory")]
     OutOfMemory,
 }
@@ -45,7 +45,7 @@ pub enum AdmitError {
     NoCollector,
     #[error("the batch has more than 262144 octets")]
     BatchTooLarge,
-    #[error("so many records can't be counted")]
+    #[error("too many records to count")]
     CounterFull,
     #[error("the intake is full")]
     IntakeFull,

@@ -9,7 +9,7 @@ ghost use Rattle.board.specs.Views.{View, Reached, IsCaughtUp, IsFrontOf, Begins
 ghost use Rattle.board.specs.Opened.{name_of};
 ghost use Rattle.query_threads.specs.Steps.{IsCrowded, DoesAdmit, DoesMark, DoesApply, DoesFlush, DoesReopen};
 ghost use Rattle.query_threads.specs.Looks.{IsErrandOn};
-ghost use Rattle.query_threads.specs.Turns.{TurnGives, IsReported, IsAbove};
+ghost use Rattle.query_threads.specs.Turns.{HoldsOnward, TurnGives, IsReported, IsAbove};
 ghost use Rattle.query_threads.specs.Seeing.{Sees, ComesOf, IsMissed};
 ghost use Rattle.query_threads.specs.Troubles.{IsOutside, OnAdmitTrouble, OnMarkTrouble, OnAskTrouble};
 
@@ -23,6 +23,10 @@ use route_model::{Admission, Mark};
 use std::alloc::Global;
 use std::marker::{Brand, Model, PhantomData};
 use std::sync::{Mutex, Wait};
+
+// How many turns of a question follow the first under one taking of the lock. A turn is one lookup, of some microseconds, or a leaf of
+// rows: so the lock is held for some milliseconds at most, and each change of the archive waits no longer for a question.
+const MORE_TURNS: u32 = 63;
 
 /// The archive, its words, and the gate that is called for questions. Contracts see how many collectors there are and how many pages each
 /// ring has.
@@ -102,7 +106,7 @@ impl<A: Store, N: Named + OnDisk<A::Disk>> Reader<A, N> {
 }
 
 impl<A: Store, N: Named + OnDisk<A::Disk>, G: Gate + Drop> Shared<A, N, G> {
-    /// Shares an archive, where this is the board named `N`. Where `N` names a disk, it is the archive's, as the pages of its rings
+    /// Shares an archive, if this is the board named `N`. If `N` names a disk, it is the archive's, as the pages of its rings
     /// are, and the pass knows the archive's past.
     pub fn new(opened: Opened, archive: A, gate: G) -> (Shared<A, N, G>, Pass<N>)
         requires named { name_of opened ≡ N.table }
@@ -232,7 +236,7 @@ impl<A: Store, N: Named + OnDisk<A::Disk>, G: Gate + Drop> Shared<A, N, G> {
         self.desk.lock(rt).reopen(&self.board, pass, alloc)
     }
 
-    /// Which call on a device of the archive failed, and why, in words for a person, once the lock is got; none where it has none.
+    /// Which call on a device of the archive failed, and why, in words for a person, once the lock is taken; none if it has none.
     pub fn failure(&self, rt: &impl Wait, alloc: Global) -> Option<String> {
         self.desk.lock(rt).failure(alloc)
     }
@@ -244,7 +248,8 @@ impl<A: Store, N: Named + OnDisk<A::Disk>, G: Gate + Drop> Shared<A, N, G> {
         }
     }
 
-    // A turn of a question. The lock is free again at its end; the end of the first turn is reported to the gate.
+    // Turns of a question under one taking of the lock, which is free again at their end: one at first, whose end is reported to the gate,
+    // and then as many as `MORE_TURNS` and one, so that a question of many lookups doesn't wait for the lock before each.
     fn turn(
         &self,
         rt: &impl Wait,
@@ -259,12 +264,13 @@ impl<A: Store, N: Named + OnDisk<A::Disk>, G: Gate + Drop> Shared<A, N, G> {
         ensures fits { IfOk result (λ turn. TurnGives (λ e. A.fits e.0 cursor.new) ⊤ (λ _. ⊤) turn) }
         ensures right { IsSome N.disk → IsHistory pass.new.past.history }
         ensures settled { IsSome N.disk → OnOk result (last_moment query.now < settled pass.new.past.history) }
-        ensures gives { IsSome N.disk → A.gathered cursor.old pass.new.past.history → IfOk result (λ turn. TurnGives (λ e. IfSome N.disk (IsErrandOn (λ errand. A.located errand cursor.new) A.honest A.block_count A.known pass.new.past e.0 e.1)) (A.gathered cursor.new pass.new.past.history) (λ answer. IsAnswered (applied pass.new.past.history) query.now answer) turn) }
+        ensures gives { IsSome N.disk → HoldsOnward A.gathered cursor.old pass.old.past.history → IfOk result (λ turn. TurnGives (λ e. IfSome N.disk (IsErrandOn (λ errand. A.located errand cursor.new) A.honest A.block_count A.known pass.new.past e.0 e.1)) (A.gathered cursor.new pass.new.past.history) (λ answer. IsAnswered (applied pass.new.past.history) query.now answer) turn) }
         ensures reported { IsSome N.disk → IfErr result (λ e. IsReported e pass.new.past.history query.now) }
         ensures trouble { IfErr result (OnAskTrouble (λ t. ComesOf N.disk A.disk_of A.represents (λ a b. A.reports a t b) pass.old pass.new)) }
         ensures not_refused { IsSome N.disk → IfErr result (λ e. IsAbove e → watermark_of pass.old ≤ last_moment query.now) }
     {
-        let reported = self.desk.lock(rt).turn(&self.board, pass, cursor);
+        let more = if unreported.is_some() { 0 } else { MORE_TURNS };
+        let reported = self.desk.lock(rt).turns(&self.board, pass, cursor, more);
         self.descended(unreported);
         reported
     }

@@ -22,7 +22,7 @@ use std::alloc::Global;
 use std::marker::{Brand, PhantomData};
 
 /// What is promised of a shared archive: that it represents a past, with its blocks on this disk, and that each of its rings has `pages`
-/// pages. With no disk nothing is promised of it, as where its devices aren't known to follow their models. Each call of a program picks
+/// pages. With no disk nothing is promised of it, as when its devices aren't known to follow their models. Each call of a program picks
 /// it.
 pub trait OnDisk<D> {
     /// The disk of its blocks, or none.
@@ -59,7 +59,7 @@ impl<B, D> OnDisk<D> for Unpromised<B> {
 
 /// An archive, as threads use it.
 pub trait Store {
-    /// The disk that the blocks are on. It stands in proofs alone.
+    /// The disk that the blocks are on. It is in proofs alone.
     type Disk;
 
     /// Blocks that a reader keeps.
@@ -74,7 +74,7 @@ pub trait Store {
     /// A question in progress.
     type Cursor: Drop;
 
-    /// What is stored stands for this past; after a failed write or sync, what is found when it is opened again stands
+    /// What is stored represents this past; after a failed write or sync, what is found when it is opened again stands
     /// for one that this begins.
     ghost represents: { Self → Past → Type 0 };
 
@@ -96,7 +96,7 @@ pub trait Store {
     /// The look was one at this disk, which follows its model.
     ghost honest: { Self.Disk → Self.Seen → Type 0 };
 
-    /// The octets of the block of this number, where a look found it settled.
+    /// The octets of the block of this number, if a look found it settled.
     ghost known: { Self.Seen → ℕ → Option (List ℕ) };
 
     /// The question.

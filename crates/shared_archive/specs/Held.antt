@@ -74,7 +74,7 @@ pub record ShutPast {E O Pen Seen : Type 0} (erase : EraseGhosts E) (once : Once
   pub here : s.disks ≡ Some disks
   pub lacks : Lacks erase once s disks p
 
--- What it holds stands for the past. Where it isn't open, what is found when it is opened stands for one that this begins.
+-- It represents the past. If it isn't open, what is found when it is opened represents one that this begins.
 abbrev pub HoldsPast : {E O Pen Seen : Type 0} {erase : EraseGhosts E} {once : OnceGhosts O Pen Seen} → Held E O Pen Seen erase once → Past → Type 0
 HoldsPast (Open a) p = RepresentsPast a p
 HoldsPast {erase = erase} {once = once} (Closed s) p = ShutPast erase once s p
@@ -89,7 +89,7 @@ abbrev pub LacksPast : {E O Pen Seen : Type 0} {erase : EraseGhosts E} {once : O
 LacksPast (Open a) disks p = ⊥
 LacksPast {erase = erase} {once = once} (Closed s) disks p = Lacks erase once s disks p
 
--- A call was refused for this trouble: where the archive is open, as `Reports` says, and else because it must be opened again.
+-- A call was refused for this trouble: if the archive is open, as `Reports` says, and else because it must be opened again.
 abbrev pub HeldReports : {E O Pen Seen : Type 0} {erase : EraseGhosts E} {once : OnceGhosts O Pen Seen} → Held E O Pen Seen erase once → Trouble → Held E O Pen Seen erase once → Type 0
 HeldReports (Open a) trouble (Open b) = Reports a trouble b
 HeldReports (Open a) trouble (Closed t) = ⊥

@@ -23,7 +23,7 @@ abbrev pub StaysUp : {E O Pen Seen : Type 0} {erase : EraseGhosts E} {once : Onc
 StaysUp a b = (is_down a ≡ false) × (is_down b ≡ false)
 
 -- A call returned this trouble, of the archive as it was and as the call left it: one of its disks counted a failure; it must be opened
--- again; or it needn't be, before or after, and a page is damaged, which none is where it goes on with a history; or a change isn't applied,
+-- again; or it needn't be, before or after, and a page is damaged, which none is if it goes on with a history; or a change isn't applied,
 -- since as many changes are applied as can be counted, or the tree has as many levels as it may have, or fewer than nine pages were never
 -- used, or no block is blank any more; or it was out of memory. No call on it alone blames a block.
 abbrev pub Reports : {E O Pen Seen : Type 0} {erase : EraseGhosts E} {once : OnceGhosts O Pen Seen} → Archive E O Pen Seen erase once → Trouble → Archive E O Pen Seen erase once → Type 0

@@ -21,7 +21,7 @@ use route_model::{Admission, Mark};
 use std::alloc::{AllocError, Global};
 use std::sync::Arc;
 
-// A new place for why both disks fail. None where there is no memory for it: then they go on with the old one.
+// A new place for why both disks fail. None if there is no memory for it: then they go on with the old one.
 fn note_anew(
     disks: &mut Disks<FileErase, FileOnce>,
     failures: &Failures,

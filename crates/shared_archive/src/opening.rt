@@ -86,7 +86,7 @@ fn open_synced<E: EraseDisk + Drop, O: OnceDisk + Drop>(
     }
 }
 
-/// Opens disks as an archive with rings of `ring` pages, once all that was written is on the device. Where that fails they are handed
+/// Opens disks as an archive with rings of `ring` pages, once all that was written is on the device. If that fails they are handed
 /// back, and represent what they represented.
 pub(crate) fn open<E: EraseDisk + Drop, O: OnceDisk + Drop>(
     alloc: Global,

@@ -40,7 +40,7 @@ returns-in-Done-clause-begins g c = since_then c.args.pass.now c.loop.pass c.tur
 pub returns-in-Done-clause-answer : goal.returns-in-Done-clause-answer
 returns-in-Done-clause-answer g c named =
     let p = c.turn.new.pass.past in
-    let gathered = c.loop.invariant.gathered named p.history c.turn.ensures.begins.past.begins in
+    let gathered = c.loop.invariant.gathered named in
     subst (λ t. TurnGives (λ e. IfSome g.N.OnDisk.disk (IsErrandOn (λ errand. g.A.Store.located errand c.turn.new.cursor) g.A.Store.honest g.A.Store.block_count g.A.Store.known p e.0 e.1)) (g.A.Store.gathered c.turn.new.cursor p.history) (λ answer. IsAnswered (applied p.history) c.args.query answer) t)
     c.in-Done.is (c.in_ok-turn.ensures.gives named gathered)
 
@@ -58,7 +58,7 @@ loop-preserved-in-Again g c =
       asks = c.turn.ensures.asks;
       gathered = λ named h later.
           let here = subst (λ t. TurnGives (λ e. IfSome g.N.OnDisk.disk (IsErrandOn (λ errand. g.A.Store.located errand c.turn.new.cursor) g.A.Store.honest g.A.Store.block_count g.A.Store.known p e.0 e.1)) (g.A.Store.gathered c.turn.new.cursor p.history) (λ answer. IsAnswered (applied p.history) c.args.query answer) t)
-          c.in-Again.is (e.gives named (i.gathered named p.history begins.past.begins)) in
+          c.in-Again.is (e.gives named (i.gathered named)) in
           let low = subst (λ q. last_moment q < settled p.history) (sym c.turn.ensures.asks) (e.settled named) in
           g.met.A.Store.stays c.turn.new.cursor p.history h (c.turn.ensures.right named) later low here;
     }
@@ -72,7 +72,7 @@ returns-in_err-finish-in-Historical-clause-reader g c named =
     let p = c.turn.new.pass.past in
     let begins = c.turn.ensures.begins in
     let reported = subst (λ t. TurnGives (λ e. IfSome g.N.OnDisk.disk (IsErrandOn (λ errand. g.A.Store.located errand c.turn.new.cursor) g.A.Store.honest g.A.Store.block_count g.A.Store.known p e.0 e.1)) (g.A.Store.gathered c.turn.new.cursor p.history) (λ answer. IsAnswered (applied p.history) c.args.query answer) t)
-    c.in-Historical.is (c.in_ok-turn.ensures.gives named (i.gathered named p.history begins.past.begins)) in
+    c.in-Historical.is (c.in_ok-turn.ensures.gives named (i.gathered named)) in
     c.finish.ensures.kept named p reported (λ n octets is. begins.past.blocks n octets (i.reader named n octets is))
 
 pub returns-in_err-finish-in-Historical-clause-begins : goal.returns-in_err-finish-in-Historical-clause-begins
@@ -84,7 +84,7 @@ returns-in_err-finish-in-Historical-clause-reported g c named =
     let p = c.turn.new.pass.past in
     let begins = c.turn.ensures.begins in
     let reported = subst (λ t. TurnGives (λ e. IfSome g.N.OnDisk.disk (IsErrandOn (λ errand. g.A.Store.located errand c.turn.new.cursor) g.A.Store.honest g.A.Store.block_count g.A.Store.known p e.0 e.1)) (g.A.Store.gathered c.turn.new.cursor p.history) (λ answer. IsAnswered (applied p.history) c.args.query answer) t)
-    c.in-Historical.is (c.in_ok-turn.ensures.gives named (i.gathered named p.history begins.past.begins)) in
+    c.in-Historical.is (c.in_ok-turn.ensures.gives named (i.gathered named)) in
     let outside = c.in_err-finish-in-Historical.ensures.sound named p reported (λ n octets is. begins.past.blocks n octets (i.reader named n octets is)) in
     let why = err_from_is_err_and c.from_residual-in_err-finish-in-Historical.result c.from_residual-in_err-finish-in-Historical.ensures.1 in
     subst (λ (r : Result Answer AskError). IfErr r (λ e. IsReported e p.history c.args.query)) (sym why.1) (subst (λ (e : AskError). IsReported e p.history c.args.query) (sym why.2) outside)
@@ -95,7 +95,7 @@ returns-in_err-finish-in-Historical-clause-trouble g c =
     let w = c.turn.new.pass in
     let begins = c.turn.ensures.begins in
     let reported = λ (named : IsSome g.N.OnDisk.disk). subst (λ t. TurnGives (λ e. IfSome g.N.OnDisk.disk (IsErrandOn (λ errand. g.A.Store.located errand c.turn.new.cursor) g.A.Store.honest g.A.Store.block_count g.A.Store.known w.past e.0 e.1)) (g.A.Store.gathered c.turn.new.cursor w.past.history) (λ answer. IsAnswered (applied w.past.history) c.args.query answer) t)
-    c.in-Historical.is (c.in_ok-turn.ensures.gives named (i.gathered named w.past.history begins.past.begins)) in
+    c.in-Historical.is (c.in_ok-turn.ensures.gives named (i.gathered named)) in
     let look = look_at g.N.OnDisk.disk (λ errand. g.A.Store.located errand c.turn.new.cursor) g.A.Store.honest g.A.Store.block_count g.A.Store.known w.past c.in-Historical.errand c.in-Historical.seen reported in
     let why = err_from_is_err_and c.from_residual-in_err-finish-in-Historical.result c.from_residual-in_err-finish-in-Historical.ensures.1 in
     let Q = λ (t : Trouble). ComesOf g.N.OnDisk.disk g.A.Store.disk_of g.A.Store.represents (λ a b. g.A.Store.reports a t b) c.args.pass.now w ⊎ IsMissed g.N.OnDisk.disk g.A.Store.honest g.A.Store.block_count g.A.Store.known w.past.blocks (λ a b. g.A.Store.misses a t b) in
@@ -110,7 +110,7 @@ loop-preserved g c =
     let f = c.in_ok-finish-in-Historical.ensures in
     let asks = f.asks ∙ c.turn.ensures.asks in
     let reported = λ (named : IsSome g.N.OnDisk.disk). subst (λ t. TurnGives (λ e. IfSome g.N.OnDisk.disk (IsErrandOn (λ errand. g.A.Store.located errand c.turn.new.cursor) g.A.Store.honest g.A.Store.block_count g.A.Store.known p e.0 e.1)) (g.A.Store.gathered c.turn.new.cursor p.history) (λ answer. IsAnswered (applied p.history) c.args.query answer) t)
-    c.in-Historical.is (c.in_ok-turn.ensures.gives named (i.gathered named p.history begins.past.begins)) in
+    c.in-Historical.is (c.in_ok-turn.ensures.gives named (i.gathered named)) in
     let kept = λ (named : IsSome g.N.OnDisk.disk) (n : ℕ) (octets : List ℕ) (is : IsBlock n octets c.loop.reader). begins.past.blocks n octets (i.reader named n octets is) in
     record {
       next = tt;
