@@ -429,7 +429,7 @@ fn expect_pure(rt: &impl Abort, alloc: Global, first: u64) {
     be(rt, counts.is_some(), "answers as the machine's");
     let counts = counts.unwrap_or(NOTHING);
     be(rt, counts.answers == 800, "answers");
-    be(rt, counts.reporting >= 200, "answers that tell something");
+    be(rt, counts.reporting >= 200, "answers with rows");
     be(rt, counts.beyond >= 100, "answers after a place");
     be(rt, counts.applied >= 1_000, "steps of applying");
     be(rt, counts.flushed >= 1_500, "pages that are flushed");

@@ -45,7 +45,31 @@ impl Gathered {
         self.add(text.as_bytes());
     }
 
+    /// Adds four hexadecimal digits, those of a number.
+    fn add_digits(&mut self, number: u16) {
+        match format!(in self.alloc; "{number:04X}") {
+            Ok(text) => self.add_text(text.as_str()),
+            Err(_) => self.is_whole = false,
+        }
+    }
+
+    /// Adds a text once for each number from 1 to a count, whose digits take the place of `#`.
+    fn add_numbered(&mut self, times: &Times<'_>) {
+        let Some((front, rest)) = times.of.split_once('#') else {
+            self.is_whole = false;
+            return;
+        };
+        for number in 0..times.count {
+            self.add_text(front);
+            self.add_digits(number.saturating_add(1));
+            self.add_text(rest);
+        }
+    }
+
     fn add_times(&mut self, text: &str) {
+        if let Some(times) = Times::read(text, " each ") {
+            return self.add_numbered(&times);
+        }
         let Some(times) = Times::read(text, " x ") else {
             self.is_whole = false;
             return;
@@ -55,7 +79,7 @@ impl Gathered {
         }
     }
 
-    /// Adds a text in which `<3 x ab>` stands for `ababab`.
+    /// Adds a text in which `<3 x ab>` stands for `ababab`, and `<2 each ab#>` for `ab0001ab0002`.
     pub(crate) fn add_written_out(&mut self, text: &str) {
         for piece in text.split('>') {
             match piece.split_once('<') {

@@ -16,6 +16,8 @@ mod desk;
 #[cfg(test)]
 mod disks;
 #[cfg(test)]
+mod failing;
+#[cfg(test)]
 mod failures;
 #[cfg(test)]
 mod feeds;

@@ -2,10 +2,12 @@
 
 use crate::damaged::damaged;
 use crate::disks::{MemArchive, created, reopened};
+use crate::failing::reopened_to_fail;
 use crate::files::file_of;
 use crate::gathered::Gathered;
 use crate::scripts::Script;
 use crate::scripts::damage::DAMAGE;
+use crate::scripts::failed::FAILED;
 use crate::scripts::full::FULL;
 use crate::scripts::loads::LOADS;
 use crate::scripts::marks::MARKS;
@@ -186,15 +188,24 @@ fn run_line(alloc: Global, archive: &mut MemArchive, line: &str, most: usize) ->
     }
 }
 
+/// The archive that is opened anew for a command line. Where the line before says so, a call of a disk fails from then on.
+fn opened_after(alloc: Global, archive: MemArchive, before: &str) -> Option<MemArchive> {
+    match before.strip_prefix(FAILS) {
+        Some(call) => reopened_to_fail(alloc, archive, call),
+        None => reopened(alloc, archive),
+    }
+}
+
 /// The archive after a command line, for which it is opened anew. What the command line shows is added.
 fn after_command(
     alloc: Global,
     archive: MemArchive,
+    before: &str,
     line: &str,
     most: usize,
     shown: &mut Gathered,
 ) -> Option<MemArchive> {
-    let Some(mut archive) = reopened(alloc, archive) else {
+    let Some(mut archive) = opened_after(alloc, archive, before) else {
         return None;
     };
     let Some(ran) = run_line(alloc, &mut archive, line, most) else {
@@ -204,6 +215,9 @@ fn after_command(
     Some(archive)
 }
 
+/// What a line begins with that says which call of a disk fails in the next command line.
+const FAILS: &str = "~ fails: ";
+
 /// The archive after a line that changes its disks. Another line changes nothing.
 fn after_damage(
     alloc: Global,
@@ -211,6 +225,10 @@ fn after_damage(
     line: &str,
     shown: &mut Gathered,
 ) -> Option<MemArchive> {
+    if line.starts_with(FAILS) {
+        shown.add_line(line);
+        return Some(archive);
+    }
     match line.strip_prefix("~ ") {
         Some(text) => {
             shown.add_line(line);
@@ -220,16 +238,17 @@ fn after_damage(
     }
 }
 
-/// The archive after a line of a script. What only shows something changes nothing.
+/// The archive after a line of a script, and the line before it. What only shows something changes nothing.
 fn after(
     alloc: Global,
     archive: MemArchive,
+    before: &str,
     line: &str,
     most: usize,
     shown: &mut Gathered,
 ) -> Option<MemArchive> {
     match line.strip_prefix("$ ") {
-        Some(command) => after_command(alloc, archive, command, most, shown),
+        Some(command) => after_command(alloc, archive, before, command, most, shown),
         None => after_damage(alloc, archive, line, shown),
     }
 }
@@ -240,11 +259,13 @@ fn show(alloc: Global, script: &Script, most: usize, shown: &mut Gathered) -> Op
         return None;
     };
     let mut commands = 0u64;
+    let mut before = "";
     for line in script.shown.lines() {
-        let Some(next) = after(alloc, archive, line, most, shown) else {
+        let Some(next) = after(alloc, archive, before, line, most, shown) else {
             return None;
         };
         archive = next;
+        before = line;
         if line.starts_with("$ ") {
             commands = commands.saturating_add(1);
         }
@@ -362,6 +383,12 @@ fn full_archives_are_played(rt: HostRuntime) {
 fn damage_is_played(rt: HostRuntime) {
     let count = play_all(&rt, rt.alloc(), &DAMAGE, WHOLE);
     be(&rt, count.scripts == 4 && count.commands == 34, "damage");
+}
+
+#[test]
+fn failures_are_played(rt: HostRuntime) {
+    let count = play_all(&rt, rt.alloc(), &FAILED, WHOLE);
+    be(&rt, count.scripts == 4 && count.commands == 23, "failures");
 }
 
 #[test]

@@ -2,6 +2,7 @@
 //! by hand from the octets of the records.
 
 pub(crate) mod damage;
+pub(crate) mod failed;
 pub(crate) mod full;
 pub(crate) mod loads;
 pub(crate) mod marks;
@@ -22,7 +23,8 @@ pub(crate) struct Script {
     /// The command lines after `$ `, the file of a `load` being the names of its records. After each its lines, then what standard error
     /// shows after `! `, then the status where it isn't 0. `1..4 x ROW` stands for three lines with 1, 2 and 3 for `#`, and in a line
     /// `<3 x ab>` for `ababab`. After `~ ` stands which octets of the disks become others: of a home page, of a block whose digest stays, or
-    /// of one that gets the digest of what it is then (`sealed`).
+    /// of one that gets the digest of what it is then (`sealed`). After `~ fails: ` stands which call of a disk fails in the next command
+    /// line, as `sync 3`: its number among those of its kind, from 0, those of the opening too.
     pub(crate) shown: &'static str,
 }
 

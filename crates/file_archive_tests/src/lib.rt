@@ -1,11 +1,14 @@
 //! Tests of archives in folders: what creating one leaves there, what opening one reports, and what stays over a reopening.
 //!
 //! Each test has a folder of its own in the system, named by test and process. Some write other octets into its files first, or hold them.
-//! `session` is a table of commands, each of which opens the archive anew, and of the lines that it writes.
+//! `session` is a table of commands, each of which opens the archive anew, and of the lines that it writes; `damaged` one of octets that are
+//! changed, and of what is shown then.
 #![tactic(auto)]
 
 #[cfg(test)]
 mod created;
+#[cfg(test)]
+mod damaged;
 #[cfg(test)]
 mod folders;
 #[cfg(test)]

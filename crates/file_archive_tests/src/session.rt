@@ -75,14 +75,14 @@ E|3\n",
     (Command::Check, "ok|10|1704068100\n"),
 ];
 
-/// Gives a feed of a collector to an archive, whose lines go to `lines`, with the mark 00:15:00.
-fn give<A: RouteArchive>(
+/// Gives the octets of a feed of a collector to an archive, whose lines go to `out`, with the mark 00:15:00.
+pub(crate) fn give_octets<A: RouteArchive>(
     alloc: Global,
     archive: &mut A,
     collector: u8,
-    feed: &str,
+    octets: &[u8],
     out: &mut Vec<u8>,
-) -> Option<Status> {
+) -> Status {
     let how = LoadSettings {
         feed: FeedSettings {
             collector,
@@ -93,12 +93,23 @@ fn give<A: RouteArchive>(
         resume: false,
         strict: false,
     };
-    let feed = octets(alloc, feed).ok()?;
-    let mut files = [FileLoad::new(feed.as_slice())];
+    let mut files = [FileLoad::new(octets)];
     let mut err = Vec::new(alloc);
     let mut lines = Output::new(out);
     let mut refusals = Output::new(&mut err);
-    Some(load(alloc, archive, how, &mut files, &mut lines, &mut refusals))
+    load(alloc, archive, how, &mut files, &mut lines, &mut refusals)
+}
+
+/// The same of a feed in hexadecimal digits.
+fn give<A: RouteArchive>(
+    alloc: Global,
+    archive: &mut A,
+    collector: u8,
+    feed: &str,
+    out: &mut Vec<u8>,
+) -> Option<Status> {
+    let feed = octets(alloc, feed).ok()?;
+    Some(give_octets(alloc, archive, collector, &feed, out))
 }
 
 /// Runs a command over an archive, whose lines go to `out`. What goes to standard error is left out.

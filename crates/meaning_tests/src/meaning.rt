@@ -338,7 +338,7 @@ fn placed_admissions_report_whose_they_are(rt: HostRuntime) {
     be(
         &rt,
         placed_text(&rt, alloc, &list).as_str() == " 0@5*1 1@5*1 0@6*1",
-        "placed admissions tell whose they are",
+        "placed admissions have their collector",
     );
 }
 

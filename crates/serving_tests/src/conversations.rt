@@ -4,7 +4,7 @@ ghost use Rattle.std.specs.Prelude.{◌≡◌, ◌≤◌};
 ghost use Rattle.board.specs.Opened.{name_of};
 
 use crate::be;
-use crate::made::{COLLECTORS, empty_store};
+use crate::made::{COLLECTORS, empty_store, failing_store};
 use board::{Named, Opened, Pass};
 use line_reader::LineReader;
 use query_threads::{NoGate, Reader, Shared, Unpromised};
@@ -121,6 +121,22 @@ const CONVERSATIONS: [Conversation; 12] = [
     },
 ];
 
+/// Connections to an archive whose device fails at the first commit, and which nobody opens again.
+const REFUSED: [Conversation; 2] = [
+    Conversation {
+        port: ALL,
+        sent: b"mark 0 1704067201\nmark 0 1704067201\nat 0 all\nwatermark\ndurable 0\nmark 1 5\n",
+        reported: "X|1|Fault\nX|5|NeedsRecovery\nX|5|NeedsRecovery\nS|0\nN|0\nX|5|NeedsRecovery\n",
+        ending: Ending::Done,
+    },
+    Conversation {
+        port: READ_ONLY,
+        sent: b"at 0 all\nwatermark\nquit\n",
+        reported: "X|5|NeedsRecovery\nS|0\nok\n",
+        ending: Ending::Done,
+    },
+];
+
 /// Whether a connection receives this and ends so.
 fn is_so<B: Named>(
     rt: &impl Wait,
@@ -155,34 +171,53 @@ fn count_right<B: Named>(
     alloc: Global,
     stage: &Stage<B>,
     first: &mut Pass<Unpromised<B>>,
+    conversations: &[Conversation],
 ) -> Option<usize> {
-    for (place, it) in CONVERSATIONS.iter().enumerate() {
+    for (place, it) in conversations.iter().enumerate() {
         if !is_so(rt, alloc, stage, first, it)? {
             return Some(place);
         }
     }
-    Some(CONVERSATIONS.len())
+    Some(conversations.len())
 }
 
-fn play<B: Named>(rt: &impl Wait, alloc: Global, opened: Opened, store: MemStore) -> Option<usize>
+fn play<B: Named>(
+    rt: &impl Wait,
+    alloc: Global,
+    opened: Opened,
+    store: MemStore,
+    conversations: &[Conversation],
+) -> Option<usize>
     requires named { name_of opened ≡ B.table }
     requires some { 1 ≤ opened.collectors }
 {
     let (stage, mut first): (Stage<B>, Pass<Unpromised<B>>) = Shared::new(opened, store, NoGate);
-    let right = count_right(rt, alloc, &stage, &mut first);
+    let right = count_right(rt, alloc, &stage, &mut first, conversations);
     let _store = stage.close(Vec::new(alloc));
     right
 }
 
-/// How many of the connections to an empty archive are as they should be.
-fn played(rt: &impl Wait, alloc: Global) -> Option<usize> {
-    let store = empty_store(alloc)?;
+/// How many of the connections to an archive are as they should be.
+fn played(
+    rt: &impl Wait,
+    alloc: Global,
+    store: MemStore,
+    conversations: &[Conversation],
+) -> Option<usize> {
     let opened = Opened::new(alloc, COLLECTORS).ok()?;
-    play::<Brand>(rt, alloc, opened, store)
+    play::<Brand>(rt, alloc, opened, store, conversations)
 }
 
 #[test]
 fn connections_are_replied_what_they_ask(rt: HostRuntime) {
-    let right = played(&rt, rt.alloc());
+    let store = empty_store(rt.alloc()).expect(&rt, "an archive");
+    let right = played(&rt, rt.alloc(), store, &CONVERSATIONS);
     be(&rt, right == Some(CONVERSATIONS.len()), "all connections");
+}
+
+#[test]
+fn a_failed_device_is_reported_until_the_archive_is_opened_again(rt: HostRuntime) {
+    let store = failing_store(rt.alloc()).expect(&rt, "an archive");
+    let right = played(&rt, rt.alloc(), store, &REFUSED);
+    be(&rt, right == Some(REFUSED.len()), "all connections");
 }

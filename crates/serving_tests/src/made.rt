@@ -2,7 +2,7 @@
 
 use archive_pages::Settings;
 use disk_archive::Archive;
-use disk_memory::{MemErase, MemOnce};
+use disk_memory::{Failure, MemErase, MemOnce};
 use disk_models::EraseDisk;
 use shared_archive::MemStore;
 use std::alloc::Global;
@@ -96,6 +96,17 @@ pub(crate) fn store_of(alloc: Global, made: &Made) -> Option<MemStore> {
 /// An archive with room for what clients give.
 pub(crate) fn empty_store(alloc: Global) -> Option<MemStore> {
     store_of(alloc, &PLAIN)
+}
+
+/// Such an archive, of which the first commit's last sync fails.
+pub(crate) fn failing_store(alloc: Global) -> Option<MemStore> {
+    let (mut erase, once, pen) = created(alloc, &PLAIN)?.into_disks();
+    // An opening that finds nothing to recover syncs twice, and so does a commit.
+    erase.set_script(vec![in alloc; Failure::Sync(3)].ok()?);
+    match Archive::open(alloc, erase, once, pen) {
+        Ok(archive) => Some(MemStore::new(archive)),
+        Err(_) => None,
+    }
 }
 
 /// How many blocks were burnt.
