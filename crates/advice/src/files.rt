@@ -44,7 +44,7 @@ pub enum FileAdvice<'a> {
         late: u64,
         records: u64,
     },
-    /// Many of its records were refused. Where entries without a next hop aren't left out, this may be of them.
+    /// Many of its records were refused. If entries without a next hop aren't left out, this may be of them.
     Refused {
         file: &'a str,
         refused: u64,

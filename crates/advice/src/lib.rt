@@ -1,16 +1,16 @@
-//! Words for people on standard error, after the first lines, which programs read: what is wrong with a file or a text, and what helps.
+//! Messages for people on standard error, after the first lines, which programs read: what is wrong with a file or a text, and what helps.
 //!
 //!     after                            what is printed                                              module
 //!     a file was loaded                it is packed or text; late, refused or skipped records       files, loads
 //!     a load that was refused          which size of the archive is used up, and what helps         loads, limits
 //!     a creation that was refused      how many pages are needed, or that files are too large       limits
 //!     a mark, a collector, an option   the present mark, how many there are, what a text must be    marks
-//!     a line that isn't answered       the first word that isn't understood, and what is due there  questions, requests, forms
+//!     a line that isn't answered       the first word that isn't valid, and what is expected there  questions, requests, forms
 //!     an archive in use                the process that has it, by the lines of /proc/locks         locks
 //!     files that hold no archive       which size or page isn't that of one                         unnamed
 //!     a load that ended early          the files after the one at which it ended                    unread
 //!
-//! Each piece of advice is a value with a `Display`, and `advise` prints it as one line, `rha: WORDS`. Nothing is done by it: it changes no
+//! Each piece of advice is a value with a `Display`, and `advise` prints it as one line, `rha: WORDS`. It has no other effect: it changes no
 //! exit status and no line that programs read. If there is no memory for the words, nothing is printed.
 //!
 //! Which counts of a feed are in doubt is decided in service (`doubts_of`, `is_far`), so advice is printed of the doubts by which a strict

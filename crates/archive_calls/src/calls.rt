@@ -26,7 +26,7 @@ pub trait RouteArchive {
         ensures some { 1 ≤ result }
         ensures few { result ≤ 16 };
 
-    /// The most octets that a batch may have: [`crate::MAX_BATCH_LEN`], or those of a ring where these are fewer. Each
+    /// The most octets that a batch may have: [`crate::MAX_BATCH_LEN`], or those of a ring if these are fewer. Each
     /// admission fits.
     fn batch_limit(&self) -> usize
         ensures most { result ≡ most self.now }
@@ -38,7 +38,7 @@ pub trait RouteArchive {
         ensures settled { (h : History) → represents self.now h → result ≡ settled h };
 
     /// Where the collector goes on, if there is one of this number.
-    // No `requires` forbids another number: where an archive represents no history, no clause says how many there are.
+    // No `requires` forbids another number: if an archive represents no history, no clause states how many there are.
     fn resume(&self, collector: u8) -> Option<Resume>
         ensures resume { (h : History) → represents self.now h → result ≡ slice_get (map resume_of h.intakes) collector };
 
@@ -54,7 +54,7 @@ pub trait RouteArchive {
         ensures done { (h : History) → represents self.old h → (g : History) × represents self.new g × DoesMark collector mark result h g }
         ensures most { most self.new ≡ most self.old };
 
-    /// Applies what is next: the next change of the first admission that waits, where that is below every mark, and perhaps
+    /// Applies what is next: the next change of the first admission that waits, if that is below every mark, and perhaps
     /// some more. An admission without changes is applied at once.
     fn apply_step(&mut self) -> Result<Step, Trouble>
         ensures done { (h : History) → represents self.old h → (g : History) × represents self.new g × DoesApply result h g }
@@ -78,8 +78,8 @@ pub trait RouteArchive {
         ensures represents { (h : History) → represents self.old h → represents self.new h }
         ensures most { most self.new ≡ most self.old };
 
-    /// Which call on a device failed first, and why, in words for a person: of what they are no clause speaks. None where none failed,
-    /// where it isn't known, or where there is no memory for the words.
+    /// Which call on a device failed first, and why, in words for a person: of what they are no clause speaks. None if none failed,
+    /// if it isn't known, or if there is no memory for the words.
     fn failure(&self, _alloc: Global) -> Option<String> {
         None
     }

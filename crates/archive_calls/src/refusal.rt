@@ -35,7 +35,7 @@ pub enum Trouble {
     /// This many changes can't be counted.
     #[error("the count of applied changes is full")]
     CounterFull,
-    /// A growth of memory was refused.
+    /// An allocation failed.
     #[error("out of memory")]
     OutOfMemory,
 }

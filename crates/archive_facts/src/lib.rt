@@ -1,5 +1,5 @@
-//! What is shown of an archive: how far it has come, and how much room it has left. This crate reads no file: it knows which octets of
-//! `pages.rha` and `once.rha` are read for that, what they mean, and how `rha info` shows it, as lines or as one line of JSON.
+//! The facts that `info` shows: what is applied, and how much room is left. This crate reads no file: it knows which octets of
+//! `pages.rha` and `once.rha` are read for that, what they represent, and how `rha info` shows it, as lines or as one line of JSON.
 //!
 //!     page of pages.rha    0           1 + 33 s                  265     266 ..                     after the rings
 //!                          identity    gate of slot s, 0 to 7    head    the rings of collectors    the tree
@@ -14,7 +14,7 @@
 //!     pages         home pages that were ever used                those of the identity
 //!     blocks        those before the first that was never tried   those of the identity
 //!     slots         open gates (octet A5) before the opening      8
-//!     ring          octets of waiting admissions                  octets of the ring's pages
+//!     ring          octets of pending admissions                  octets of the ring's pages
 //!
 //! Slots are counted before the archive is opened, since an opening closes them; all other facts are read after it, when each page is
 //! home. Times and marks are seconds since 1970, and lines show them as dates (RFC 3339, UTC) too.

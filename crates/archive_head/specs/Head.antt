@@ -8,7 +8,7 @@ use Rattle.archive_head.specs.declared.lane.Lane.{Lane}
 pub record Contents : Type 0 where
   -- how many changes are applied: the next one has this order number
   pub applied : ℕ
-  -- the time of the last change that is applied, 0 where there is none
+  -- the time of the last change that is applied, 0 if there is none
   pub last : ℕ
   -- how many changes are applied of the admission that is being applied
   pub begun : ℕ

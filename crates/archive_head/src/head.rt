@@ -9,7 +9,7 @@ use std::marker::Model;
 pub struct Head {
     /// How many changes are applied. The next one has this order number: the first has 0.
     pub applied: u64,
-    /// The time of the last change that is applied, 0 where there is none.
+    /// The time of the last change that is applied, 0 if there is none.
     pub last: Moment,
     /// How many changes are applied of the admission that is being applied.
     pub begun: u64,

@@ -1,4 +1,4 @@
-//! The head of an archive: what the archive keeps of itself on its first home page, besides its rings and its tree.
+//! The head of an archive, on its first home page: counts, marks, and where its rings and its tree are.
 //!
 //! Each number has 8 octets. After the last collector all is zero:
 //!
@@ -9,11 +9,11 @@
 //!     offered    admitted   mark       first      used       24 zeros      (of collector c)
 //!
 //! No greatest stamp is stored: order numbers begin with 0, and the time of the last applied change together with the
-//! next order number is the least stamp that a version to come may have. How many collectors there are isn't stored
-//! here but in the journal's note, and is given to the reader: a head of two collectors is none of one, since what
+//! next order number is the least stamp that a later version may have. How many collectors there are isn't stored
+//! here but in the journal's note, and is given to the reader: a head of two collectors isn't one of one, since what
 //! follows the last one must be zero.
 //!
-//! What was read is encoded again and compared. A time or a mark above its limit is no head. Whether the pages and
+//! What was read is encoded again and compared. A page with a time or a mark above its limit is no head. Whether the pages and
 //! the places in rings that a head names are there is tested when the archive is opened, which knows how large the
 //! disk is.
 #![tactic(auto)]

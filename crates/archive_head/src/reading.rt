@@ -12,7 +12,7 @@ use route_model::octets::u64_at;
 use route_model::{Mark, Moment};
 use std::alloc::{AllocError, Global};
 
-// What is kept of a collector at a place, or none where its mark is none.
+// What is kept of a collector at a place, or none if its mark is none.
 fn read_lane(octets: &[u8], place: usize) -> Option<Lane>
     requires room { place + 64 ≤ length octets.now }
     ensures lane { IfSome result (λ lane. lane ≡ lane_at octets.now place) }
@@ -29,7 +29,7 @@ fn read_lane(octets: &[u8], place: usize) -> Option<Lane>
     })
 }
 
-// What is kept of `count` collectors, or none where a mark is none.
+// What is kept of `count` collectors, or none if a mark is none.
 fn read_lanes(alloc: Global, octets: &[u8], count: usize) -> Result<Option<Vec<Lane>>, AllocError>
     requires few { count ≤ 16 }
     requires room { length octets.now ≡ 16384 }
@@ -48,7 +48,7 @@ fn read_lanes(alloc: Global, octets: &[u8], count: usize) -> Result<Option<Vec<L
     Ok(Some(lanes))
 }
 
-// What all places of a page say, or none where a mark or a time is none.
+// What all places of a page say, or none if a mark or a time is none.
 fn read_places(alloc: Global, octets: &[u8], count: usize) -> Result<Option<Head>, AllocError>
     requires few { count ≤ 16 }
     requires room { length octets.now ≡ 16384 }
@@ -88,8 +88,8 @@ impl Head {
     ghost use Rattle.route_model.specs.Octets.{Encodes};
     ghost use Rattle.archive_head.specs.Head.{Contents, IsHead, head_octets};
 
-    /// The head of this many collectors that the page encodes, which is the only one, or none where it encodes no such head.
-    /// It fails where memory is refused, and only then.
+    /// The head of this many collectors that the page encodes, which is the only one, or none if it encodes no such head.
+    /// It fails if an allocation fails, and only then.
     pub fn read(alloc: Global, page: &Page, collectors: usize) -> Result<Option<Head>, AllocError>
         requires few { collectors ≤ 16 }
         ensures head { IfOk result (λ found. IfSome found (λ head. Encodes IsHead head_octets head page.now)) }

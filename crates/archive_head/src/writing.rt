@@ -100,7 +100,7 @@ impl Head {
         Ok(out)
     }
 
-    /// The page of the head. It fails where memory is refused, and only then.
+    /// The page of the head. It fails if an allocation fails, and only then.
     pub fn write(&self, alloc: Global) -> Result<Page, AllocError>
         requires few { length self.now.lanes ≤ 16 }
         ensures page { IfOk result (λ page. page ≡ head_octets self.now) }

@@ -32,7 +32,7 @@ lane_given lane mark batch used = record {
 abbrev pub lane_popped : Settings → ℕ → Lane → Admitted → Lane
 lane_popped s c lane a = record lane { first = wrapped (size_of (ring_of s c lane)) (lane.first + length (entry a)); used = lane.used - length (entry a) }
 
--- the change that is applied next where the first `some` of the admission are: none where it has no other
+-- the change that is applied next where the first `some` of the admission are: none if it has no other
 abbrev pub next_change : ℕ → Placed Admitted → List Timed
 next_change some p = map (at_time (time_of p)) (take 1 (drop some p.item.changes))
 

@@ -12,13 +12,13 @@ use Rattle.intake.specs.Ring.{page_at, Holds, IsRing}
 use Rattle.archive_pages.specs.declared.settings.Settings.{Settings}
 use Rattle.archive_pages.specs.Places.{ring_of, tree_low}
 
--- the time of the last of the changes, or the one before them where there is none
+-- the time of the last of the changes, or the one before them if there is none
 abbrev pub last_time : ℕ → List Timed → ℕ
 last_time before [] = before
 last_time before (t ∷ ts) = last_time t.time ts
 
 -- What is to be a tree: with these pages and settled blocks, of which the tree may use the pages from one on, with this root, and with
--- this first page and this first block that were never used, it stands for these versions; and this is the least stamp that a version to
+-- this first page and this first block that were never used, it represents these versions; and this is the least stamp that a version to
 -- come may have.
 abbrev pub TreeOn : Type 1
 TreeOn = List (List ℕ) → (ℕ → List ℕ → Type 0) → ℕ → ℕ → ℕ → ℕ → ℕ → List Version → Type 0

@@ -13,7 +13,7 @@ use page_tx::{PageError, Pages};
 use route_model::Moment;
 use std::alloc::{AllocError, Global};
 
-/// The same head. A call changes the copy, and the head itself only once what it says is committed. It fails where memory is refused, and
+/// The same head. A call changes the copy, and the head itself only once what it says is committed. It fails if memory runs out, and
 /// only then.
 pub fn copy_head(alloc: Global, head: &Head) -> Result<Head, AllocError>
     ensures copy { IfOk result (λ copy. copy ≡ head.now) }

@@ -1,12 +1,12 @@
 //! What the pages and blocks of an archive represent: one history, in a head, a ring for each collector, and a tree.
 //!
 //! An archive's home pages are, in this order: the head; for each collector the pages of its ring; and the pages of the tree.
-//! The tree isn't known here but by what it stands for: versions, which are those of the applied changes.
+//! Of the tree this crate knows only the versions that it represents, which are those of the applied changes.
 //!
 //!     0     1 + ring * c           1 + ring * collectors
 //!     head  ring of collector c    tree                       (c from 0 on; `ring` pages each)
 //!
-//! What pages represent is said of a head as a value (`HeadRepresents`), apart from what page 0 holds: a transaction changes the head in
+//! What pages represent is defined for a head as a value (`HeadRepresents`), apart from page 0: a transaction changes the head in
 //! memory and the pages of rings and tree in any order, keeps this relation throughout, and writes page 0 last
 //! (`PagesRepresent`). So a transaction of one step and one of many are the same argument. Of the tree it asks only that it stays
 //! the tree where its own pages stay the same, and where more blocks are settled.

@@ -46,7 +46,7 @@ pub fn can_pass(settings: Settings, head: &Head, collector: u8, admission: &Admi
     lane_loses(settings, collector, lane_of(head, collector), admission)
 }
 
-// The head counts the next change of the admission, where it has one.
+// The head counts the next change of the admission, if it has one.
 fn count_change(head: &mut Head, collector: u8, admission: &Admission)
     requires applied { head.old.applied + 1 < 2 ^ 64 }
     ensures head { head.new ≡ record head.old {
@@ -75,7 +75,7 @@ fn without_first(settings: Settings, collector: u8, lane: Lane, admission: &Admi
     }
 }
 
-/// Sets in the head that the next change of the admission, where it has one, is applied, and what the tree is then. The admission is the
+/// Sets in the head that the next change of the admission, if it has one, is applied, and what the tree is then. The admission is the
 /// first that waits of its collector. Returns whether this was its last change, with which it leaves its ring.
 pub fn pass_change(
     settings: Settings,

@@ -123,6 +123,6 @@ pub record Finishes {O Pen Seen : Type 0} (once : OnceGhosts O Pen Seen) (reader
   pub same : query_of d ≡ query_of c
   pub kept : OnErr result ((h : History) → IsGathered c h → IsGathered d h)
 
--- A crash inside the call may leave this, where all that the call burns is burnt before its first erasable write. That it is, is assumed.
+-- A crash inside the call may leave this, if all that the call burns is burnt before its first erasable write. That it is, is assumed.
 abbrev pub IsCut : {E O Pen Seen : Type 0} {erase : EraseGhosts E} {once : OnceGhosts O Pen Seen} → Archive E O Pen Seen erase once → Archive E O Pen Seen erase once → Left → Type 0
 IsCut old new left = CrashPair (erase_state old) (erase_state new) (once_state old) (once_state new) (once_state new) left

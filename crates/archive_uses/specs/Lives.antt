@@ -14,7 +14,7 @@ use Rattle.archive_uses.specs.Use.Use.{lost}
 use Rattle.archive_uses.specs.Uses.{Leads, Scene, Stage, Uses}
 use Rattle.archive_uses.specs.Uses.Stage.{on, off, gone}
 
--- The life of an archive of these settings begins here, with these uses: with none, where it was created; or a crash came inside its creation, and
+-- The life of an archive of these settings begins here, with these uses: with none, if it was created; or a crash came inside its creation, and
 -- left what represents the history of one to which nothing was given. That is as though it had been created, and lost then.
 abbrev pub Starts : {E O Pen Seen : Type 0} {erase : EraseGhosts E} {once : OnceGhosts O Pen Seen} → Settings → List Use → Stage E O Pen Seen erase once → Type 0
 Starts made [] (on a) = Represents a (empty made.collectors) × (settings_of a ≡ made)

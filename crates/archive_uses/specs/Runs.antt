@@ -29,7 +29,7 @@ pub record AreRun (collectors : ℕ) (us : List Use) (down : Bool) (h : History)
   pub headline : Headline collectors steps replies last
 
 -- What a crash left of disks, of which the write-once one has this many blocks, represents a history with P of an archive of these settings,
--- and its note says both. So where there is room for its pages, an opening fails only for the device or for lack of memory.
+-- and its note says both. So if there is room for its pages, an opening fails only for the device or for lack of memory.
 pub record LeftWith (made : Settings) (P : History → Type 0) (blocks : ℕ) (left : Left) : Type 0 where
   pub site : Site
   pub noted : IsNoted site

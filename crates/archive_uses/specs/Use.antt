@@ -74,7 +74,7 @@ AreBroken call steps replies = AreCrash steps replies
 abbrev pub AreNone : List Step → List Reply → Type 0
 AreNone steps replies = (steps ≡ []) × (replies ≡ [])
 
--- the steps that a use is, and their replies
+-- the steps of a use, and their replies
 abbrev pub StepsOf : Use → List Step → List Reply → Type 0
 StepsOf (called call (replied reply)) steps replies = AreSteps call reply steps replies
 StepsOf (called call quiet) steps replies = AreNone steps replies

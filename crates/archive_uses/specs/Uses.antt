@@ -84,7 +84,7 @@ pub record Errands : Type 0 where
   pub blocks : ℕ
   pub known : ℕ → Option (List ℕ)
 
--- a question in hand: its cursor, and its errand, where its last turn gave one
+-- a question in hand: its cursor, and its errand, if its last turn gave one
 pub record Asked : Type 0 where
   pub cursor : Cursor
   pub errand : Option Errands

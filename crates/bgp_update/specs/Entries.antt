@@ -16,7 +16,7 @@ pub record IsEntryRoute (family : Family) (a : PathAttributes) (route : Route) :
   pub is_reach : IsEntryReach a.reach reach
   pub is_route : entry_route_of a (entry_hop family (four_hop a.next_hop) reach) ≡ Some route
 
--- the route where it fits an admission, or why there is none; no memory is needed
+-- the route if it fits an admission, or why there is none; no memory is needed
 abbrev pub GivesRoute : Family → PathAttributes → Result Route MessageFault → Type 0
 GivesRoute family a (Ok route) = IsEntryRoute family a route × (length (route_octets route) ≤ 3072)
 GivesRoute family a (Err faults.Malformed) = (route : Route) → IsEntryRoute family a route → ⊥

@@ -49,7 +49,7 @@ leading [] k = []
 leading (s ∷ path) k =
     if nat_lt k (weight s) then (if k == 0 then [] else first_numbers k s ∷ []) else s ∷ leading path (k - weight s)
 
--- the joined path, or the path itself where the other counts more
+-- the joined path, or the path itself if the other counts more
 abbrev pub joined_path : List Segment → List Segment → List Segment
 joined_path own longer = if nat_lt (count own) (count longer) then own else leading own (count own - count longer) ++ longer
 
@@ -57,7 +57,7 @@ joined_path own longer = if nat_lt (count own) (count longer) then own else lead
 abbrev pub Fits : List ℕ → List Segment → List Segment → Type 0
 Fits value own longer = IsPath 4 value longer × (count longer ≤ count own)
 
--- the path of AS4_PATH is laid over that of AS_PATH where it is well formed and counts no more; else AS_PATH stays
+-- the path of AS4_PATH is laid over that of AS_PATH if it is well formed and counts no more; else AS_PATH stays
 abbrev pub IsLaid : Option (List ℕ) → List Segment → List Segment → Type 0
 IsLaid None own path = path ≡ own
 IsLaid (Some value) own path =

@@ -28,14 +28,14 @@ pub record Announced : Type 0 where
   pub route : Route
   pub prefixes : List IpPrefix
 
--- what an UPDATE withdraws and announces, by the four places where prefixes stand
+-- what an UPDATE withdraws and announces, by the four places where prefixes are
 pub record Changes : Type 0 where
   pub withdrawn : List IpPrefix
   pub unreachable : List IpPrefix
   pub announced : Option Announced
   pub reachable : Option Announced
 
--- what a message says: an UPDATE what it changes; a NOTIFICATION nothing more; of another type the type alone
+-- what a message represents: an UPDATE its changes; a NOTIFICATION nothing more; another type the type alone
 pub data Reported : Type 0 where
   Update : (changes : Changes) → Reported
   Notification : Reported
@@ -45,7 +45,7 @@ pub data Reported : Type 0 where
 abbrev pub announced_reported : Announcement → Announced
 announced_reported a = record { route = a.route; prefixes = a.prefixes.items }
 
--- the same where there is one
+-- the same if there is one
 abbrev pub option_reported : Option Announcement → Option Announced
 option_reported None = None
 option_reported (Some a) = Some (announced_reported a)
@@ -59,7 +59,7 @@ changes_reported u = record {
   reachable = option_reported u.reachable;
 }
 
--- what a message says, with lists for what it owns
+-- what a message represents, with lists for what it owns
 abbrev pub reported : Message → Reported
 reported (messages.Update update) = Update (changes_reported update)
 reported messages.Notification = Notification
@@ -82,7 +82,7 @@ pub record IsCounted (bytes field rest : List ℕ) : Type 0 where
   pub reports : number_at 2 0 size ≡ length field
   pub parts : bytes ≡ size ++ (field ++ rest)
 
--- where there are prefixes there is a route, which all of them share; else nothing is announced
+-- if there are prefixes there is a route, which all of them share; else nothing is announced
 abbrev pub IsAnnounced : List IpPrefix → Option Route → Option Announced → Type 0
 IsAnnounced [] route announced = announced ≡ None
 IsAnnounced (p ∷ prefixes) route announced = (r : Route) × (route ≡ Some r) × (announced ≡ Some (record { route = r; prefixes = p ∷ prefixes }))
@@ -120,7 +120,7 @@ IsMessage width bytes (Other kind) = IsHeader bytes kind × (kind ≢ 2) × (kin
 
 -- ---- what the reader returns
 
--- a route of more octets than an admission may hold
+-- a route of more octets than an admission may have
 abbrev pub IsLarge : Option Announced → Type 0
 IsLarge None = ⊥
 IsLarge (Some a) = 3072 < length (route_octets a.route)

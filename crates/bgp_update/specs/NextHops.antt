@@ -11,7 +11,7 @@ use Rattle.route_model.specs.declared.wire.Family.{Family}
 use Rattle.route_model.specs.declared.wire.Family.TheVariants as families
 use Rattle.bgp_update.specs.declared.reach.Reach.{Reach}
 
--- a value that has the relation, or none where no value has
+-- a value that has the relation, or none if no value has
 abbrev pub OrNone : {V : Type 0} → (V → Type 0) → Option V → Type 0
 OrNone {V = V} Reads None = (v : V) → Reads v → ⊥
 OrNone Reads (Some v) = Reads v
@@ -54,7 +54,7 @@ abbrev pub IsReach : List ℕ → Option Reach → Type 0
 IsReach value None = (3 ≤ length value) × (family_at value ≡ None)
 IsReach value (Some reach) = IsReachOf value reach
 
--- where MP_REACH_NLRI stands it is such a value, and else nothing is reached
+-- MP_REACH_NLRI is such a value if it is present, and else nothing is reached
 abbrev pub IsReached : Option (List ℕ) → Option Reach → Type 0
 IsReached None reach = reach ≡ None
 IsReached (Some value) reach = IsReach value reach
@@ -64,7 +64,7 @@ abbrev pub AreReached : Option Reach → List IpPrefix → Type 0
 AreReached None prefixes = prefixes ≡ []
 AreReached (Some reach) prefixes = Sequence (IsPrefixField reach.family) reach.nlri prefixes
 
--- prefixes of a family, where it is read
+-- prefixes of a family, if it is read
 abbrev pub AreOf : Option Family → List ℕ → List IpPrefix → Type 0
 AreOf None octets prefixes = prefixes ≡ []
 AreOf (Some family) octets prefixes = Sequence (IsPrefixField family) octets prefixes
@@ -83,14 +83,14 @@ abbrev pub hop_of : Option Reach → Option NextHop
 hop_of None = None
 hop_of (Some reach) = Some reach.next_hop
 
--- MP_REACH_NLRI in a RIB entry: the form of messages where the first octet is zero, else the short one
+-- MP_REACH_NLRI in a RIB entry: the form of messages if the first octet is zero, else the short one
 abbrev pub IsEntryHop : List ℕ → Option NextHop → Type 0
 IsEntryHop [] hop = ⊥
 IsEntryHop (first ∷ rest) hop =
     ((first ≡ 0) × (reach : Option Reach) × IsReach (first ∷ rest) reach × (hop ≡ hop_of reach))
     ⊎ ((first ≢ 0) × (short : NextHop) × IsShort (first ∷ rest) short × (hop ≡ Some short))
 
--- the next hop that MP_REACH_NLRI gives a RIB entry, none where it gives none
+-- the next hop that MP_REACH_NLRI gives a RIB entry, none if it gives none
 abbrev pub IsEntryReach : Option (List ℕ) → Option NextHop → Type 0
 IsEntryReach None hop = hop ≡ None
 IsEntryReach (Some value) hop = IsEntryHop value hop

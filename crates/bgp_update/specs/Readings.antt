@@ -1,4 +1,4 @@
--- What a list of attributes reads as, at a width of AS numbers.
+-- What a list of attributes represents, at a width of AS numbers.
 use Rattle.std.specs.Prelude.{◌≡◌, ℕ, List, Option}
 use Rattle.route_model.specs.declared.path.Segment.{Segment}
 use Rattle.route_model.specs.declared.route.Aggregator.{Aggregator}
@@ -11,13 +11,13 @@ use Rattle.bgp_update.specs.Paths.{IsPath}
 use Rattle.bgp_update.specs.Joining.{IsLaid}
 use Rattle.bgp_update.specs.Values.{Optionally, IsOrigin, IsNumber, IsFour, IsFlag, IsAggregator, as4_aggregator, as4_path, counted_aggregator, others_of}
 
--- the path of AS_PATH, with AS4_PATH laid over it where that is looked at
+-- the path of AS_PATH, with AS4_PATH laid over it unless that is ignored
 pub record IsWholePath (width : AsWidth) (list : List PathAttribute) (aggregator : Option Aggregator) (path : Option (List Segment)) : Type 0 where
   pub own : Option (List Segment)
   pub is_own : Optionally (IsPath (width_of width)) (value_of 2 list) own
   pub laid : Optionally (IsLaid (as4_path width list aggregator)) own path
 
--- each attribute that stands has a value of its type, and each that doesn't is none
+-- each attribute that is present has a value of its type, and each that isn't is none
 pub record IsReading (width : AsWidth) (list : List PathAttribute) (r : PathAttributes) : Type 0 where
   pub origin : Optionally IsOrigin (value_of 1 list) r.origin
   pub aggregator : Option Aggregator
@@ -32,7 +32,7 @@ pub record IsReading (width : AsWidth) (list : List PathAttribute) (r : PathAttr
   pub unreach : r.unreach ≡ value_of 15 list
   pub others : r.others ≡ others_of list
 
--- all of the octets are a list of attributes that reads so
+-- all of the octets are a list of attributes that represents this
 pub record AreAttributes (width : AsWidth) (bytes : List ℕ) (r : PathAttributes) : Type 0 where
   pub list : List PathAttribute
   pub listed : AreListed bytes list

@@ -1,4 +1,4 @@
--- The route that attributes announce: a function of what they read as, and of a next hop.
+-- The route that attributes announce: a function of their values, and of a next hop.
 use Rattle.std.specs.Prelude.{ℕ, List, [], Option, Some, None}
 use Rattle.route_model.specs.declared.address.Address.TheVariants.{V4}
 use Rattle.route_model.specs.declared.path.Segment.{Segment}
@@ -31,7 +31,7 @@ from_parts a (Some origin) None hop = None
 from_parts a (Some origin) (Some path) None = None
 from_parts a (Some origin) (Some path) (Some hop) = Some (made a origin path hop)
 
--- the route of these attributes with this next hop: none where ORIGIN, AS_PATH or the next hop is missing
+-- the route of these attributes with this next hop: none if ORIGIN, AS_PATH or the next hop is missing
 abbrev pub route_of : PathAttributes → Option NextHop → Option Route
 route_of a hop = from_parts a a.origin a.path hop
 
@@ -40,7 +40,7 @@ abbrev pub four_hop : Option (List ℕ) → Option NextHop
 four_hop None = None
 four_hop (Some octets) = Some (One (V4 octets))
 
--- the first, or the second where the first isn't there
+-- the first, or the second if the first isn't there
 abbrev pub first_of : {A : Type 0} → Option A → Option A → Option A
 first_of None second = second
 first_of (Some x) second = Some x
@@ -50,7 +50,7 @@ abbrev pub entry_hop : Family → Option NextHop → Option NextHop → Option N
 entry_hop families.Ipv4 next_hop reach = first_of next_hop reach
 entry_hop families.Ipv6 next_hop reach = first_of reach next_hop
 
--- the value, or another where there is none
+-- the value, or another if there is none
 abbrev pub or_else : {A : Type 0} → Option A → A → A
 or_else None other = other
 or_else (Some x) other = x

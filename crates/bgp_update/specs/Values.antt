@@ -29,7 +29,7 @@ IsNumber value n = (length value ≡ 4) × (n ≡ number_at 4 0 value)
 abbrev pub IsFour : List ℕ → List ℕ → Type 0
 IsFour value address = (length value ≡ 4) × (address ≡ value)
 
--- ATOMIC_AGGREGATE: no octets, where it stands
+-- ATOMIC_AGGREGATE: no octets, if it is present
 abbrev pub IsFlag : Option (List ℕ) → Bool → Type 0
 IsFlag None b = b ≡ false
 IsFlag (Some value) b = (value ≡ []) × (b ≡ true)
@@ -38,44 +38,44 @@ IsFlag (Some value) b = (value ≡ []) × (b ≡ true)
 abbrev pub longer_aggregator : List ℕ → Aggregator
 longer_aggregator value = record { as_number = number_at 4 0 value; address = drop 4 value }
 
--- AGGREGATOR: an AS number of two or of four octets, as the value's own size says, and an address of four
+-- AGGREGATOR: an AS number of two or of four octets, by the value's own size, and an address of four
 abbrev pub IsAggregator : List ℕ → Aggregator → Type 0
 IsAggregator value a =
     ((length value ≡ 6) × (a ≡ record { as_number = number_at 2 0 value; address = drop 2 value }))
     ⊎ ((length value ≡ 8) × (a ≡ longer_aggregator value))
 
--- AS4_AGGREGATOR, which counts as not there where it hasn't eight octets
+-- AS4_AGGREGATOR, which is ignored unless it has eight octets
 abbrev pub of_eight : Option (List ℕ) → Option Aggregator
 of_eight None = None
 of_eight (Some value) = if length value == 8 then Some (longer_aggregator value) else None
 
--- AS4_AGGREGATOR is looked at only where AS numbers have two octets
+-- AS4_AGGREGATOR is read only if AS numbers have two octets
 abbrev pub as4_aggregator : AsWidth → List PathAttribute → Option Aggregator
 as4_aggregator widths.Two list = of_eight (value_of 18 list)
 as4_aggregator widths.Four list = None
 
--- the AS number of two octets that stands for one that needs four (AS_TRANS)
+-- the AS number of two octets that is used for one that needs four (AS_TRANS)
 abbrev pub as_trans : ℕ
 as_trans = 23456
 
--- AS4_AGGREGATOR replaces an AGGREGATOR of AS_TRANS; beside another it is left aside, and alone too
+-- AS4_AGGREGATOR replaces an AGGREGATOR of AS_TRANS; beside another it is ignored, and alone too
 abbrev pub counted_aggregator : Option Aggregator → Option Aggregator → Option Aggregator
 counted_aggregator None longer = None
 counted_aggregator (Some own) None = Some own
 counted_aggregator (Some own) (Some longer) = if own.as_number == as_trans then Some longer else Some own
 
--- an AGGREGATOR of another AS than AS_TRANS beside AS4_AGGREGATOR: both attributes of four-octet numbers are left aside
+-- an AGGREGATOR of another AS than AS_TRANS beside AS4_AGGREGATOR: both attributes of four-octet numbers are ignored
 abbrev pub is_aside : Option Aggregator → Option Aggregator → Bool
 is_aside None longer = false
 is_aside (Some own) None = false
 is_aside (Some own) (Some longer) = if own.as_number == as_trans then false else true
 
--- the octets of AS4_PATH, which is looked at only where AS numbers have two octets, and isn't left aside
+-- the octets of AS4_PATH, which is read only if AS numbers have two octets, and not if it is ignored beside AGGREGATOR
 abbrev pub as4_path : AsWidth → List PathAttribute → Option Aggregator → Option (List ℕ)
 as4_path widths.Two list own = if is_aside own (as4_aggregator widths.Two list) then None else value_of 17 list
 as4_path widths.Four list own = None
 
--- ORIGIN to AGGREGATOR, MP_REACH_NLRI, MP_UNREACH_NLRI, AS4_PATH and AS4_AGGREGATOR are read, or left aside by rule
+-- ORIGIN to AGGREGATOR, MP_REACH_NLRI, MP_UNREACH_NLRI, AS4_PATH and AS4_AGGREGATOR are read, or ignored by rule
 abbrev pub is_read : ℕ → Bool
 is_read k = (nat_lt 0 k && nat_lt k 8) || ((k == 14) || ((k == 15) || ((k == 17) || (k == 18))))
 

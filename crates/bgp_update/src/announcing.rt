@@ -15,7 +15,7 @@ use route_model::wire::AsWidth;
 use route_model::{Address, NextHop, Prefix};
 use std::alloc::Global;
 
-/// The announcement of these prefixes, none where there are none.
+/// The announcement of these prefixes, none if there are none.
 fn announced_by(
     attributes: PathAttributes<'_>,
     next_hop: Option<NextHop>,
@@ -40,7 +40,7 @@ pub(crate) fn four_hop_of(attributes: &PathAttributes<'_>) -> Option<NextHop>
     Some(NextHop::One(Address::V4(octets)))
 }
 
-/// Where the prefixes of an UPDATE stand, and what they share.
+/// Where the prefixes of an UPDATE are, and what they share.
 #[derive(Debug, Drop)]
 pub(crate) struct Announcing<'a> {
     pub(crate) attributes: PathAttributes<'a>,
@@ -49,7 +49,7 @@ pub(crate) struct Announcing<'a> {
     pub(crate) reached: Vec<Prefix>,
 }
 
-/// The announcements of NLRI and of MP_REACH_NLRI. A route owns what it has of the attributes: where both
+/// The announcements of NLRI and of MP_REACH_NLRI. A route owns what it has of the attributes: if both
 /// announce, they are read once more.
 pub(crate) fn announcements(
     alloc: Global,

@@ -1,4 +1,4 @@
-//! Path attributes, as they stand in octets.
+//! Path attributes in octets.
 
 ghost use Rattle.std.specs.Prelude.{◌≡◌, ◌<◌, ◌≤◌, ◌-◌, length, slice_index, IfSome, IfNone};
 ghost use Rattle.route_model.specs.Octets.{number_at};
@@ -43,7 +43,7 @@ impl<'a> ValueOctets<'a> {
     }
 }
 
-/// A path attribute as it stands in a message (RFC 4271 section 4.3): its flags, its type code, and its value.
+/// A path attribute of a message (RFC 4271 section 4.3): its flags, its type code, and the octets of its value.
 #[derive(Debug, Drop)]
 pub(crate) struct PathAttribute<'a> {
     pub(crate) flags: u8,
@@ -54,7 +54,7 @@ pub(crate) struct PathAttribute<'a> {
 /// The flag of a length of two octets.
 const EXTENDED_LENGTH: u8 = 0x10;
 
-/// How many octets stand before the value, and how many the value has.
+/// How many octets are before the value, and how many the value has.
 fn sizes_at(bytes: &[u8]) -> Option<(usize, usize)>
     ensures found { IfSome result (λ s. (3 ≤ length bytes.now) × (s.0 ≡ header_size (slice_index bytes.now 0)) × (s.0 ≤ length bytes.now) × (s.1 ≡ number_at (s.0 - 2) 2 bytes.now) × (s.1 < 65536)) }
     ensures none { IfNone result ((3 ≤ length bytes.now) × (header_size (slice_index bytes.now 0) ≤ length bytes.now) → ⊥) }
@@ -71,7 +71,12 @@ fn sizes_at(bytes: &[u8]) -> Option<(usize, usize)>
     Some((4, u16_at(bytes, 2) as usize))
 }
 
-/// The attribute at the front, and how many octets it takes.
+/// The attribute at the front, and how many octets it takes. Its fields (RFC 4271 section 4.3):
+///
+/// 1. The flags, one octet.
+/// 2. The type code, one octet.
+/// 3. The length of the value, one octet, or two if the flag of an extended length is set.
+/// 4. The value.
 fn attribute_at(bytes: &[u8]) -> Option<(PathAttribute<'_>, usize)>
     ensures { AtFront IsAttributeField bytes.now result }
 {
@@ -91,10 +96,10 @@ fn attribute_at(bytes: &[u8]) -> Option<(PathAttribute<'_>, usize)>
 /// How many types there are.
 pub(crate) const KINDS: usize = 256;
 
-/// How many attributes room is made for at once: few messages have more.
+/// For how many attributes room is made at once: few messages have more.
 const USUAL: usize = 16;
 
-/// The attributes that stand one after another in all of the octets, no type twice.
+/// The attributes that follow one another over all of the octets, no type twice.
 pub(crate) fn attribute_list(
     alloc: Global,
     bytes: &[u8],

@@ -1,4 +1,4 @@
-//! What a list of path attributes reads as.
+//! Reads a list of path attributes.
 
 ghost use Rattle.std.specs.Prelude.{◌≡◌, ◌<◌, Option, List, length, IfOk, IfSome};
 ghost use Rattle.route_model.specs.Reading.{Exactly};
@@ -24,7 +24,7 @@ use route_model::wire::AsWidth;
 use route_model::{Aggregator, Path, Segment};
 use std::alloc::{AllocError, Global};
 
-/// The segments of AS4_PATH, or none where it is malformed.
+/// The segments of AS4_PATH, or none if it is malformed.
 fn longer_segments(alloc: Global, value: &[u8]) -> Result<Option<Vec<Segment>>, AllocError>
     requires { length value.now < 65536 }
     ensures found { IfOk result (λ o. IfSome o (λ v. IsPath 4 value.now v.items × (length v.items < 32768))) }
@@ -37,7 +37,7 @@ fn longer_segments(alloc: Global, value: &[u8]) -> Result<Option<Vec<Segment>>, 
     }
 }
 
-/// The path of AS_PATH with that of AS4_PATH laid over it.
+/// The path of AS_PATH merged with that of AS4_PATH.
 fn lay(
     alloc: Global,
     own: Vec<Segment>,
@@ -84,7 +84,7 @@ fn path_in(
     Ok(Some(Path::new(path)))
 }
 
-/// What attributes of which no type stands twice read as.
+/// Reads attributes of which no type occurs twice.
 fn reading_of<'a>(
     alloc: Global,
     list: &[PathAttribute<'a>],
@@ -115,10 +115,10 @@ fn reading_of<'a>(
     })
 }
 
-/// What the list of path attributes in all of the octets reads as, at the width of AS numbers that the session used
-/// (RFC 4271 section 4.3, RFC 6793). Malformed where an attribute runs past the octets, a type occurs twice, or the
-/// value of a type that is read is none of that type; the values of AS4_PATH and AS4_AGGREGATOR never are a fault, and
-/// those of MP_REACH_NLRI and MP_UNREACH_NLRI aren't looked at. `OutOfMemory` where a growth was refused.
+/// Reads the list of path attributes in all of the octets, at the width of AS numbers that the session used
+/// (RFC 4271 section 4.3, RFC 6793). Malformed if an attribute runs past the octets, a type occurs twice, or the
+/// value of a type that is read isn't valid for it; AS4_PATH and AS4_AGGREGATOR are never a fault, and
+/// MP_REACH_NLRI and MP_UNREACH_NLRI aren't checked here. `OutOfMemory` if an allocation failed.
 pub fn read_attributes(
     alloc: Global,
     bytes: &[u8],

@@ -27,8 +27,8 @@ fn short_hop(octets: &[u8]) -> Option<NextHop>
     hop_of(rest)
 }
 
-/// The next hop that MP_REACH_NLRI gives an entry: in the short form, or in that of messages where the first
-/// octet is zero, as some producers write it. None where it is malformed.
+/// The next hop that MP_REACH_NLRI gives an entry: in the short form, or in that of messages if the first
+/// octet is zero, as some producers write it. None if it is malformed.
 fn hop_of_value(value: &ValueOctets<'_>) -> Option<Option<NextHop>>
     ensures { OrNone (IsEntryHop value.now) result }
 {
@@ -48,7 +48,7 @@ fn hop_of_value(value: &ValueOctets<'_>) -> Option<Option<NextHop>>
     Some(Some(hop))
 }
 
-/// The next hop that MP_REACH_NLRI gives an entry, where it stands. None where it is malformed.
+/// The next hop that MP_REACH_NLRI gives an entry, if it is present. None if it is malformed.
 fn hop_of_reach(value: &Option<ValueOctets<'_>>) -> Option<Option<NextHop>>
     ensures { OrNone (IsEntryReach value.now) result }
 {
@@ -96,14 +96,14 @@ fn made(alloc: Global, attributes: PathAttributes<'_>, next_hop: Option<NextHop>
     })
 }
 
-/// The route of a RIB entry whose attributes read so, in a record of this family (RFC 6396 section 4.3.4):
+/// The route of a RIB entry with these attributes, in a record of this family (RFC 6396 section 4.3.4):
 ///
 /// 1. The next hop of MP_REACH_NLRI is read, in the short form: its length and its octets (RFC 6396 section 4.3.4). If the first octet
 ///    is zero, the value is in the form of messages (RFC 4760 section 3).
-/// 2. In an IPv4 record NEXT_HOP goes before it, in an IPv6 record it goes before NEXT_HOP.
+/// 2. In an IPv4 record NEXT_HOP has precedence over it, in an IPv6 record it has precedence.
 /// 3. Of the attributes that a message must have (RFC 4271 section 5) a missing ORIGIN counts as INCOMPLETE, a missing AS_PATH as empty.
 ///
-/// MP_UNREACH_NLRI isn't looked at. Malformed where MP_REACH_NLRI has no reading, or no attribute gives a next hop; `RouteTooLarge` where
+/// MP_UNREACH_NLRI is ignored. Malformed if MP_REACH_NLRI is, or no attribute gives a next hop; `RouteTooLarge` if
 /// the encoding of the route has more than 3,072 octets. Nothing is allocated.
 pub fn entry_route(
     alloc: Global,

@@ -9,13 +9,13 @@ use thiserror::Error;
 /// Why a message or the attributes of a RIB entry are refused.
 #[derive(Clone, Copy, Debug, Error, PartialEq, Eq)]
 pub enum MessageFault {
-    /// They have no reading.
+    /// They are malformed.
     #[error("the message is malformed")]
     Malformed,
     /// A route that they announce has an encoding of more than 3,072 octets.
     #[error("a route has more than 3072 octets")]
     RouteTooLarge,
-    /// A growth of memory was refused.
+    /// An allocation failed.
     #[error("out of memory")]
     OutOfMemory,
 }

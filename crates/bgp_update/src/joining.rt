@@ -1,4 +1,4 @@
-//! AS4_PATH laid over AS_PATH (RFC 6793 section 4.2.3).
+//! Merges AS4_PATH with AS_PATH (RFC 6793 section 4.2.3).
 
 ghost use Rattle.std.specs.Prelude.{◌≡◌, ◌<◌, ◌≤◌, ◌++◌, ◌∷◌, List, length, take, drop, OnOk, IfOk};
 ghost use Rattle.route_model.specs.declared.path.Segment.{Segment};
@@ -30,7 +30,7 @@ pub(crate) fn count_of(path: &[Segment]) -> usize
     sum
 }
 
-/// The leading part of weight `needed`: how many whole segments it has, and how many numbers of the next one.
+/// The leading part that counts `needed`: how many whole segments it has, and how many numbers of the next one.
 fn place_of(path: &[Segment], needed: usize) -> (usize, usize)
     ensures within { result.0 ≤ length path.now }
     ensures leading { leading path.now needed ≡ take result.0 path.now ++ leading (drop result.0 path.now) result.1 }
@@ -61,7 +61,7 @@ fn first_of(alloc: Global, s: &Segment, needed: usize) -> Result<Segment, AllocE
     }
 }
 
-/// Cuts a path to its leading part of weight `needed`.
+/// Cuts a path to its leading part that counts `needed`.
 fn cut(alloc: Global, path: &mut Vec<Segment>, needed: usize) -> Result<(), AllocError>
     ensures { OnOk result (path.new.items ≡ leading path.old.items needed) }
 {
@@ -76,7 +76,7 @@ fn cut(alloc: Global, path: &mut Vec<Segment>, needed: usize) -> Result<(), Allo
     Ok(())
 }
 
-/// The path with the other laid over its end, where the other counts no more. The steps of RFC 6793 section 4.2.3:
+/// The path with the other in place of its end, if the other counts no more. The steps of RFC 6793 section 4.2.3:
 ///
 /// 1. The AS numbers of both are counted, a set as one (RFC 4271 section 9.1.2.2).
 /// 2. If AS_PATH counts fewer than AS4_PATH, AS_PATH is the path.

@@ -1,10 +1,10 @@
-//! BGP messages: what an UPDATE withdraws and announces, and what a list of path attributes reads as
+//! BGP messages: what an UPDATE withdraws and announces, and what a list of path attributes represents
 //! (RFC 4271, RFC 4760, RFC 6793).
 //!
-//! A list of attributes reads as a value by type ([`PathAttributes`]), in which MP_REACH_NLRI and MP_UNREACH_NLRI are
-//! as they came, since messages and RIB entries write the first in two ways. Route and entry are functions of that
-//! value and of a next hop: a list that was read is malformed where that function has no value. AS4_PATH is laid over
-//! AS_PATH by a relation, `Joined`, with a law that it equals the function that the code follows.
+//! A list of attributes is read into a value by type ([`PathAttributes`]), in which MP_REACH_NLRI and MP_UNREACH_NLRI are
+//! left as octets, since messages and RIB entries encode the first in two ways. Route and entry are functions of that
+//! value and of a next hop: a list that was read is malformed if that function has no value. AS4_PATH is merged with
+//! AS_PATH by a relation, `Joined`, with a law that it equals the function that the code computes.
 //!
 //! An UPDATE returns its prefixes by the four places where they are, since the order of changes, and the rule on a
 //! prefix that is in two places, belong to the crate resolve:
@@ -18,10 +18,10 @@
 //! and no prefix is no fault.
 //!
 //! No list of attributes costs more than its length: which types were seen is noted in 256 places, and if the
-//! attributes that are kept unread don't ascend, they are taken type by type from a table of where each is. Memory is
+//! attributes that are kept unread don't ascend, they are taken type by type from a table of their places. Memory is
 //! taken once for the list of attributes (again if it has more than 16), and once for each list that the result owns
 //! and that isn't empty: each is made with its room counted. A sequence that AS4_PATH cuts is copied, since numbers
-//! can't be taken out of a segment. `entry_route` takes the reading apart and allocates nothing.
+//! can't be taken out of a segment. `entry_route` takes the value apart and allocates nothing.
 #![tactic(auto)]
 
 mod announcing;

@@ -34,7 +34,11 @@ fn all_ones(bytes: &[u8]) -> bool
     bytes.iter().all(|b| *b == 255)
 }
 
-/// The type in the header, or none where it is no header of these octets.
+/// The type in the header, or none if it isn't the header of these octets. Its fields (RFC 4271 section 4.1):
+///
+/// 1. The marker, sixteen octets, each of which has all bits set.
+/// 2. The length, two octets: 19 to 4096, and exactly that of the octets.
+/// 3. The type, one octet, of any value.
 fn kind_of(bytes: &[u8]) -> Option<u8>
     ensures found { IfSome result (λ kind. IsHeader bytes.now kind) }
     ensures none { IfNone result ((kind : ℕ) → IsHeader bytes.now kind → ⊥) }
@@ -51,7 +55,12 @@ fn kind_of(bytes: &[u8]) -> Option<u8>
     Some(bytes[18])
 }
 
-/// The message that all of the octets are, however large its routes.
+/// Reads the message in all of the octets, however large its routes. After the header, by its type:
+///
+/// 1. An UPDATE (2) is read whole (RFC 4271 section 4.3).
+/// 2. A NOTIFICATION (3) ends the session (section 4.5). Its rest isn't read.
+/// 3. A KEEPALIVE (4) has nothing after the header (section 4.4).
+/// 4. The rest of an OPEN (1), or of a message of another type, isn't read.
 fn message_of(alloc: Global, bytes: &[u8], width: AsWidth) -> Result<Message, ReadFault>
     ensures message { Exactly reported (IsMessage width bytes.now) result }
     ensures memory { IfErr result (λ e. e ≡ OutOfMemory → IsHeader bytes.now 2) }
@@ -92,9 +101,9 @@ fn has_large(message: &Message) -> bool
     }
 }
 
-/// The message that all of the octets are, at the width of AS numbers that the session used (RFC 4271 section 4, RFC
-/// 4760, RFC 6793). `Malformed` where they are none; `RouteTooLarge` where they are one that announces a route whose
-/// encoding has more than 3,072 octets; `OutOfMemory` where a growth was refused, which only an UPDATE needs.
+/// Reads the message in all of the octets, at the width of AS numbers that the session used (RFC 4271 section 4, RFC
+/// 4760, RFC 6793). `Malformed` if it isn't one; `RouteTooLarge` if it announces a route whose
+/// encoding has more than 3,072 octets; `OutOfMemory` if an allocation failed, which only an UPDATE needs.
 pub fn read_message(alloc: Global, bytes: &[u8], width: AsWidth) -> Result<Message, MessageFault>
     ensures message { AnswersMessage width bytes.now result }
 {

@@ -10,7 +10,7 @@ use route_model::octets::u16_at;
 use route_model::wire::Family;
 use route_model::{Address, NextHop};
 
-/// The next hop that these octets are, or none.
+/// The next hop in these octets, or none.
 pub(crate) fn hop_of(octets: &[u8]) -> Option<NextHop>
     ensures found { IfSome result (λ hop. IsHop octets.now hop) }
     ensures none { IfNone result ((hop : NextHop) → IsHop octets.now hop → ⊥) }
@@ -57,7 +57,7 @@ fn hop_and_prefixes(family: Family, beyond: &[u8]) -> Option<(NextHop, &[u8])>
     Some((hop, more.split_at(1).1))
 }
 
-/// What the value of MP_REACH_NLRI says: nothing where its family isn't read. None where it is malformed. Its fields (RFC 4760 section 3):
+/// Reads the value of MP_REACH_NLRI: nothing if its family isn't read. None if it is malformed. Its fields (RFC 4760 section 3):
 ///
 /// 1. AFI, two octets, and SAFI, one. Of another family than IPv4 or IPv6 unicast nothing more is read.
 /// 2. The length of the next hop, one octet, and the next hop: 4, 16 or 32 octets, for IPv6 16 or 32 (RFC 2545 section 3).
@@ -83,7 +83,7 @@ pub(crate) fn reach_in<'a>(value: &ValueOctets<'a>) -> Option<Option<Reach<'a>>>
     }))
 }
 
-/// What MP_REACH_NLRI says, where it is present. None where it is malformed.
+/// Reads MP_REACH_NLRI, if it is present. None if it is malformed.
 pub(crate) fn reach_of<'a>(value: &Option<ValueOctets<'a>>) -> Option<Option<Reach<'a>>>
     ensures { OrNone (IsReached value.now) result }
 {

@@ -1,4 +1,4 @@
-//! Prefixes that stand one after another.
+//! Prefixes that follow one another.
 
 ghost use Rattle.std.specs.Prelude.{◌≡◌, ◌≤◌, length, Option, List};
 ghost use Rattle.route_model.specs.Prefix.{IpPrefix};
@@ -15,7 +15,7 @@ use route_model::octets::ReadFault;
 use route_model::wire::{Family, prefix_at};
 use std::alloc::Global;
 
-/// The number of prefixes one after another, as far as the octets hold them: room is made for that many.
+/// How many prefixes the octets have, as far as they are prefixes: room is made for that many.
 fn count_of(bytes: &[u8]) -> usize
     ensures { result ≤ length bytes.now }
 {
@@ -32,7 +32,7 @@ fn count_of(bytes: &[u8]) -> usize
     count
 }
 
-/// The prefixes of this family that stand one after another in all of the octets.
+/// The prefixes of this family that follow one another over all of the octets.
 pub(crate) fn read_prefixes(
     alloc: Global,
     family: Family,

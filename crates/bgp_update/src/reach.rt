@@ -1,4 +1,4 @@
-//! What MP_REACH_NLRI says (RFC 4760 section 3).
+//! What MP_REACH_NLRI represents (RFC 4760 section 3).
 
 use crate::attribute::ValueOctets;
 use route_model::NextHop;
@@ -9,6 +9,6 @@ use route_model::wire::Family;
 pub(crate) struct Reach<'a> {
     pub(crate) family: Family,
     pub(crate) next_hop: NextHop,
-    /// The prefixes, as they stand.
+    /// The prefixes, as octets.
     pub(crate) nlri: ValueOctets<'a>,
 }

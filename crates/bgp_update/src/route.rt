@@ -6,7 +6,7 @@ ghost use Rattle.bgp_update.specs.Routes.{route_of};
 use crate::reading::PathAttributes;
 use route_model::{NextHop, Route};
 
-/// The route of these attributes and this next hop, or none where one of ORIGIN, AS_PATH and the next hop is missing.
+/// The route of these attributes and this next hop, or none if one of ORIGIN, AS_PATH and the next hop is missing.
 pub(crate) fn route_with(attributes: PathAttributes<'_>, next_hop: Option<NextHop>) -> Option<Route>
     ensures { result ≡ route_of attributes.entry next_hop }
 {

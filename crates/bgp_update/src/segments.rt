@@ -19,7 +19,7 @@ pub(crate) enum SegmentKind {
     Sequence,
 }
 
-/// A segment as it stands in octets: it may have no numbers.
+/// A segment in octets: it may have no numbers.
 #[derive(Debug, Drop)]
 pub(crate) struct Part {
     pub(crate) kind: SegmentKind,
@@ -44,7 +44,11 @@ fn numbers_of(
     Ok(numbers)
 }
 
-/// The segment at the front, and how many octets it takes.
+/// The segment at the front, and how many octets it takes. Its fields (RFC 4271 section 4.3, RFC 6793 section 3):
+///
+/// 1. The type, one octet: 1 for AS_SET, 2 for AS_SEQUENCE, and no other.
+/// 2. The count of AS numbers, one octet.
+/// 3. The AS numbers, two or four octets each.
 fn segment_at(alloc: Global, bytes: &[u8], width: AsWidth) -> Result<(Part, usize), ReadFault>
     ensures front { AtFrontOr segment_of (IsSegmentField (width_of width)) bytes.now result }
     ensures few { IfOk result (λ r. length r.0.numbers.items < 256) }
@@ -66,7 +70,7 @@ fn segment_at(alloc: Global, bytes: &[u8], width: AsWidth) -> Result<(Part, usiz
     Ok((Part { kind, numbers }, size))
 }
 
-/// Adds a segment where it has numbers.
+/// Adds a segment if it has numbers.
 fn push_segment(path: &mut Vec<Segment>, part: Part) -> Result<(), AllocError>
     requires { length part.numbers.items < 256 }
     ensures { OnOk result (path.new.items ≡ path.old.items ++ filter has_numbers (segment_of part ∷ [])) }
@@ -82,7 +86,7 @@ fn push_segment(path: &mut Vec<Segment>, part: Part) -> Result<(), AllocError>
     Ok(())
 }
 
-/// The number of segments one after another, as far as the octets hold them: room is made for that many.
+/// How many segments the octets have, as far as they are segments: room is made for that many.
 fn count_of(bytes: &[u8], width: AsWidth) -> usize
     ensures { 2 * result ≤ length bytes.now }
 {
@@ -99,7 +103,7 @@ fn count_of(bytes: &[u8], width: AsWidth) -> usize
     count
 }
 
-/// The path whose segments stand in all of the octets, in AS numbers of the width.
+/// The path whose segments follow one another over all of the octets, in AS numbers of the width.
 pub(crate) fn read_segments(
     alloc: Global,
     bytes: &[u8],

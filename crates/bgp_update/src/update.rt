@@ -10,7 +10,7 @@ pub struct Announcement {
 }
 
 /// What an UPDATE withdraws and announces (RFC 4271 section 4.3, RFC 4760), by the four places where
-/// prefixes stand.
+/// prefixes are.
 #[derive(Debug, Drop)]
 pub struct Update {
     /// The withdrawn prefixes of the UPDATE itself, all of IPv4.

@@ -13,7 +13,7 @@ use route_model::octets::{ReadFault, u16_at};
 use route_model::wire::{AsWidth, Family};
 use std::alloc::Global;
 
-/// The field that two octets count, and the octets after it.
+/// The field whose length is in two octets, and the octets after it.
 fn counted_at(bytes: &[u8]) -> Option<(&[u8], &[u8])>
     ensures found { IfSome result (λ r. IsCounted bytes.now r.0.now r.1.now) }
     ensures none { IfNone result ((field rest : List ℕ) → IsCounted bytes.now field rest → ⊥) }
@@ -28,14 +28,14 @@ fn counted_at(bytes: &[u8]) -> Option<(&[u8], &[u8])>
     Some(bytes.split_at(2).1.split_at(size))
 }
 
-/// What the three fields of an UPDATE withdraw and announce. They are read in this order:
+/// What the three fields of an UPDATE withdraw and announce. The steps:
 ///
 /// 1. The withdrawn routes, prefixes of IPv4 (RFC 4271 section 4.3).
 /// 2. The path attributes (RFC 4271 section 4.3).
 /// 3. NLRI, prefixes of IPv4 (RFC 4271 section 4.3).
 /// 4. MP_UNREACH_NLRI: its family, then its prefixes (RFC 4760 section 4).
 /// 5. MP_REACH_NLRI: its family and next hop, then its prefixes (RFC 4760 section 3).
-/// 6. The routes of NLRI and of MP_REACH_NLRI, where these have prefixes: ORIGIN, AS_PATH and a next hop are mandatory (RFC 4271
+/// 6. The routes of NLRI and of MP_REACH_NLRI, if these have prefixes: ORIGIN, AS_PATH and a next hop are mandatory (RFC 4271
 ///    section 5), that of NEXT_HOP for the first, that of MP_REACH_NLRI for the second (RFC 4760 section 3).
 fn read_parts(
     alloc: Global,

@@ -35,10 +35,10 @@ pub(crate) const AS4_PATH: u8 = 17;
 
 pub(crate) const AS4_AGGREGATOR: u8 = 18;
 
-/// The AS number of two octets that stands for one that needs four (RFC 6793 section 9).
+/// The AS number of two octets that is used for one that needs four (RFC 6793 section 9).
 const AS_TRANS: u32 = 23456;
 
-/// ORIGIN, where it stands.
+/// ORIGIN, if it is present.
 pub(crate) fn origin_in(list: &[PathAttribute<'_>]) -> Result<Option<Origin>, ReadFault>
     ensures { Exactly (λ o. o) (λ (o : Option Origin). Optionally IsOrigin (value_of 1 list.now) o) result }
 {
@@ -53,7 +53,7 @@ pub(crate) fn origin_in(list: &[PathAttribute<'_>]) -> Result<Option<Origin>, Re
     }
 }
 
-/// A number of four octets, where an attribute of this type stands.
+/// A number of four octets, if an attribute of this type is present.
 pub(crate) fn number_in(list: &[PathAttribute<'_>], kind: u8) -> Result<Option<u32>, ReadFault>
     ensures { Exactly (λ o. o) (λ (o : Option ℕ). Optionally IsNumber (value_of kind list.now) o) result }
 {
@@ -67,7 +67,7 @@ pub(crate) fn number_in(list: &[PathAttribute<'_>], kind: u8) -> Result<Option<u
     Ok(Some(u32_at(octets, 0)))
 }
 
-/// The four octets of NEXT_HOP, where it stands.
+/// The four octets of NEXT_HOP, if it is present.
 pub(crate) fn next_hop_in(list: &[PathAttribute<'_>]) -> Result<Option<[u8; 4]>, ReadFault>
     ensures { Exactly (λ o. o) (λ (o : Option (List ℕ)). Optionally IsFour (value_of 3 list.now) o) result }
 {
@@ -81,7 +81,7 @@ pub(crate) fn next_hop_in(list: &[PathAttribute<'_>]) -> Result<Option<[u8; 4]>,
     Ok(Some(<[u8; 4]>::try_from(octets).unwrap()))
 }
 
-/// Whether ATOMIC_AGGREGATE stands.
+/// Whether ATOMIC_AGGREGATE is present.
 pub(crate) fn atomic_in(list: &[PathAttribute<'_>]) -> Result<bool, ReadFault>
     ensures { Exactly (λ b. b) (λ (b : Bool). IsFlag (value_of 6 list.now) b) result }
 {
@@ -94,7 +94,7 @@ pub(crate) fn atomic_in(list: &[PathAttribute<'_>]) -> Result<bool, ReadFault>
     Ok(true)
 }
 
-/// The AGGREGATOR that these octets are: their number determines the width of its AS number.
+/// The AGGREGATOR in these octets: their number determines the width of its AS number.
 fn aggregator_of(octets: &[u8]) -> Option<Aggregator>
     ensures found { IfSome result (λ a. IsAggregator octets.now a) }
     ensures none { IfNone result ((a : Aggregator) → IsAggregator octets.now a → ⊥) }
@@ -120,7 +120,7 @@ fn longer_of(octets: &[u8]) -> Aggregator
     }
 }
 
-/// AGGREGATOR, where it stands.
+/// AGGREGATOR, if it is present.
 pub(crate) fn aggregator_in(list: &[PathAttribute<'_>]) -> Result<Option<Aggregator>, ReadFault>
     ensures { Exactly (λ o. o) (λ (o : Option Aggregator). Optionally IsAggregator (value_of 7 list.now) o) result }
 {
@@ -133,7 +133,7 @@ pub(crate) fn aggregator_in(list: &[PathAttribute<'_>]) -> Result<Option<Aggrega
     Ok(Some(aggregator))
 }
 
-/// AS4_AGGREGATOR, where AS numbers have two octets and it has eight.
+/// AS4_AGGREGATOR, if AS numbers have two octets and it has eight.
 pub(crate) fn as4_aggregator_in(list: &[PathAttribute<'_>], width: AsWidth) -> Option<Aggregator>
     ensures { result ≡ as4_aggregator width list.now }
 {
@@ -151,7 +151,7 @@ pub(crate) fn as4_aggregator_in(list: &[PathAttribute<'_>], width: AsWidth) -> O
     }
 }
 
-/// Whether AS4_PATH and AS4_AGGREGATOR are left aside.
+/// Whether AS4_PATH and AS4_AGGREGATOR are ignored.
 fn are_aside(own: &Option<Aggregator>, longer: &Option<Aggregator>) -> bool
     ensures { result ≡ is_aside own.now longer.now }
 {
@@ -161,7 +161,7 @@ fn are_aside(own: &Option<Aggregator>, longer: &Option<Aggregator>) -> bool
     }
 }
 
-/// The octets of AS4_PATH, where it is looked at.
+/// The octets of AS4_PATH, unless it is ignored.
 pub(crate) fn as4_path_in<'a>(
     list: &[PathAttribute<'a>],
     width: AsWidth,
@@ -181,7 +181,11 @@ pub(crate) fn as4_path_in<'a>(
     }
 }
 
-/// The aggregator of the route.
+/// The aggregator of the route, of AGGREGATOR and AS4_AGGREGATOR (RFC 6793 section 4.2.3):
+///
+/// 1. Without AGGREGATOR there is none.
+/// 2. If AGGREGATOR has AS_TRANS, AS4_AGGREGATOR replaces it, if there is one.
+/// 3. Otherwise it is AGGREGATOR's.
 pub(crate) fn merge(own: Option<Aggregator>, longer: Option<Aggregator>) -> Option<Aggregator>
     ensures { result ≡ counted_aggregator own longer }
 {

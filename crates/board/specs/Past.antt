@@ -22,7 +22,7 @@ pub record GoesOnAs (p q : Past) : Type 0 where
   pub begins : Begins p.history q.history
   pub blocks : Among p.blocks q.blocks
 
--- how many admissions a collector has; none where there is no such collector
+-- how many admissions a collector has; none if there is no such collector
 abbrev pub count_in : Option Intake → ℕ
 count_in None = 0
 count_in (Some i) = length i.admitted

@@ -87,7 +87,7 @@ impl Opened {
         })
     }
 
-    /// Where this is the board named `N`: the board, the writing seat and a first pass, which know a past that fits.
+    /// If this is the board named `N`: the board, the writing seat and a first pass, which know a past that fits.
     /// What it is about is for the caller's choice of `X`. No number is seen yet.
     pub fn start<N: Named, X: Target, T>(self, _about: &T) -> (Board<N>, Writer<N>, Pass<N>)
         requires named { name_of self ≡ N.table }

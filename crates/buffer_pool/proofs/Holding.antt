@@ -1,4 +1,4 @@
--- Pages in memory that are the map's.
+-- Pages in memory that are committed pages.
 use Rattle.std.proofs.Common.{◌≡◌, ◌≢◌, ◌<◌, ◌≤◌, ◌+◌, ◌==◌, not, filter, ◌⊎◌, inl, inr, ⊎_elim, ℕ, zero, suc, Bool, true, false, List, [], ◌∷◌, length, set, Some, Contains, IfSome, Option, None, Bor, Result, Ok, Err, OnOk, OnErr, IsSome, cond, true≢false, nat_eq, refl, sym, ◌∙◌, ap, subst, arith}
 use Rattle.std.specs.List.{slice_get}
 use Rattle.std.specs.Option.{is_some, option_copied, option_map_or}
@@ -61,7 +61,7 @@ entry_found n es (Some e) is there =
 first_found : (n : ℕ) (es : List (ℕ × List ℕ)) → is_some (lookup (nat_eq n) es) ≡ true → is_some (lookup (nat_eq n) (promoted (nat_eq n) es)) ≡ true
 first_found n es there = entry_found n es (lookup_entry (nat_eq n) es) refl there
 
--- a page of the map goes into the cache
+-- a committed page goes into the cache
 pub put_shown : (read : LruCache ℕ (List ℕ)) (n : ℕ) (page : List ℕ) (map : List (List ℕ)) → AreShown read map → slice_get map n ≡ Some page
     → (m : ℕ) (q : List ℕ) → Contains (put_entries nat_eq read n page) (m, q) → slice_get map m ≡ Some q
 put_shown read n page map shown is m q c = ⊎_elim
@@ -85,7 +85,7 @@ get_lt [] m q is = absurd (some_none q (sym is))
 get_lt (p ∷ map) zero q is = omega arith
 get_lt (p ∷ map) (suc m) q is = let lt = get_lt map m q is in omega (arith, lt)
 
--- a page of the map that is replaced, and the others
+-- a committed page that is replaced, and the others
 pub set_here : (map : List (List ℕ)) (n : ℕ) (page : List ℕ) → n < length map → slice_get (set map n page) n ≡ Some page
 set_here map n page lt = slice_get-get_or (set map n page) n [] (omega (arith, lt, length-set map n page)) ∙ ap (λ (p : List ℕ). Some p) (get_or-set_same map n page [] lt)
 

@@ -4,11 +4,11 @@ use Rattle.std.specs.Ordering.{nat_cmp}
 use Rattle.std.specs.BTreeMap.{BTreeMap, get}
 use Rattle.lru.specs.LruCache.{LruCache}
 
--- each page that is kept is the map's
+-- each page that is kept is a committed one
 abbrev pub AreShown : LruCache ℕ (List ℕ) → List (List ℕ) → Type 0
 AreShown read pages = (n : ℕ) (page : List ℕ) → Contains read.entries (n, page) → slice_get pages n ≡ Some page
 
--- The pages that are kept are the map's.
+-- The pages that are kept are committed ones.
 pub record HoldsPages (changed : BTreeMap ℕ (List ℕ)) (read : LruCache ℕ (List ℕ)) (pages : List (List ℕ)) : Type 0 where
   pub committed : (n : ℕ) → IfSome (get nat_cmp changed n) (λ page. slice_get pages n ≡ Some page)
   pub cached : AreShown read pages

@@ -1,4 +1,4 @@
--- What contracts say of a pool.
+-- The terms of contracts on a pool.
 use Rattle.std.specs.Prelude.{◌⊎◌, ℕ, List, Option, IsSome, length, nat_eq, slice_get}
 use Rattle.std.specs.Ordering.{nat_cmp}
 use Rattle.std.specs.BTreeMap.{get}
@@ -15,15 +15,15 @@ use Rattle.buffer_pool.specs.declared.pool.Pool.{Pool}
 abbrev pub journal_of : {D : Type 0} {device : Ghosts D} → Pool D device → Journal D device
 journal_of pool = pool.journal
 
--- the page that was dirty longest, where one is
+-- the page that was dirty longest, if one is
 abbrev pub oldest_dirty : {D : Type 0} {device : Ghosts D} → Pool D device → Option ℕ
 oldest_dirty pool = slice_get (unhomed_pages pool.journal) 0
 
--- how many pages its cache keeps: those that were read or written home
+-- how many pages are in its cache: those that were read or written home
 abbrev pub clean_pages : {D : Type 0} {device : Ghosts D} → Pool D device → ℕ
 clean_pages pool = length pool.cached.entries
 
--- and how many it may keep
+-- and how many there may be
 abbrev pub most_clean : {D : Type 0} {device : Ghosts D} → Pool D device → ℕ
 most_clean pool = pool.cached.cap
 
@@ -35,12 +35,12 @@ IsWaiting pool n = IsSome (get nat_cmp pool.committed n)
 abbrev pub IsResident : {D : Type 0} {device : Ghosts D} → Pool D device → ℕ → Type 0
 IsResident pool n = IsWaiting pool n ⊎ IsSome (lookup (nat_eq n) pool.cached.entries)
 
--- The pool maps these pages: its journal keeps them, and each page in memory is one of them.
+-- The pool represents these pages: its journal does, and each page in memory is one of them.
 pub record Maps {D : Type 0} (device : Ghosts D) (pool : Pool D device) (pages : List (List ℕ)) : Type 0 where
   pub keeps : Keeps device pool.journal pages
   pub held : HoldsPages pool.committed pool.cached pages
 
--- Nothing but its disk has changed, and of that a read at most: nothing was written.
+-- Nothing but its disk has changed, and that by a read at most: nothing was written.
 pub record WasOnlyRead {D : Type 0} (device : Ghosts D) (old new : Journal D device) : Type 0 where
   pub same : SameButDisk device old new
   pub stays : device.honest (disk_of old) → Stays (device.model (disk_of old)) (device.model (disk_of new))

@@ -1,4 +1,4 @@
--- Why the calls of a pool refuse that aren't the journal's.
+-- Why the calls of a pool are refused that aren't the journal's.
 use Rattle.std.specs.Prelude.{◌≡◌, Bool, true, false}
 use Rattle.buffer_pool.specs.declared.error.FetchError.{FetchError}
 use Rattle.buffer_pool.specs.declared.error.FetchError.TheVariants.{Fault, NeedsRecovery, OutOfMemory}

@@ -16,7 +16,7 @@ pub enum FetchError {
     /// An earlier write or sync failed, and the journal wasn't opened again since.
     #[error("the journal must be opened again")]
     NeedsRecovery,
-    /// A growth was refused.
+    /// An allocation failed.
     #[error("out of memory")]
     OutOfMemory,
 }

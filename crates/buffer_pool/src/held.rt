@@ -13,7 +13,7 @@ use lru::LruCache;
 use std::alloc::AllocError;
 use std::collections::BTreeMap;
 
-// Takes a page in under its number, in the place of an older one. Where no memory is left, there is none afterwards.
+// Adds a page under its number, in place of an older one. If memory runs out, there is none afterwards.
 fn take_in(pages: &mut BTreeMap<u64, Page>, n: u64, page: Page)
     ensures has { (m : ℕ) → IfSome (get nat_cmp pages.new m) (Has pages.old n page m) }
     ensures waits { (m : ℕ) → IsSome (get nat_cmp pages.old m) → IsSome (get nat_cmp pages.new m) }
@@ -31,7 +31,7 @@ fn drop_page(pages: &mut LruCache<u64, Page>, n: u64)
     pages.pop(&n);
 }
 
-// Keeps a page of the map. Where memory runs out, the pages stay as they were.
+// Keeps a committed page. If memory runs out, the pages stay as they were.
 pub fn keep(pages: &mut LruCache<u64, Page>, n: u64, page: Page) -> Result<(), AllocError>
     ensures kept { OnOk result (IsSome (lookup (nat_eq n) pages.new.entries)) }
     ensures unchanged { OnErr result (pages.new ≡ pages.old) }
@@ -52,7 +52,7 @@ pub fn promote(pages: &mut LruCache<u64, Page>, n: u64) -> bool
     pages.promote(&n)
 }
 
-// A page of the map is replaced.
+// Replaces a committed page.
 fn take_page(
     committed: &mut BTreeMap<u64, Page>,
     cached: &mut LruCache<u64, Page>,
@@ -68,7 +68,7 @@ fn take_page(
     take_in(committed, n, page);
 }
 
-// Pages of the map are replaced.
+// Replaces committed pages.
 pub fn take_all(
     committed: &mut BTreeMap<u64, Page>,
     cached: &mut LruCache<u64, Page>,

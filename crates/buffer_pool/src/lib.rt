@@ -6,13 +6,13 @@
 //!     spare       one page: a dirty page that isn't in memory is read from its image here, to go home
 //!
 //! No fetch, commit or flush of another page drops a committed page. That a commit puts it there is tested alone:
-//! memory may be refused after the post, nothing may be reported then, and no clause distinguishes that from a body
-//! that didn't ask. A page for which there was no memory at its commit is read from its image, and is then cached as
+//! memory may run out after the post, nothing may be reported then, and no clause distinguishes that from a body
+//! that didn't try. A page for which there was no memory at its commit is read from its image, and is then cached as
 //! pages are that were read: so the cache may have a dirty page.
 //!
-//! Since each call of flushing or of a checkpoint keeps the page map, a crash inside one leaves that map. `Serves`
-//! (of disk_models: size, count of failures, whether the device follows its model) is the one record that says what a
-//! call keeps of its device, in all layers above.
+//! A flush or a checkpoint doesn't change the committed pages, so a crash inside one leaves them, too. `Serves`
+//! (of disk_models: size, count of failures, whether the device follows its model) is the one record of what a
+//! call leaves unchanged of its device, in all layers above.
 #![tactic(auto)]
 
 mod error;

@@ -23,8 +23,8 @@ use std::num::NonZeroUsize;
 
 /// The pages of a journal, some of which are kept in memory.
 ///
-/// A page that was committed waits in memory until it is written home, as far as there is memory: one that doesn't is read
-/// from its image. Of the others, those that were just written home among them, the last ones that were used stay.
+/// A committed page stays in memory until it is written home, as far as there is memory: one that doesn't is read
+/// from its image. Of the others, also those just written home, the most recently used ones stay.
 #[derive(Drop)]
 pub struct Pool<D: EraseDisk + Drop> {
     journal: Journal<D>,
@@ -34,7 +34,7 @@ pub struct Pool<D: EraseDisk + Drop> {
     ghost dirty: { (n : ℕ) → IsSome (get nat_cmp committed n) → is_among n (unhomed_pages journal) ≡ true },
 }
 
-// A page of the map, as the journal has it.
+// A committed page, as the journal represents it.
 fn read_page<D: EraseDisk + Drop>(
     alloc: Global,
     journal: &mut Journal<D>,
@@ -60,7 +60,7 @@ impl<D: EraseDisk + Drop> Pool<D> {
     ghost use Rattle.buffer_pool.specs.Pool.{IsResident, IsWaiting, Maps, WasOnlyRead, clean_pages, journal_of, most_clean, oldest_dirty};
     ghost use Rattle.std.specs.NonZero.{non_zero_usize_get};
 
-    /// The pool of a journal, with room for `clean_capacity` pages that are home. Where memory runs out, the journal is handed back.
+    /// The pool of a journal, with room for `clean_capacity` pages that are home. If memory runs out, the journal is returned.
     pub fn new(
         alloc: Global,
         journal: Journal<D>,
@@ -110,13 +110,13 @@ impl<D: EraseDisk + Drop> Pool<D> {
     pub fn dirty(&self) -> usize
         ensures dirty { result ≡ length (unhomed_pages (journal_of self.now)) }
 
-        // What waits in memory to be written home is dirty.
+        // Pages that wait in memory to be written home are dirty.
         ensures waiting { (n : ℕ) → IsWaiting self.now n → IsListed n (unhomed_pages (journal_of self.now)) }
     {
         self.journal.unhomed()
     }
 
-    /// How many pages the cache keeps: those that were read or written home, at most the pool's capacity.
+    /// How many pages are in the cache: those that were read or written home, at most the pool's capacity.
     pub fn clean(&self) -> usize
         ensures clean { result ≡ clean_pages self.now }
         ensures few { clean_pages self.now ≤ most_clean self.now }
@@ -124,14 +124,14 @@ impl<D: EraseDisk + Drop> Pool<D> {
         self.cached.len()
     }
 
-    /// Gives the disk up.
+    /// Returns the disk.
     pub fn into_disk(self) -> D
         ensures disk { result ≡ disk_of (journal_of self) }
     {
         self.journal.into_disk()
     }
 
-    /// Sees to it that a page is in memory, and makes it the last one that was used. After a refusal the pool goes on.
+    /// Brings a page into memory, if it isn't there, and makes it the most recently used one. After a refusal the pool goes on.
     pub fn fetch(&mut self, alloc: Global, n: u64) -> Result<(), FetchError>
         requires { n < home_pages (journal_of self.old) }
 
@@ -143,7 +143,7 @@ impl<D: EraseDisk + Drop> Pool<D> {
         ensures stays { D.honest (disk_of (journal_of self.old)) → Stays (D.model (disk_of (journal_of self.old))) (D.model (disk_of (journal_of self.new))) }
         ensures same { SameButDisk D.EraseDisk (journal_of self.old) (journal_of self.new) }
 
-        // Of a page that is in memory it asks for no device and no memory.
+        // A page that is in memory needs no device and no further memory.
         ensures there { needs_recovery (journal_of self.old) ≡ false → IsResident self.old n → IsOk result }
         ensures untouched { IsResident self.old n → journal_of self.new ≡ journal_of self.old }
         ensures waiting { (m : ℕ) → IsWaiting self.old m → IsWaiting self.new m }
@@ -180,7 +180,7 @@ impl<D: EraseDisk + Drop> Pool<D> {
 
     /// Replaces pages, all of them or none. They stay in memory as they are.
     ///
-    /// It isn't refused for memory: a page that there is no room to keep is read from its image until it is written home.
+    /// It never runs out of memory: a page for which there is no room is read from its image until it is written home.
     pub fn commit(&mut self, images: Vec<(u64, Page)>) -> Result<(), PostError>
         requires below { AreBelow (home_pages (journal_of self.old)) (pages_of images.items) }
         requires distinct { AreDistinct (pages_of images.items) }
@@ -199,7 +199,7 @@ impl<D: EraseDisk + Drop> Pool<D> {
         ensures empty { length images.items ≡ 0 → journal_of self.new ≡ journal_of self.old }
         ensures taken { 0 < length images.items → OnOk result (TakesSlot D.EraseDisk images.items (journal_of self.old) (journal_of self.new)) }
 
-        // What waits in memory to be written home goes on waiting there.
+        // Pages that wait in memory to be written home go on waiting there.
         ensures waiting { (m : ℕ) → IsWaiting self.old m → IsWaiting self.new m }
         ensures capacity { most_clean self.new ≡ most_clean self.old }
         ensures journal { SameJournal D.EraseDisk (journal_of self.old) (journal_of self.new) (IsErrOf result PostError.Fault) }
@@ -211,7 +211,7 @@ impl<D: EraseDisk + Drop> Pool<D> {
 
     /// Writes the page home that was dirty longest. Returns whether there was one.
     pub fn flush_one(&mut self) -> Result<bool, UseError>
-        // Each crash leaves the same map, and it stays unless the journal must be opened again.
+        // Each crash leaves the same pages, and they stay unless the journal must be opened again.
         ensures crash { D.honest (disk_of (journal_of self.old)) → (pages : List (List ℕ)) → Maps D.EraseDisk self.old pages
             → Leaves (D.model (disk_of (journal_of self.old))) (D.model (disk_of (journal_of self.new))) (λ c. Recovers (home_pages (journal_of self.old)) (note_of (journal_of self.old)) c pages) }
         ensures maps { D.honest (disk_of (journal_of self.old)) → (pages : List (List ℕ)) → Maps D.EraseDisk self.old pages
@@ -229,7 +229,7 @@ impl<D: EraseDisk + Drop> Pool<D> {
         ensures refused { IfErr result (UseRefusal (needs_recovery (journal_of self.old))) }
         ensures unchanged { IsErrOf result UseError.NeedsRecovery → self.new ≡ self.old }
 
-        // A write that failed asks for recovery. Where a page couldn't be read to be written, nothing was written.
+        // A write that failed requires recovery. If a page couldn't be read to be written, nothing was written.
         ensures failed { IsErrOf result UseError.Fault → IsDown D.EraseDisk (journal_of self.old) (journal_of self.new) ⊎ WasOnlyRead D.EraseDisk (journal_of self.old) (journal_of self.new) }
         ensures some { IsErrOf result UseError.Fault → 0 < length (unhomed_pages (journal_of self.old)) }
         ensures journal { SameJournal D.EraseDisk (journal_of self.old) (journal_of self.new) (IsErrOf result UseError.Fault) }
@@ -267,7 +267,7 @@ impl<D: EraseDisk + Drop> Pool<D> {
         ensures refused { IfErr result (UseRefusal (needs_recovery (journal_of self.old))) }
         ensures unchanged { IsErrOf result UseError.NeedsRecovery → self.new ≡ self.old }
 
-        // A failure asks for recovery, or leaves dirty pages, of those that were.
+        // A failure requires recovery, or leaves some of the pages dirty.
         ensures failed { IsErrOf result UseError.Fault → (needs_recovery (journal_of self.new) ≡ true) ⊎ (0 < length (unhomed_pages (journal_of self.new))) }
         ensures as_dirty { (n : ℕ) → IsListed n (unhomed_pages (journal_of self.new)) → IsListed n (unhomed_pages (journal_of self.old)) }
         ensures as_opened { OnErr result (opened_slots (journal_of self.new) ≡ opened_slots (journal_of self.old)) }

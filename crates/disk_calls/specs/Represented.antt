@@ -24,7 +24,7 @@ site_in a = site_of a.archive
 abbrev pub FollowModels : {E O R Pen Seen : Type 0} {erase : EraseGhosts E} {once : OnceGhosts O Pen Seen} → DiskArchive E O R Pen Seen erase once → Type 0
 FollowModels a = IsHonest a.archive
 
--- the most octets of a batch: 262,144, or those of a ring where these are fewer; a ring of nine pages or more has room for each admission
+-- the most octets of a batch: 262,144, or those of a ring if these are fewer; a ring of nine pages or more has room for each admission
 abbrev pub limit_for : Settings → ℕ
 limit_for s = max (min 262144 (16384 * s.ring)) 131076
 

@@ -16,7 +16,7 @@ use once_store::ShelfReader;
 pub struct DiskArchive<E: EraseDisk + Drop, O: OnceDisk + Drop, R = NoReasons> {
     /// The archive.
     pub archive: Archive<E, O>,
-    // none where there was no memory for it: then each question reads blocks anew
+    // none if there was no memory for it: then each question reads blocks anew
     pub(crate) reader: Option<ShelfReader<O>>,
     pub(crate) reasons: R,
 }

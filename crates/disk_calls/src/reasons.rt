@@ -4,8 +4,8 @@ use std::alloc::Global;
 
 /// What knows why calls on an archive's disks fail.
 pub trait Reasons {
-    /// Which call failed first, and why, in words for a person: of what they are no clause speaks. None where none failed, where it isn't
-    /// known, or where there is no memory for the words.
+    /// Which call failed first, and why, in words for a person: of what they are no clause speaks. None if none failed, if it isn't
+    /// known, or if there is no memory for the words.
     fn text(&self, alloc: Global) -> Option<String>;
 }
 

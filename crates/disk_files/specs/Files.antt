@@ -16,7 +16,7 @@ pub record FileLingers {F : Type 0} (file : Ghosts F) (old new : F) : Type 0 whe
   pub size : file.follows old → file.octet_count new ≡ file.octet_count old
   pub lingers : file.follows old → Lingers (file.model old) (file.model new)
 
--- a disk may use it: it is held so, and what is read of it stands on the device
+-- a disk may use it: it is held so, and what is read of it is on the device
 pub record IsReady {F : Type 0} (file : Ghosts F) (access : Access) (old new : F) : Type 0 where
   pub held : file.follows old → file.is_held new access
   pub settled : file.follows old → (i : ℕ) → ¬ (file.model new).unsynced i

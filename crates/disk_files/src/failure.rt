@@ -96,7 +96,7 @@ impl fmt::Display for Failure {
     }
 }
 
-/// Why calls on the files of a folder failed first. Threads may share it. It is text for a person: no clause says what is in it.
+/// Why calls on the files of a folder failed first. Threads may share it. It is text for a person: no clause states what is in it.
 #[derive(Drop)]
 pub struct Failures {
     folder: String,
@@ -130,7 +130,7 @@ impl Failures {
         let _ = kept.try_set(failure);
     }
 
-    /// The first write or sync that failed; where none did, the first other call.
+    /// The first write or sync that failed; if none did, the first other call.
     pub fn first(&self) -> Option<Failure> {
         match (self.breaking.get(), self.other.get()) {
             (Some(failure), _) | (None, Some(failure)) => Some(*failure),
@@ -138,7 +138,7 @@ impl Failures {
         }
     }
 
-    /// The same with the name of the folder, as `a/pages.rha: write: No space left on device (os error 28)`. None where nothing failed,
+    /// The same with the name of the folder, as `a/pages.rha: write: No space left on device (os error 28)`. None if nothing failed,
     /// or there is no memory for the text.
     pub fn text(&self, alloc: Global) -> Option<String> {
         let failure = self.first()?;

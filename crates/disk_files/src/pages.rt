@@ -55,7 +55,7 @@ impl<F: OctetFile> FileErase<F> {
     }
 
     /// Makes a disk of `size` octets, a positive multiple of 16,384 below 2^63, in a new file that the caller gives. It is
-    /// locked. One that has octets is refused, and keeps them; where the call is refused otherwise, what it then holds is
+    /// locked. One that has octets is refused, and keeps them; if the call is refused otherwise, what it then holds is
     /// left to the caller.
     #[tactic(auto, using(crate::proofs::Leaving::file_stays_none))]
     pub fn create_on(mut file: F, size: u64) -> Result<Self, Refused<F>>
@@ -96,7 +96,7 @@ impl<F: OctetFile> FileErase<F> {
     }
 
     /// Makes the disk usable again after a write or a sync that failed, as opening its file does: what a read gives from then
-    /// on stands on the device. Its file stays open and locked. Nothing is written to it, also where this fails; then the disk is broken.
+    /// on is on the device. Its file stays open and locked. Nothing is written to it, also if this fails; then the disk is broken.
     #[tactic(auto, using(crate::proofs::Leaving::file_lingers_none))]
     pub fn renew(&mut self) -> Result<(), Fault>
         ensures size { size_of self.new ≡ size_of self.old }
@@ -140,7 +140,7 @@ impl FileErase {
     /// Makes `pages.rha` in a folder, of `size` octets: a positive multiple of 16,384, below 2^63. It takes no space on the
     /// device before it is written to.
     ///
-    /// Where it is refused it leaves nothing in the folder that it made, and nothing else is touched.
+    /// If it is refused it leaves nothing in the folder that it made, and nothing else is touched.
     pub fn create<R: Files<File = File>>(
         alloc: Global,
         files: &R,
@@ -188,7 +188,7 @@ impl FileErase {
         self.file.note_in(failures)
     }
 
-    /// Takes its file out of the folder, where it still stands there under its name.
+    /// Takes its file out of the folder, if it is still there under its name.
     pub fn remove<R: Files<File = File>>(
         self,
         alloc: Global,
@@ -242,7 +242,7 @@ impl<F: OctetFile> EraseDisk for FileErase<F> {
         }
     }
 
-    /// Beside the trait's clauses: where it fails the disk is broken, and fails from then on. It writes nothing to a file that was cut, or
+    /// Beside the trait's clauses: if it fails the disk is broken, and fails from then on. It writes nothing to a file that was cut, or
     /// to one that is shared, which is noted.
     fn write_at(&mut self, at: u64, from: &[u8]) -> Result<(), Fault>
         requires { at + length from.now ≤ size_of self.old }
@@ -271,7 +271,7 @@ impl<F: OctetFile> EraseDisk for FileErase<F> {
         }
     }
 
-    /// Beside the trait's clauses: where it fails the disk is broken, and fails from then on. A file that was cut isn't synced.
+    /// Beside the trait's clauses: if it fails the disk is broken, and fails from then on. A file that was cut isn't synced.
     #[tactic(auto, using(crate::proofs::Leaving::lingers_none))]
     fn sync(&mut self) -> Result<(), Fault>
         ensures size { size_of self.new ≡ size_of self.old }

@@ -42,7 +42,7 @@ fn too_large() -> io::Error {
 }
 
 /// What a sync of a file that is held so comes to. A file system that is never written to, as that of a disc or an image, may know no
-/// sync: what is only read there stands on the device.
+/// sync: what is only read there is on the device.
 pub(crate) fn synced(access: Access, done: io::Result<()>) -> io::Result<()> {
     match done {
         Err(why) if access.is_shared() && why.raw_os_error() == Some(libc::EINVAL) => Ok(()),

@@ -27,7 +27,7 @@ fn look_at_size<F: OctetFile>(file: &F, size: u64, call: Call) -> Result<(), Fau
     }
 }
 
-/// Reads more of a range, of which `got` octets were read. Returns how many came: none where the call was interrupted.
+/// Reads more of a range, of which `got` octets were read. Returns how many came: none if the call was interrupted.
 fn read_more<F: OctetFile>(
     file: &mut F,
     at: u64,
@@ -67,7 +67,7 @@ pub(crate) fn read_whole<F: OctetFile>(file: &mut F, at: u64, into: &mut [u8]) -
     Err(Fault)
 }
 
-/// Writes more of some octets, of which `put` were written. Returns how many went: none where the call was interrupted.
+/// Writes more of some octets, of which `put` were written. Returns how many went: none if the call was interrupted.
 fn write_more<F: OctetFile>(file: &mut F, at: u64, from: &[u8], put: usize) -> Result<usize, Fault>
     requires room { put < length from.now }
     requires fits { at + length from.now < 2 ^ 64 }

@@ -35,7 +35,7 @@ once_state_of settled waiting = record {
 abbrev pub torn_block : Torn → List ℕ → List ℕ
 torn_block torn new = refilled (zeros 16384) (torn_octets torn new)
 
--- a burn of which a crash leaves this: it stays whole only where all of it came through
+-- a burn of which a crash leaves this: it stays whole only if all of it came through
 abbrev pub torn_burning : Option Torn → Burning → Burning
 torn_burning (Some New) b = b
 torn_burning (Some Old) b = record { number = b.number; block = torn_block Old b.block; whole = false }
@@ -54,7 +54,7 @@ torn_burnings (torn ∷ choice) (b ∷ bs) = torn_burning (Some torn) b ∷ torn
 abbrev pub all_torn : Torn → List Burning → List Burning
 all_torn torn bs = torn_burnings (replicate (length bs) torn) bs
 
--- A burn that failed: nothing was burnt, or, where the script has it fail, the block with the torn octets.
+-- A burn that failed: nothing was burnt, or, if the script has it fail, the block with the torn octets.
 abbrev pub LeavesFailed : ℕ → List ℕ → Option Torn → List Burning → List Burning → Type 0
 LeavesFailed n block None old new = new ≡ old
 LeavesFailed n block (Some torn) old new =

@@ -17,13 +17,13 @@ is_sync_failure number (Read n) = false
 is_sync_failure number (Write n torn) = false
 is_sync_failure number (Sync n) = n == number
 
--- what this write leaves, where it is to fail: the first that the script says of it
+-- what this write leaves, if it is to fail: the first that the script says of it
 abbrev pub write_failure_at : ℕ → List Failure → Option Torn
 write_failure_at number [] = None
 write_failure_at number (Read n ∷ script) = write_failure_at number script
 write_failure_at number (Write n torn ∷ script) = if n == number then Some torn else write_failure_at number script
 write_failure_at number (Sync n ∷ script) = write_failure_at number script
 
--- what a write or a burn leaves that is cut off, or else what the script says of it
+-- what a write or a burn leaves that is cut off, or else what the script has of it
 abbrev pub cut_failure : Bool → Option Torn → Option Torn
 cut_failure cut scripted = if cut then Some New else scripted

@@ -1,4 +1,4 @@
--- What contracts say of an erasable disk in memory.
+-- The terms of contracts on an erasable disk in memory.
 use Rattle.std.specs.Prelude.{◌≡◌, ℕ, ◌+◌, min, List, Bool, true, false, ◌||◌, not, nat_lt, if◌then◌else◌, Option, None, Some, IsTrue}
 use Rattle.std.specs.List.{list_any}
 use Rattle.disk_memory.specs.declared.call.Call.{Call}
@@ -34,7 +34,7 @@ pub record IsAtCall (disk : MemErase) (next_read next_write next_sync : ℕ) : T
 abbrev pub next_number : ℕ → ℕ
 next_number n = min (n + 1) 18446744073709551615
 
--- the number of the write or sync at which it stops, the first one being 1; none where it doesn't
+-- the number of the write or sync at which it stops, the first one being 1; none if it doesn't
 abbrev pub stop_of : MemErase → Option ℕ
 stop_of disk = disk.stop
 
@@ -63,7 +63,7 @@ IsReadToFail disk = IsTrue (is_stopped disk || list_any (λ failure. is_read_fai
 abbrev pub IsSyncToFail : MemErase → Type 0
 IsSyncToFail disk = IsTrue (is_cut disk || list_any (λ failure. is_sync_failure disk.syncs failure) (script_of disk))
 
--- What the next write leaves, where it is to fail. At the stop all its octets come to stand, unsynced; later ones leave nothing.
+-- What the next write leaves, if it is to fail. At the stop all its octets come to stand, unsynced; later ones leave nothing.
 abbrev pub write_to_fail : MemErase → Option Torn
 write_to_fail disk = if is_stopped disk then Some Old else cut_failure (is_cut disk) (write_failure_at disk.writes (script_of disk))
 

@@ -1,4 +1,4 @@
--- What contracts say of a write-once disk in memory.
+-- The terms of contracts on a write-once disk in memory.
 use Rattle.std.specs.Prelude.{ℕ}
 use Rattle.disk_memory.specs.declared.once.MemOnce.{MemOnce}
 

@@ -28,7 +28,7 @@ is_look_failure number (Settle n) = false
 is_look_failure number (Look n) = n == number
 is_look_failure number (Read n) = false
 
--- what this burn leaves, where it is to fail: the first that the script says of it
+-- what this burn leaves, if it is to fail: the first that the script says of it
 abbrev pub burn_failure_at : ℕ → List OnceFailure → Option Torn
 burn_failure_at number [] = None
 burn_failure_at number (Blank n ∷ script) = burn_failure_at number script

@@ -1,4 +1,4 @@
--- What contracts say of the pen of a write-once disk in memory.
+-- The terms of contracts on the pen of a write-once disk in memory.
 use Rattle.std.specs.Prelude.{◌≡◌, ℕ, ◌+◌, min, List, Bool, ◌||◌, if◌then◌else◌, Option, Some, IsTrue}
 use Rattle.std.specs.List.{list_any}
 use Rattle.disk_models.specs.Once.{OnceState}
@@ -43,7 +43,7 @@ pub record KeepsBurns (old new : MemPen) : Type 0 where
   pub settled : settled_of new ≡ settled_of old
   pub waiting : waiting_of new ≡ waiting_of old
 
--- the number of the burn or settle at which the disk stops, the first one being 1; none where it doesn't
+-- the number of the burn or settle at which the disk stops, the first one being 1; none if it doesn't
 abbrev pub once_stop_of : MemPen → Option ℕ
 once_stop_of pen = pen.stop
 
@@ -71,7 +71,7 @@ IsSettleToFail pen = IsTrue (is_cut_off pen || list_any (λ failure. is_settle_f
 abbrev pub IsLookToFail : MemPen → Type 0
 IsLookToFail pen = IsTrue (has_stopped pen || list_any (λ failure. is_look_failure pen.looks failure) (once_script_of pen))
 
--- What the next burn leaves, where it is to fail. At the stop all its octets come to stand, though it isn't burnt; later ones try no block.
+-- What the next burn leaves, if it is to fail. At the stop all its octets come to stand, though it isn't burnt; later ones try no block.
 abbrev pub burn_to_fail : MemPen → Option Torn
 burn_to_fail pen = if has_stopped pen then Some Old else cut_failure (is_cut_off pen) (burn_failure_at pen.burns (once_script_of pen))
 

@@ -62,7 +62,7 @@ state_of calls = record {
   left_since = λ t c. (k : ℕ) × (t ≤ k) × (k ≤ length calls) × IsLeftBy (take k calls) c;
 }
 
--- the old octets, where nothing else is given
+-- the old octets, if nothing else is given
 abbrev pub torn_or_old : Option Torn → Torn
 torn_or_old None = Old
 torn_or_old (Some torn) = torn
@@ -90,7 +90,7 @@ abbrev pub torn_call : Option Torn → Call → Call
 torn_call torn (Write w) = Write (torn_writing torn w)
 torn_call torn Sync = Sync
 
--- A write that failed: nothing was recorded, or, where the script has it fail, the write with the torn octets.
+-- A write that failed: nothing was recorded, or, if the script has it fail, the write with the torn octets.
 abbrev pub LeavesTorn : ℕ → List ℕ → Option Torn → List Call → List Call → Type 0
 LeavesTorn at from None old new = new ≡ old
 LeavesTorn at from (Some torn) old new =

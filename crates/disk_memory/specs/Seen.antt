@@ -1,4 +1,4 @@
--- What contracts say of what a reader knows.
+-- The terms of contracts on what a reader knows.
 use Rattle.std.specs.Prelude.{ℕ, List}
 use Rattle.disk_memory.specs.Burning.{Burning}
 use Rattle.disk_memory.specs.declared.seen.MemSeen.{MemSeen}

@@ -87,7 +87,7 @@ impl Burn {
         })
     }
 
-    /// What a crash leaves of it: it stays whole only where all of it came through.
+    /// What a crash leaves of it: it stays whole only if all of it came through.
     pub(crate) fn left(&self, alloc: Global, torn: Option<&Torn>) -> Result<Burn, AllocError>
         ensures { IfOk result (λ burn. burn ≡ torn_burning (option_copied torn.entry) self.now) }
     {

@@ -233,7 +233,7 @@ impl MemErase {
         cut || has_sync(&self.script, number)
     }
 
-    /// Records a call that leaves something, or counts a failure where memory runs out.
+    /// Records a call that leaves something, or counts a failure if memory runs out.
     fn record(&mut self, call: Call) -> Result<(), Fault>
         ensures ok { OnOk result (calls_of self.new ≡ calls_of self.old ++ call ∷ []) }
         ensures err { OnErr result (calls_of self.new ≡ calls_of self.old) }
@@ -322,7 +322,7 @@ impl EraseDisk for MemErase {
         self.faults
     }
 
-    /// Beside the trait's clauses: it fails exactly where the script says, and once the disk has stopped.
+    /// Beside the trait's clauses: it fails exactly if the script has it fail, and once the disk has stopped.
     fn read(&mut self, at: u64, into: &mut [u8]) -> Result<(), Fault>
         requires { at + length into.old ≤ size_of self.old }
         ensures size { size_of self.new ≡ size_of self.old }
@@ -342,7 +342,7 @@ impl EraseDisk for MemErase {
     }
 
     /// Beside the trait's clauses: which call is remembered, and that it fails where the script says. Nothing is
-    /// remembered where memory runs out.
+    /// remembered if memory runs out.
     fn write_at(&mut self, at: u64, from: &[u8]) -> Result<(), Fault>
         requires { at + length from.now ≤ size_of self.old }
         ensures size { size_of self.new ≡ size_of self.old }

@@ -39,7 +39,7 @@ impl Failure {
     }
 }
 
-/// What this write leaves, where it is to fail.
+/// What this write leaves, if it is to fail.
 pub(crate) fn write_failure(script: &[Failure], number: u64) -> Option<&Torn>
     ensures { option_copied result ≡ write_failure_at number script.now }
 {
@@ -53,7 +53,7 @@ pub(crate) fn write_failure(script: &[Failure], number: u64) -> Option<&Torn>
     None
 }
 
-/// What a write or a burn leaves, where it fails: all of it, where it is cut off, or else what the script says.
+/// What a write or a burn leaves, if it fails: all of it, if it is cut off, or else what the script has.
 pub(crate) fn cut_or<'a>(cut: bool, whole: &'a Torn, scripted: Option<&'a Torn>) -> Option<&'a Torn>
     requires { whole.now ≡ Torn.New }
     ensures { option_copied result ≡ cut_failure cut (option_copied scripted.entry) }

@@ -131,7 +131,7 @@ impl OnceDisk for MemOnce {
         self.blocks
     }
 
-    /// Beside the trait's clauses: it fails exactly where the script says, and once the disk has stopped.
+    /// Beside the trait's clauses: it fails exactly if the script has it fail, and once the disk has stopped.
     #[tactic(auto, using(crate::proofs::Burnings::tried_append))]
     fn blank(&self, pen: &mut MemPen, n: u64) -> Result<bool, Fault>
         requires { n < blocks_of self.now }
@@ -149,7 +149,7 @@ impl OnceDisk for MemOnce {
     }
 
     /// Beside the trait's clauses: which burn is remembered, and that it fails where the script says. Nothing is burnt
-    /// where memory runs out.
+    /// if memory runs out.
     fn burn(&self, pen: &mut MemPen, n: u64, block: &Block) -> Result<(), Fault>
         requires inside { n < blocks_of self.now }
         requires blank { (once_model pen.old).tried n ≡ false }
@@ -224,7 +224,7 @@ impl OnceDisk for MemOnce {
         }
     }
 
-    /// Beside the trait's clauses: it fails exactly where the script said when the reader looked. Of a block that isn't
+    /// Beside the trait's clauses: it fails exactly if the script said when the reader looked. Of a block that isn't
     /// known it gives what came to stand there, and of a blank one zeros.
     fn read(&self, seen: &mut MemSeen, n: u64, into: &mut Block) -> Result<(), Fault>
         requires { n < blocks_of self.now }

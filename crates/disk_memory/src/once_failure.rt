@@ -54,7 +54,7 @@ impl OnceFailure {
     }
 }
 
-/// What this burn leaves, where it is to fail.
+/// What this burn leaves, if it is to fail.
 pub(crate) fn burn_failure(script: &[OnceFailure], number: u64) -> Option<&Torn>
     ensures { option_copied result ≡ burn_failure_at number script.now }
 {

@@ -196,7 +196,7 @@ impl MemPen {
         stopped || has_look(&self.script, number)
     }
 
-    /// Remembers a burn, or counts a failure where memory runs out.
+    /// Remembers a burn, or counts a failure if memory runs out.
     pub(crate) fn record(&mut self, burn: Burn) -> Result<(), Fault>
         ensures ok { OnOk result (waiting_of self.new ≡ waiting_of self.old ++ burn ∷ []) }
         ensures err { OnErr result (waiting_of self.new ≡ waiting_of self.old) }

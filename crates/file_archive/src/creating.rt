@@ -69,9 +69,9 @@ fn create_in<R: Files<File = File>>(
 ///
 /// # Errors
 ///
-/// `Archive` of `PagesFull` where there are fewer pages than the head, all rings and a tree of no version need; `File` of `Size`
-/// where there are 2^49 - 265 pages or more, no block, or 2^49 blocks or more; `Folder` where the folder is there already; and each
-/// where the system fails or a growth of memory is refused.
+/// `Archive` of `PagesFull` if there are fewer pages than the head, all rings and a tree of no version need; `File` of `Size`
+/// if there are 2^49 - 265 pages or more, no block, or 2^49 blocks or more; `Folder` if the folder is there already; and each
+/// if the system fails or an allocation fails.
 pub fn create<R: Files<File = File>>(
     alloc: Global,
     files: &R,

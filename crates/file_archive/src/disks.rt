@@ -26,7 +26,7 @@ pub(crate) const JOURNAL_PAGES: u64 = 265;
 /// Fewer pages than these are octets that a file can have.
 const TOO_MANY_PAGES: u64 = 1 << 49;
 
-/// Both disks over the files of a folder. While these are there no one else can open them; where they are shared, others that share them
+/// Both disks over the files of a folder. While these are there no one else can open them; if they are shared, others that share them
 /// can.
 #[derive(Drop)]
 pub struct FileDisks {
@@ -94,12 +94,12 @@ impl FileDisks {
         }
     }
 
-    /// Opens the files of both disks of a folder: `pages.rha` first, by whose lock the archive is held. Where they are shared nothing can
+    /// Opens the files of both disks of a folder: `pages.rha` first, by whose lock the archive is held. If they are shared nothing can
     /// be written to them, and leave to read them is enough.
     ///
     /// # Errors
     ///
-    /// Which file isn't opened, and why; a growth of memory that was refused.
+    /// Which file isn't opened, and why; an allocation that failed.
     pub fn open<R: Files<File = File>>(
         alloc: Global,
         files: &R,

@@ -1,4 +1,4 @@
-//! The folder of an archive is made, and taken away where nothing came of it.
+//! Creates the folder of an archive, and removes it if the creation fails.
 
 ghost use Rattle.std.specs.Prelude.{IfErr};
 ghost use Rattle.file_archive.specs.inner.Folders.{IsOfFolder};
@@ -25,7 +25,7 @@ fn settle<R: Files<File = File>>(files: &R, above: &str) -> io::Result<File> {
 }
 
 impl<'a> MadeFolder<'a> {
-    /// Makes a folder where nothing of this name is, for good. Where it is refused nothing is made.
+    /// Creates a folder of a name that is free, and syncs it. If it is refused nothing is created.
     pub(crate) fn make<R: Files<File = File>>(
         alloc: Global,
         files: &R,
@@ -48,7 +48,7 @@ impl<'a> MadeFolder<'a> {
         }
     }
 
-    /// Takes the folder away, which is empty, for good. Where the system doesn't, nothing is reported.
+    /// Takes the folder away, which is empty, for good. If the system doesn't, nothing is reported.
     pub(crate) fn take_away<R: Files<File = File>>(self, files: &R) {
         if fs::remove_dir(files, self.path).is_ok() {
             let _ = self.above.sync_all();

@@ -1,12 +1,12 @@
-//! The archive in the files of a folder: it is created, and opened. Feeds and questions use it as that of any two disks.
+//! Creates and opens the archive in the files of a folder. Feeds and questions use it like one on any two disks.
 //!
 //! Too few pages are refused before the folder is made. The folder's name is synced through the folder above, opened
 //! as `DIR/..` once DIR is made: so it is that very folder, whatever links led there. What is removed after a refusal
 //! is what was made: each file only if its name still leads to it, and the folder only if it is empty.
 //!
 //! Both disks are opened apart from the archive ([`FileDisks`]), since a load opens its own file between: a folder
-//! that is missing or held is reported before a file that isn't there, and that before a damaged archive. The
-//! journal's slots are looked at before the opening by a check alone: an archive's journal takes them in order from 1
+//! that is missing or locked is reported before a missing file, and that before a damaged archive. The
+//! journal's slots are read before the opening by a check alone: an archive's journal numbers them in order from 1
 //! on, so another number is damage, which the opening would turn into old pages.
 #![tactic(auto)]
 

@@ -22,7 +22,7 @@ impl FileDisks {
     ///
     /// # Errors
     ///
-    /// `Archive`: why both disks hold no archive, or one that can't be read, or a growth of memory that was refused. `Failed`: a device
+    /// `Archive`: why both disks hold no archive, or one that can't be read, or an allocation that failed. `Failed`: a device
     /// failed, or what was begun isn't ended since files are shared, as [`OpenFault::needs_alone`] says.
     pub fn into_archive(self, alloc: Global) -> Result<FileArchive, OpenFault>
         ensures blocks { IfOk result (λ archive. (site_in archive).blocks ≡ count_of (once_in self)) }

@@ -36,7 +36,7 @@ abbrev pub ReadRefusal : Bool → ReadError → Type 0
 ReadRefusal down (reads.BadNode page) = ⊤
 ReadRefusal down (reads.Pages refusal) = PageRefusal down refusal
 
--- The reasons for which a batch isn't put into a ring, besides too little room in it: the map has `homes` pages,
+-- The reasons for which a batch isn't put into a ring, besides too little room in it: there are `homes` home pages,
 -- `unused` is the first that was never used, and images of at most `count` pages would be held.
 abbrev pub AppendRefusal : Bool → ℕ → ℕ → ℕ → IntakeError → Type 0
 AppendRefusal down homes unused count intakes.IntakeFull = ⊤

@@ -6,7 +6,7 @@ use Rattle.page_journal.specs.Recovers.{AreDistinct, IsListed}
 use Rattle.route_model.specs.Admission.{Admitted, IsAdmission, admission_octets}
 use Rattle.intake.specs.declared.ring.Ring.{Ring}
 
--- the octets of a page of the map
+-- the octets of a committed page
 abbrev pub page_at : List (List ℕ) → ℕ → List ℕ
 page_at pages n = slice_index_or pages n []
 
@@ -50,7 +50,7 @@ Reads octet size first octets = (k : ℕ) → k < length octets → octet (wrapp
 abbrev pub StandsIn : List (List ℕ) → Ring → List ℕ → Type 0
 StandsIn pages ring octets = Reads (ring_octet pages ring.low) (size_of ring) ring.first octets
 
--- the ring lies in a map of `homes` pages, has at most 65,535 of them, and uses no more octets than it has
+-- the ring lies among `homes` home pages, has at most 65,535 of them, and uses no more octets than it has
 pub record IsRing (homes : ℕ) (ring : Ring) : Type 0 where
   pub inside : ring.low + ring.count ≤ homes
   pub small : ring.low + ring.count < 2 ^ 64

@@ -10,7 +10,7 @@ use page_tx::Pages;
 use route_model::Admission;
 use std::alloc::Global;
 
-// How many octets a batch takes, where they are no more than those that are free.
+// How many octets a batch takes, if they are no more than those that are free.
 fn octets_within(free: u64, batch: &[Admission]) -> Option<u64>
     requires { free < 2 ^ 40 }
     ensures octets { IfSome result (λ octets. octets ≡ octets_for batch.now) }
@@ -36,7 +36,7 @@ impl Ring {
     ghost use Rattle.intake.specs.Calls.{OnlyReads, AppendRefusal, most_pages};
     ghost use Rattle.page_tx.specs.declared.error.PageError.TheVariants as pages_refusals;
 
-    /// Appends a batch to what waits, where it fits: an admission takes 4 octets and those of its encoding. These are
+    /// Appends a batch to what waits, if it fits: an admission takes 4 octets and those of its encoding. These are
     /// counted before any page is touched. The pages are set together, each once; a batch of at most 262,144 octets sets
     /// at most 17. After a refusal nothing is set.
     pub fn append<P: Pages>(

@@ -15,7 +15,7 @@ impl Ring {
     ghost use Rattle.intake.specs.Standing.{BreaksOn};
     ghost use Rattle.intake.specs.Calls.{OnlyReads, ReadRefusal};
 
-    /// How many admissions wait. Each is read and decoded, and none is kept. Where the octets that are used aren't those of admissions,
+    /// How many admissions wait. Each is read and decoded, and none is kept. If the octets that are used aren't those of admissions,
     /// the error has the page on which the first that is none would begin. A failed read and running out of memory may come first.
     pub fn count<P: Pages>(&self, alloc: Global, pages: &mut P) -> Result<u64, ReadError>
         requires ring { IsRing (P.homes pages.old) self.now }

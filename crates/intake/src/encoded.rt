@@ -32,7 +32,7 @@ impl Encoded {
         &self.admission
     }
 
-    /// The admission that these octets encode, or none. It is the kept one, where they are its own.
+    /// The admission that these octets encode, or none. It is the kept one, if they are its own.
     pub(crate) fn decode(
         alloc: Global,
         octets: Vec<u8>,

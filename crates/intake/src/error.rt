@@ -14,7 +14,7 @@ pub enum IntakeError {
     /// The ring has too few free octets.
     #[error("the intake is full")]
     IntakeFull,
-    /// Pages aren't read or set, or a growth was refused.
+    /// Pages aren't read or set, or an allocation failed.
     #[error("{0}")]
     Pages(PageError),
 }
@@ -33,7 +33,7 @@ pub enum ReadError {
     /// No entry begins on this page where one has to.
     #[error("page {0} is damaged")]
     BadNode(u64),
-    /// Pages aren't read, or a growth was refused.
+    /// Pages aren't read, or an allocation failed.
     #[error("{0}")]
     Pages(PageError),
 }

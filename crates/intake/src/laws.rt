@@ -22,7 +22,7 @@ pub fn rings_hold_one_list()
     encodings_are_one();
 }
 
-/// Places go round: the place of an octet is the remainder by the ring's size. So octets stand in a ring exactly where it has each of
+/// Places go round: the place of an octet is the remainder by the ring's size. So octets stand in a ring exactly if it has each of
 /// them at the place that the remainder gives.
 pub fn rings_go_round()
     ensures place { (size at : ℕ) → at < size + size → wrapped size at ≡ at % size }

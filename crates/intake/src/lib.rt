@@ -1,5 +1,5 @@
 //! A ring of pages for each collector: a queue of the admissions that were acknowledged and aren't applied yet, in a
-//! place of known size.
+//! fixed space.
 //!
 //! All octets of a ring's pages are data: the octet at place k is octet k modulo 16,384 of the ring's page k /
 //! 16,384, and after the last place comes the first. Where it begins and how many octets are used are the caller's
@@ -14,15 +14,15 @@
 //! proofs stay linear.
 //!
 //! An append plans in memory: it copies the pages on which the batch will be, encodes each admission once into them,
-//! and lays them in one call. So a refusal finds the transaction as it was, and no page is set twice, also if a
+//! and sets them in one call. So a refusal leaves the transaction as it was, and no page is set twice, also if a
 //! batch wraps to the page on which it begins. A page all of whose octets are the batch's isn't read. The number of
-//! images is bounded for a batch within its limit (17), so a caller that holds at most 14 needn't count.
+//! images is bounded for a batch within its limit (17), so a caller that has at most 14 needn't count.
 //!
-//! An admission that is taken out is given to `pop`, so its length isn't read again. What reading returns is said of
-//! the ring's own octets, with no premise that they are a list: after damage too, an answer is what is there, and a
-//! refusal says that nothing is. A ring has no digests, so octets that were changed into another admission's are
-//! answered. A length is looked at before anything is read by it: one of more than 131,072 octets, or of more than
-//! follow it, is damage, so a changed octet never asks for a ring's worth of memory.
+//! An admission that is taken out is given to `pop`, so its length isn't read again. What reading returns is stated of
+//! the ring's own octets, with no premise that they are a list: after damage too, a result is what is there, and a
+//! refusal comes only if nothing is. A ring has no digests, so octets that were changed into another admission's are
+//! returned. A length is checked before anything is read by it: one of more than 131,072 octets, or of more than
+//! follow it, is damage, so a changed octet never reserves a ring's worth of memory.
 #![tactic(auto)]
 
 mod appending;

@@ -82,8 +82,8 @@ impl Ring {
     ghost use Rattle.intake.specs.Calls.{OnlyReads, ReadRefusal};
     ghost use Rattle.page_tx.specs.declared.error.PageError.TheVariants as pages_refusals;
 
-    /// The first admission that waits, none where nothing waits. Where no admission is first, the error names the page on
-    /// which it would begin. Where no octet is used, or too few for a length, no page is read for it. Otherwise a failed
+    /// The first admission that waits, none if nothing waits. If no admission is first, the error names the page on
+    /// which it would begin. If no octet is used, or too few for a length, no page is read for it. Otherwise a failed
     /// read or running out of memory may refuse it before damage is found. One that is kept from an earlier read is
     /// returned where its octets still are the first: it isn't decoded again.
     pub fn front<P: Pages>(

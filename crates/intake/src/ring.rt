@@ -47,7 +47,7 @@ impl Ring {
         }
     }
 
-    /// Whether it is a ring of a map of `homes` pages.
+    /// Whether it is a ring among `homes` home pages.
     pub fn is_within(&self, homes: u64) -> bool
         ensures within { IsTrue result ↔ IsRing homes self.now }
     {

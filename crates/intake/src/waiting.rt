@@ -105,8 +105,8 @@ impl Ring {
     ghost use Rattle.intake.specs.Standing.{page_of, ReportsTimes, BreaksAt};
     ghost use Rattle.intake.specs.Calls.{OnlyReads, ReadRefusal};
 
-    /// The times of all that waits, in its order. Of each admission only its length and its time are read. Where there is no
-    /// length with a time after it, the error names the page on which it would begin. Changes aren't looked at. Where no
+    /// The times of all that waits, in its order. Of each admission only its length and its time are read. If there is no
+    /// length with a time after it, the error names the page on which it would begin. Changes aren't looked at. If no
     /// octet is used, or too few for a length and a time, no page is read. Otherwise a failed read or running out of memory
     /// may refuse it before damage is found.
     pub fn waiting_times<P: Pages>(

@@ -63,7 +63,7 @@ pub record AppliesSome (w : World) (more : ℕ) (v : World) : Type 0 where
 abbrev pub AppliesLess : World → ℕ → World → Type 0
 AppliesLess w more v = (v ≡ w) ⊎ ((w.down ≡ false) × (fewer : ℕ) × (fewer < more) × AppliesSome w fewer v)
 
--- something is applied exactly where something may be
+-- something is applied exactly if something may be
 abbrev pub DoesApply : World → ℕ → Reply → World → Type 0
 DoesApply w more Applied v = AppliesSome w more v
 DoesApply w more Idle v = NothingToApply w.history × (v ≡ w)

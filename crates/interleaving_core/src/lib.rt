@@ -26,9 +26,9 @@
 //! its place, so a number is never given twice.
 //!
 //! A crash inside a call is a crash with or without that call's step before it, whose answer nobody saw. A count of offered
-//! records that is full is reported by `run` like a lack of memory: the world of a run has no such bound, and the archive
-//! refuses it by name. The machine merges all that was given anew for each change and turn: it is there to be compared with,
-//! on small runs, and says what it does in few lines.
+//! records that is full is reported by `run` as out of memory: the world of a run has no such bound, and the archive
+//! refuses it by name. The machine merges all lists anew for each change and turn: it is a model to compare with,
+//! on small runs, of few lines.
 #![tactic(auto)]
 
 mod applying;

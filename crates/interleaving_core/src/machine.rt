@@ -62,7 +62,7 @@ impl Machine {
         })
     }
 
-    /// Where the collector of this number goes on, where there is one.
+    /// Where the collector of this number goes on, if there is one.
     pub fn resume(&self, collector: u8) -> Option<Resume>
         ensures resume { result ≡ slice_get (map resume_of self.now.history.intakes) collector }
     {
@@ -142,7 +142,7 @@ impl Machine {
         Ok(())
     }
 
-    /// The next change is applied, and up to `more` after it. Where memory runs out, none may be applied, or fewer.
+    /// The next change is applied, and up to `more` after it. If memory runs out, none may be applied, or fewer.
     pub fn apply(&mut self, more: u64) -> Result<Reply, AllocError>
         ensures does { IfOk result (λ reply. Does self.old (Apply more) reply self.new) }
         ensures less { OnErr result (AppliesLess self.old more self.new) }

@@ -63,7 +63,7 @@ fn make(machine: &mut Machine, step: &Step) -> Result<Reply, AllocError>
     }
 }
 
-/// Makes the steps, one after another. Where memory runs out, or a count of offered records is full, there is no run.
+/// Makes the steps, one after another. If memory runs out, or a count of offered records is full, there is no run.
 pub fn run(alloc: Global, machine: Machine, steps: &[Step]) -> Result<Ran, AllocError>
     ensures runs { IfOk result (λ ran. Runs machine steps.now ran.replies.items ran.machine) }
     ensures headline { (collectors : ℕ) → machine ≡ created collectors → IfOk result (λ ran. Headline collectors steps.now ran.replies.items ran.machine) }

@@ -10,7 +10,7 @@ use route_meaning::PlacedAdmission;
 use route_model::{Mark, Moment};
 use std::alloc::{AllocError, Global};
 
-/// The time of the first of these admissions that the collector gave, or the mark where there is none.
+/// The time of the first of these admissions that the collector gave, or the mark if there is none.
 fn bound_of(waiting: &[PlacedAdmission], collector: u8, mark: Mark) -> Mark
     ensures { result ≡ first_or admitted_time mark (part collector waiting.now) }
 {
@@ -38,7 +38,7 @@ fn bounds_of(
     Ok(all)
 }
 
-/// The least of the marks, 0 where there is none.
+/// The least of the marks, 0 if there is none.
 fn least_of(marks: &[Mark]) -> Mark
     ensures { result ≡ least marks.now }
 {

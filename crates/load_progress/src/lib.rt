@@ -1,7 +1,7 @@
-//! One line on a terminal that says how far a load has come. It is rewritten in place, and gone at the end. What is loaded
-//! doesn't know of it: the file's reader, the archive and the writers of lines are wrapped, and do what they do without it.
+//! One line on a terminal that shows how far a load has come. It is rewritten in place, and gone at the end. The load itself
+//! doesn't know of it: the file's reader, the archive and the writers of lines are wrapped, and behave as without it.
 //!
-//! Octets are counted as they are read. Records are counted by batch, once the archive has admitted it: it is offered
+//! Octets are counted as they are read. Records are counted by batch, once the archive has admitted it: batches have
 //! nothing else, so peer tables and records that are refused or skipped don't count. Changes applied are the archive's
 //! count now less that before the load, so any archive is wrapped that returns how many are applied ([`Applied`]).
 //!

@@ -26,14 +26,14 @@ IsListedType k s forms.PeerTable = (k ≡ 13) × (s ≡ 1)
 IsListedType k s (forms.Rib families.Ipv4) = (k ≡ 13) × (s ≡ 2)
 IsListedType k s (forms.Rib families.Ipv6) = (k ≡ 13) × (s ≡ 4)
 
--- a record of this form, with this time, whose body is the octets, reads so
+-- a record of this form and time, whose body is the octets, represents this
 abbrev pub HasReading : Form → ℕ → List ℕ → Reading → Type 0
 HasReading form t bytes (Message time peer width octets) = (form ≡ forms.Message width) × (time ≡ t) × IsMessageBody width bytes peer octets
 HasReading form t bytes (StateChange time peer state) = (width : AsWidth) × (form ≡ forms.StateChange width) × (time ≡ t) × IsStateChange width bytes peer state
 HasReading form t bytes (PeerTable peers) = (form ≡ forms.PeerTable) × IsPeerTable bytes peers
 HasReading form t bytes (Rib time prefix entries) = (family : Family) × (form ≡ forms.Rib family) × (time ≡ t) × IsRib family bytes prefix entries
 
--- a listed record is what it reads as, or malformed where it has no reading; one that isn't listed is skipped
+-- a listed record is what its body represents, or malformed if that is nothing; one that isn't listed is skipped
 abbrev pub Body : List ℕ → Reported → Type 0
 Body bytes (Read reading) = (form : Form) × IsListedType (kind bytes) (subtype bytes) form × HasReading form (timestamp bytes) (body bytes) reading
 Body bytes (Skipped k s) = (k ≡ kind bytes) × (s ≡ subtype bytes) × ((form : Form) → IsListedType (kind bytes) (subtype bytes) form → ⊥)
@@ -41,7 +41,7 @@ Body bytes (Malformed k s) =
     (k ≡ kind bytes) × (s ≡ subtype bytes) × (form : Form) × IsListedType (kind bytes) (subtype bytes) form
     × ((reading : Reading) → HasReading form (timestamp bytes) (body bytes) reading → ⊥)
 
--- what is reported is a reading of the form
+-- what is reported is a body of the form
 abbrev pub IsReported : Form → ℕ → List ℕ → Reported → Type 0
 IsReported form t bytes (Read reading) = HasReading form t bytes reading
 IsReported form t bytes (Skipped k s) = ⊥

@@ -25,7 +25,7 @@ Fed (Err errors.TooLong) bytes was held old new = EndsOver bytes held old new
 Fed (Err errors.OutOfMemory) bytes was held old new = (held ≡ was) × (new ≡ old) × (Over was → ⊥)
 Fed (Err errors.Truncated) bytes was held old new = ⊥
 
--- whether a stream may end where these octets are held
+-- whether a stream may end if these octets are held
 abbrev pub MayEnd : Result (Unit {0}) FrameError → List ℕ → Type 0
 MayEnd (Ok done) held = held ≡ []
 MayEnd (Err errors.TooLong) held = Over held
@@ -36,7 +36,7 @@ MayEnd (Err errors.OutOfMemory) held = ⊥
 abbrev pub stream : List (Vec ℕ Global) → List ℕ
 stream pieces = flat_map (λ piece. piece.items) pieces
 
--- How a stream in pieces ends, and the items that it gave. Where a piece ran out of memory, these are the items of the pieces before it.
+-- How a stream in pieces ends, and the items that it gave. If a piece ran out of memory, these are the items of the pieces before it.
 abbrev pub IsStream : Result (Unit {0}) FrameError → List (Vec ℕ Global) → List Item → List Item → Type 0
 IsStream (Ok done) pieces old new = GainsFrames (stream pieces) [] old new
 IsStream (Err errors.TooLong) pieces old new = (rest : List ℕ) × GainsFrames (stream pieces) rest old new × Over rest

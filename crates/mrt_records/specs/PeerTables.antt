@@ -25,7 +25,7 @@ pub record IsNeighbor (family : Family) (width : AsWidth) (field : List ℕ) (pe
   pub address : IsAddressOf family (take (address_size family) (drop 5 field)) peer.address
   pub as_number : peer.as_number ≡ number_at (width_of width) (5 + address_size family) field
 
--- a peer as its own type says
+-- a peer, by its own type
 abbrev pub IsPeerField : List ℕ → Neighbor → Type 0
 IsPeerField field peer = IsNeighbor (family_of_type (slice_index field 0)) (width_of_type (slice_index field 0)) field peer
 

@@ -1,4 +1,4 @@
--- Where the entries of a RIB record stand in its octets.
+-- Where the entries of a RIB record are in its octets.
 use Rattle.std.specs.Prelude.{ℕ, ◌+◌, ◌≤◌, List, length, take, drop, map}
 use Rattle.std.specs.List.{AllByRecursion}
 use Rattle.mrt_records.specs.Entries.{Entry}

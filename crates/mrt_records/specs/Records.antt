@@ -1,4 +1,4 @@
--- Records of a stream (RFC 6396 section 2): a header of 12 octets, and as many octets as its Length says.
+-- Records of a stream (RFC 6396 section 2): a header of 12 octets, and as many octets as its Length.
 use Rattle.std.specs.Prelude.{◌≡◌, ℕ, ◌+◌, ◌<◌, ◌≤◌, ◌==◌, if◌then◌else◌, List, ◌++◌, length, drop}
 use Rattle.std.specs.List.{AllByRecursion}
 use Rattle.route_model.specs.Octets.{number_at}
@@ -30,12 +30,12 @@ pub record IsRecord (bytes : List ℕ) : Type 0 where
   pub limit : body_length bytes ≤ 131072
   pub whole : length bytes ≡ 12 + body_length bytes
 
--- a header whose Length is above the limit stands at the front
+-- a header whose Length is above the limit is at the front
 pub record Over (bytes : List ℕ) : Type 0 where
   pub header : 12 ≤ length bytes
   pub above : 131072 < body_length bytes
 
--- a whole record stands at the front
+-- a whole record is at the front
 abbrev pub BeginsWithRecord : List ℕ → Type 0
 BeginsWithRecord bytes = (first more : List ℕ) × IsRecord first × (bytes ≡ first ++ more)
 

@@ -19,6 +19,6 @@ abbrev pub GainsFrames : List ℕ → List ℕ → List Item → List Item → T
 GainsFrames bytes rest old new = (records : List (List ℕ)) × Frames bytes records rest × Gains old new records
 
 -- the list has gained the items of all whole records of the octets; what is left is above the limit, and
--- what is held of it shows that
+-- what is kept of it has that header
 abbrev pub EndsOver : List ℕ → List ℕ → List Item → List Item → Type 0
 EndsOver bytes held old new = (more : List ℕ) × GainsFrames bytes (held ++ more) old new × Over held

@@ -7,7 +7,7 @@ use Rattle.mrt_records.specs.Entries.{Entry}
 use Rattle.mrt_records.specs.declared.item.Item.{Item}
 use Rattle.mrt_records.specs.declared.item.Item.TheVariants as items
 
--- what a listed record's body reads as
+-- what a listed record's body represents
 pub data Reading : Type 0 where
   Message : (time : ℕ) (peer : Neighbor) (width : AsWidth) (octets : List ℕ) → Reading
   StateChange : (time : ℕ) (peer : Neighbor) (state : ℕ) → Reading

@@ -21,7 +21,7 @@ const MICROSECONDS: usize = 4;
 
 const BGP4MP_ET: u16 = 17;
 
-/// The octets after a record's header and microseconds; none where it is too short for them.
+/// The octets after a record's header and microseconds; none if it is too short for them.
 fn body_of(kind: u16, bytes: &[u8]) -> &[u8]
     requires header { 12 ≤ length bytes.now }
     requires kind { kind ≡ kind_of bytes.now }

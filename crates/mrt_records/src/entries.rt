@@ -6,7 +6,7 @@ ghost use Rattle.mrt_records.specs.Shown.{shown};
 
 use std::marker::Model;
 
-/// Where the attributes of an entry stand.
+/// Where the attributes of an entry are.
 #[derive(Clone, Copy, Debug)]
 pub(crate) struct Place {
     pub(crate) peer_index: u16,

@@ -1,4 +1,4 @@
-//! A piece of a stream, after the octets that are held.
+//! Takes a piece of a stream, after the octets that are kept.
 
 ghost use Rattle.std.specs.Prelude.{◌≡◌, ◌+◌, ◌<◌, ◌≤◌, ℕ, List, [], ◌∷◌, ◌++◌, length, take, drop, IfOk, OnErr, OnOk};
 ghost use Rattle.mrt_records.specs.Records.{IsRecord, Over, BeginsWithRecord};
@@ -48,7 +48,7 @@ fn push_items<'a>(
     Ok(rest)
 }
 
-/// Moves octets from the piece to the held ones until `need` are held, or the piece is used up. Returns how many it moved.
+/// Moves octets from the piece to the kept ones until there are `need`, or the piece is used up. Returns how many it moved.
 fn top_up(held: &mut Vec<u8>, piece: &[u8], need: usize) -> Result<usize, AllocError>
     ensures ok { IfOk result (λ n. IsToppedUp held.old.items held.new.items piece.now need n) }
     ensures err { OnErr result (held.new.items ≡ held.old.items) }
@@ -58,7 +58,7 @@ fn top_up(held: &mut Vec<u8>, piece: &[u8], need: usize) -> Result<usize, AllocE
     Ok(more)
 }
 
-/// Moves octets from the piece to the held ones until these are a record, or have a Length above the
+/// Moves octets from the piece to the kept ones until these are a record, or have a Length above the
 /// limit, or the piece is used up. Returns how many it moved.
 fn fill(held: &mut Vec<u8>, piece: &[u8]) -> Result<usize, AllocError>
     requires { BeginsWithRecord held.old.items → ⊥ }
@@ -83,8 +83,8 @@ fn fill(held: &mut Vec<u8>, piece: &[u8]) -> Result<usize, AllocError>
     }
 }
 
-/// Holds the rest of a piece until the next one, in place of what was held. Returns whether the rest is
-/// above the limit, and then holds its header alone.
+/// Keeps the rest of a piece until the next one, in place of what was kept. Returns whether the rest is
+/// above the limit, and then keeps its header alone.
 fn hold(alloc: Global, held: &mut Vec<u8>, rest: &[u8]) -> Result<bool, AllocError>
     ensures ok { IfOk result (λ over. IsHeld over rest.now held.new.items) }
     ensures err { OnErr result (held.new.items ≡ held.old.items) }
@@ -101,7 +101,7 @@ fn hold(alloc: Global, held: &mut Vec<u8>, rest: &[u8]) -> Result<bool, AllocErr
     }
 }
 
-/// Adds the items of the whole records of octets, and holds what is left in place of what was held.
+/// Adds the items of the whole records of octets, and keeps what is left in place of what was kept.
 /// Returns whether that is above the limit.
 fn feed_rest(
     alloc: Global,
@@ -123,7 +123,7 @@ fn feed_rest(
     }
 }
 
-/// A record is held, and then come more octets.
+/// A record is kept, and then come more octets.
 fn feed_whole(
     alloc: Global,
     held: &mut Vec<u8>,
@@ -145,7 +145,7 @@ fn feed_whole(
     }
 }
 
-/// Takes a piece that follows the held octets: adds the items of the whole records, and holds the rest. Returns whether that is above the limit.
+/// Takes a piece that follows the kept octets: adds the items of the whole records, and keeps the rest. Returns whether that is above the limit.
 pub(crate) fn feed_held(
     alloc: Global,
     held: &mut Vec<u8>,

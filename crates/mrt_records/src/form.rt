@@ -6,7 +6,7 @@ ghost use Rattle.mrt_records.specs.declared.form.Form.{Form};
 
 use route_model::wire::{AsWidth, Family};
 
-/// What a record of a listed type and subtype holds.
+/// What a record of a listed type and subtype represents.
 #[derive(Clone, Copy, Debug, PartialEq, Eq)]
 pub enum Form {
     StateChange(AsWidth),
@@ -21,7 +21,7 @@ const BGP4MP: u16 = 16;
 
 const BGP4MP_ET: u16 = 17;
 
-/// The form of a record of this type and subtype, or none where these aren't read.
+/// The form of a record of this type and subtype, or none if these aren't read.
 pub(crate) fn form_of(kind: u16, subtype: u16) -> Option<Form>
     ensures listed { IfSome result (λ form. IsListedType kind subtype form) }
     ensures other { IfNone result ((form : Form) → IsListedType kind subtype form → ⊥) }

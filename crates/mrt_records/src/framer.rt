@@ -1,4 +1,4 @@
-//! A stream taken apart into records, in whatever pieces it comes.
+//! Cuts a stream into records, whatever pieces it comes in.
 
 ghost use Rattle.std.specs.Prelude.{◌≡◌, ℕ, List, [], ◌++◌, Err};
 ghost use Rattle.mrt_records.specs.Records.{Over, BeginsWithRecord};
@@ -12,7 +12,7 @@ use std::alloc::{AllocError, Global};
 use std::marker::Model;
 use thiserror::Error;
 
-/// Why a stream isn't read on.
+/// Why a stream isn't read further.
 #[derive(Clone, Copy, Debug, PartialEq, Eq, Error)]
 pub enum FrameError {
     /// The stream ended inside a record.
@@ -21,7 +21,7 @@ pub enum FrameError {
     /// The Length of a record is above 131,072.
     #[error("the length of a record is above 131072")]
     TooLong,
-    /// A growth of memory was refused.
+    /// An allocation failed.
     #[error("out of memory")]
     OutOfMemory,
 }
@@ -34,14 +34,14 @@ impl From<AllocError> for FrameError {
     }
 }
 
-/// Takes a stream apart into records, in whatever pieces it comes.
+/// Cuts a stream into records, whatever pieces it comes in.
 #[derive(Drop)]
 pub struct Framer {
     alloc: Global,
     held: Vec<u8>,
 }
 
-// A framer is the octets that belong to no whole record yet.
+// A framer keeps the octets that belong to no whole record yet.
 impl Model for Framer {
     ghost use Rattle.std.specs.Prelude.{ℕ, List};
     ghost use Rattle.mrt_records.specs.Records.{BeginsWithRecord};
@@ -54,7 +54,7 @@ impl Model for Framer {
 }
 
 impl Framer {
-    /// A framer at the beginning of a stream.
+    /// A framer at the start of a stream.
     pub fn new(alloc: Global) -> Framer
         ensures empty { result ≡ [] }
     {
@@ -64,7 +64,7 @@ impl Framer {
         }
     }
 
-    /// Takes the next piece of the stream, and adds the items of the records that are whole now, in their order.
+    /// Takes the next piece of the stream, and adds the items of the records that are whole now, in order.
     ///
     /// `TooLong`: the same, but what is left begins with a header whose Length is above 131,072; from then on
     /// each call returns that. `OutOfMemory`: nothing has changed, and the piece may be fed again.
@@ -81,7 +81,7 @@ impl Framer {
         Ok(())
     }
 
-    /// Whether the stream may end here: `Truncated` where octets of a record are left, `TooLong` where these
+    /// Whether the stream may end here: `Truncated` if octets of a record are left, `TooLong` if these
     /// are a header whose Length is above 131,072.
     pub fn finish(&self) -> Result<(), FrameError>
         ensures end { MayEnd result self.now }
@@ -101,7 +101,7 @@ impl Framer {
 /// The items of a stream that comes in these pieces, and whether it may end there. After `OutOfMemory` these are the items of the pieces before the one that
 /// ran out of memory.
 pub fn read_stream(alloc: Global, pieces: &[Vec<u8>], out: &mut Vec<Item>) -> Result<(), FrameError>
-    // The items of all whole records are added, in whatever pieces the stream came.
+    // The items of all whole records are added, whatever the pieces.
     ensures stream { IsStream result pieces.now out.old.items out.new.items }
 {
     let mut framer = Framer::new(alloc);

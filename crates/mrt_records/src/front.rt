@@ -1,4 +1,4 @@
-//! What stands at the front of octets of a stream.
+//! What is at the front of octets of a stream: a record, a part of one, or a Length above the limit.
 
 ghost use Rattle.std.specs.Prelude.{◌≡◌, ◌↔◌, IsTrue};
 ghost use Rattle.mrt_records.specs.Records.{Over};
@@ -12,7 +12,7 @@ pub(crate) const HEADER: usize = 12;
 /// The greatest Length of a record.
 pub(crate) const LIMIT: u32 = 131_072;
 
-/// What stands at the front of octets.
+/// What is at the front of octets.
 #[derive(Clone, Copy)]
 pub(crate) enum Front {
     /// Too few octets for a record.
@@ -23,6 +23,12 @@ pub(crate) enum Front {
     Over,
 }
 
+/// What is at the front of these octets. A record has (RFC 6396 section 2):
+///
+/// 1. The timestamp, four octets.
+/// 2. The type and the subtype, two octets each.
+/// 3. The length of the rest, four octets: at most the limit.
+/// 4. As many octets.
 pub(crate) fn front_of(bytes: &[u8]) -> Front
     ensures { IsFront bytes.now result }
 {
@@ -41,7 +47,7 @@ pub(crate) fn front_of(bytes: &[u8]) -> Front
     }
 }
 
-/// Whether a header whose Length is above the limit stands at the front.
+/// Whether a header whose Length is above the limit is at the front.
 pub(crate) fn is_over(bytes: &[u8]) -> bool
     ensures { IsTrue result ↔ Over bytes.now }
 {

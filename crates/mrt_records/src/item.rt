@@ -5,10 +5,10 @@ use crate::neighbor::Neighbor;
 use route_model::wire::AsWidth;
 use route_model::{Moment, Prefix};
 
-/// What a record of a stream is reported as. It owns what it holds.
+/// What a record of a stream is reported as. It owns its octets.
 #[derive(Debug, Drop)]
 pub enum Item {
-    /// A BGP message as a collector received it (RFC 6396 sections 4.4.2 and 4.4.3).
+    /// A BGP message that a collector received (RFC 6396 sections 4.4.2 and 4.4.3).
     Message {
         time: Moment,
         peer: Neighbor,
@@ -24,7 +24,7 @@ pub enum Item {
         peer: Neighbor,
         state: u16,
     },
-    /// The peers that the RIB records after it name by their places, from 0 (RFC 6396 section 4.3.1).
+    /// The peers to which later RIB records refer by their places, from 0 (RFC 6396 section 4.3.1).
     PeerTable(Vec<Neighbor>),
     /// The routes of a prefix, one for each entry (RFC 6396 section 4.3.2).
     Rib {
@@ -37,7 +37,7 @@ pub enum Item {
         kind: u16,
         subtype: u16,
     },
-    /// A record whose body isn't of the form of its type and subtype.
+    /// A record whose body doesn't have the form of its type and subtype.
     Malformed {
         kind: u16,
         subtype: u16,

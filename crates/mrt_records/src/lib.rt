@@ -1,17 +1,17 @@
-//! Records of MRT streams (RFC 6396): framing in whatever pieces a stream comes, and the item of each record.
+//! Records of MRT streams (RFC 6396): framing, whatever pieces a stream comes in, and the item of each record.
 //!
 //!     0          4     6        8       12
 //!     timestamp  type  subtype  length  body: `length` octets, at most 131,072
 //!
-//! A framer holds octets and nothing else. After a header above the limit it holds that header, and each later call
+//! A framer keeps octets and nothing else. After a header above the limit it keeps that header, and each later call
 //! finds it again and returns `TooLong`, before it takes memory, whatever the piece is; so does `finish`. That is so
-//! for skipped types too: a stream can't be read on after a record of such a length without holding or counting it. A
+//! for skipped types too: after a record of such a length a stream can only be read by storing or counting it. A
 //! lack of memory in the middle of a piece takes the items of that piece back and leaves the held octets, so the
-//! piece can be fed again; "as before" is said of items and octets, not of capacities.
+//! piece can be fed again; "as before" is about items and octets, not capacities.
 //!
 //! Items own their octets, copied once; a RIB record has one buffer for all entries and eight octets of place for
-//! each. A count in a record reserves nothing that its octets can't hold: room is made for the smaller of the count
-//! and what the remaining octets could hold (11 octets a peer, 8 an entry), and the count is compared after the last
+//! each. A count in a record reserves no more than its octets can have: room is made for the smaller of the count
+//! and what the remaining octets could have (11 octets a peer, 8 an entry), and the count is compared after the last
 //! one.
 //!
 //! A message is checked for its Length alone; its marker, limit of 4,096 and type belong to bgp_update. A type and

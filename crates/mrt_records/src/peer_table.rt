@@ -54,8 +54,8 @@ fn peer_at(bytes: &[u8]) -> Option<(Neighbor, usize)>
     Some((Neighbor { address, as_number }, size))
 }
 
-/// The peers that stand one after another in all of the octets. The count is what the record says; room is
-/// made for no more than the octets can hold.
+/// The peers that follow one another over all of the octets. The count is the record's; room is
+/// made for no more than the octets can have.
 fn read_peers(alloc: Global, bytes: &[u8], count: usize) -> Result<Vec<Neighbor>, ReadFault>
     ensures { Exactly (λ v. v.items) (Sequence IsPeerField bytes.now) result }
 {
@@ -71,14 +71,14 @@ fn read_peers(alloc: Global, bytes: &[u8], count: usize) -> Result<Vec<Neighbor>
     Ok(peers)
 }
 
-/// The peers of a table's body. Its fields are taken in this order (RFC 6396 section 4.3.1):
+/// The peers of a table's body. Its fields, in this order (RFC 6396 section 4.3.1):
 ///
-/// 1. The collector's identifier, four octets, which isn't looked at.
-/// 2. The length of the view's name, two octets, and the name, which isn't looked at.
+/// 1. The collector's identifier, four octets, which is ignored.
+/// 2. The length of the view's name, two octets, and the name, which is ignored.
 /// 3. The count of peers, two octets.
 /// 4. Peers to the end: the type, one octet, whose lowest bit is set for an address of IPv6, and the next one for an AS number of four
-///    octets; the identifier, four octets, which isn't looked at; the address; the AS number.
-/// 5. There must be as many peers as the count says.
+///    octets; the identifier, four octets, which is ignored; the address; the AS number.
+/// 5. The number of peers must be the count.
 pub(crate) fn read_peer_table(alloc: Global, bytes: &[u8]) -> Result<Vec<Neighbor>, ReadFault>
     ensures { Exactly (λ v. v.items) (IsPeerTable bytes.now) result }
 {

@@ -32,8 +32,8 @@ fn entry_at(bytes: &[u8]) -> Option<(u16, u16)>
     Some((u16_at(bytes, 0), size))
 }
 
-/// The places of the entries that stand one after another in all of the octets. The count is what the record
-/// says; room is made for no more than the octets can hold.
+/// The places of the entries, which follow one another over the octets. `count` is the record's own; memory is reserved for
+/// no more entries than the octets can have.
 fn places_of(alloc: Global, bytes: &[u8], count: usize) -> Result<Vec<Place>, ReadFault>
     requires { length bytes.now ≤ 131072 }
     ensures entries { Exactly (λ v. entries_in bytes.now v.items) (Sequence IsEntryField bytes.now) result }
@@ -56,7 +56,7 @@ fn places_of(alloc: Global, bytes: &[u8], count: usize) -> Result<Vec<Place>, Re
     Ok(places)
 }
 
-/// The entries that fill all of the octets, exactly `count` of them as the record says.
+/// The entries that fill all of the octets, exactly `count` of them.
 fn read_entries(alloc: Global, bytes: &[u8], count: usize) -> Result<RibEntries, ReadFault>
     requires { length bytes.now ≤ 131072 }
     ensures { Exactly (λ e. e) (λ e. Sequence IsEntryField bytes.now e × (length e ≡ count)) result }
@@ -69,14 +69,14 @@ fn read_entries(alloc: Global, bytes: &[u8], count: usize) -> Result<RibEntries,
     Ok(RibEntries::new(octets, places))
 }
 
-/// The prefix and the entries of a RIB record's body. Its fields are taken in this order:
+/// The prefix and the entries of a RIB record's body. Its fields, in this order:
 ///
-/// 1. The sequence number, four octets, which isn't looked at (RFC 6396 section 4.3.2).
-/// 2. The prefix: its length in bits, one octet, and as many octets as hold these (section 4.3.2).
+/// 1. The sequence number, four octets, which is ignored (RFC 6396 section 4.3.2).
+/// 2. The prefix: its length in bits, one octet, and the fewest octets that have as many (section 4.3.2).
 /// 3. The count of entries, two octets (section 4.3.2).
-/// 4. Entries to the end: the peer index, two octets; the originated time, four, which isn't looked at; the length of the attributes,
+/// 4. Entries to the end: the peer index, two octets; the originated time, four, which is ignored; the length of the attributes,
 ///    two; the attributes (section 4.3.4).
-/// 5. There must be as many entries as the count says.
+/// 5. The number of entries must be the count.
 pub(crate) fn read_rib(
     alloc: Global,
     family: Family,

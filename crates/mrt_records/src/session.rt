@@ -35,7 +35,12 @@ pub(crate) fn address_at(family: Family, bytes: &[u8], place: usize) -> Address
     }
 }
 
-/// The peer that a body names, and the octets after the two addresses.
+/// The peer that a body names, and the octets after the two addresses. The fields of a body begin with (RFC 6396 sections 4.4.1 to 4.4.4):
+///
+/// 1. The AS numbers of the peer and of the collector, two octets each, in the AS4 forms four. The second is ignored.
+/// 2. The interface index, two octets, which is ignored.
+/// 3. The address family, two octets: 1 for IPv4, 2 for IPv6, and no other.
+/// 4. The addresses of the peer and of the collector, four or sixteen octets each. The second is ignored.
 fn session_of(width: AsWidth, bytes: &[u8]) -> Option<(Neighbor, &[u8])>
     ensures found { IfSome result (λ s. IsSession width bytes.now s.0 s.1.now) }
     ensures none { IfNone result ((peer : Neighbor) (rest : List ℕ) → IsSession width bytes.now peer rest → ⊥) }
@@ -58,7 +63,9 @@ fn session_of(width: AsWidth, bytes: &[u8]) -> Option<(Neighbor, &[u8])>
     Some((Neighbor { address, as_number }, bytes.split_at(end).1))
 }
 
-/// The peer and the message of a message's body.
+/// The peer and the message of a message's body. After the addresses (RFC 6396 sections 4.4.2 and 4.4.3):
+///
+/// 5. One BGP message of at least 19 octets, whose own Length (RFC 4271 section 4.1) is exactly that of the octets.
 pub(crate) fn read_message(
     alloc: Global,
     width: AsWidth,
@@ -76,7 +83,10 @@ pub(crate) fn read_message(
     Ok((peer, octets))
 }
 
-/// The peer and the new state of a state change's body.
+/// The peer and the new state of a state change's body. After the addresses (RFC 6396 sections 4.4.1 and 4.4.4):
+///
+/// 5. The old state, two octets, which is ignored.
+/// 6. The new state, two octets, of any value. Nothing follows.
 pub(crate) fn read_state_change(width: AsWidth, bytes: &[u8]) -> Option<(Neighbor, u16)>
     ensures found { IfSome result (λ s. IsStateChange width bytes.now s.0 s.1) }
     ensures none { IfNone result ((peer : Neighbor) (state : ℕ) → IsStateChange width bytes.now peer state → ⊥) }

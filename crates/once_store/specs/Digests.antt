@@ -1,4 +1,4 @@
--- Blocks that carry a digest of what they hold.
+-- Blocks with a digest of their body.
 use Rattle.std.specs.Prelude.{ℕ, List, ◌++◌, ◌≡◌, take, drop}
 use Rattle.sha2.specs.Sha256.{sha256}
 
@@ -10,7 +10,7 @@ body_of block = take 16352 block
 abbrev pub digest_of : List ℕ → List ℕ
 digest_of block = drop 16352 block
 
--- the block represents the SHA-256 of its body
+-- the block ends in the SHA-256 of its body
 abbrev pub IsWhole : List ℕ → Type 0
 IsWhole block = sha256 (body_of block) ≡ digest_of block
 

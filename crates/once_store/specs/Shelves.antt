@@ -1,4 +1,4 @@
--- What contracts say of a shelf, and what its calls do to the write-once disk.
+-- The terms of contracts on a shelf, and what its calls do to the write-once disk.
 use Rattle.std.specs.Prelude.{ℕ, suc, ◌≡◌, ◌≢◌, ◌<◌, ◌≤◌, ◌⊎◌, true, false, Result, Ok, Err}
 use Rattle.disk_models.specs.Once.{OnceState}
 use Rattle.once_store.specs.declared.refused.Refused.{Refused}
@@ -34,13 +34,13 @@ AllTried o from to = (i : ℕ) → from ≤ i → i < to → o.tried i ≡ true
 abbrev pub AreTriedBelow : OnceState → ℕ → ℕ → Type 0
 AreTriedBelow o count n = (i : ℕ) → i < count → o.tried i ≡ true → i < n
 
--- the number n isn't below from; each block between was tried; and where a disk of `count` blocks has it, it is blank
+-- the number n isn't below from; each block between was tried; and if a disk of `count` blocks has it, it is blank
 pub record IsFirstBlank (o : OnceState) (count from n : ℕ) : Type 0 where
   pub forward : from ≤ n
   pub tried : AllTried o from n
   pub blank : n < count → o.tried n ≡ false
 
--- At most one block became tried or burnt, the last one below `to`, where `to` has moved past it; all before it from
+-- At most one block became tried or burnt, the last one below `to`, if `to` has moved past it; all before it from
 -- `from` on were tried.
 pub record Spends (from to : ℕ) (old new : OnceState) : Type 0 where
   pub forward : from ≤ to

@@ -20,7 +20,7 @@ pub fn seal(block: &mut Block)
     block.put(BODY_SIZE, &digest);
 }
 
-/// Whether a block carries the digest of its body.
+/// Whether a block ends in the digest of its body.
 pub fn is_whole(block: &Block) -> bool
     ensures whole { IsTrue result ↔ IsWhole block.now }
 {
@@ -28,7 +28,7 @@ pub fn is_whole(block: &Block) -> bool
     Sha256::digest(body).as_slice() == digest
 }
 
-/// What was sealed is whole, and keeps its body.
+/// A sealed block is whole, and its body is unchanged.
 pub fn sealed_blocks_are_whole()
     ensures whole { (block : List ℕ) → length block ≡ 16384 → IsWhole (sealed block) }
     ensures body { (block : List ℕ) → length block ≡ 16384 → body_of (sealed block) ≡ body_of block }

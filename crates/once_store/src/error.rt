@@ -31,10 +31,10 @@ pub enum BlockError {
     /// The device failed.
     #[error("the device failed")]
     Fault,
-    /// The block with this number doesn't carry its digest, or the disk has no such block.
+    /// The block with this number doesn't end in its digest, or the disk has no such block.
     #[error("block {0} of the write-once disk is damaged")]
     Damaged(u64),
-    /// A growth was refused.
+    /// An allocation failed.
     #[error("out of memory")]
     OutOfMemory,
 }

@@ -5,15 +5,15 @@
 //!     body  SHA-256 of it
 //!
 //! `append` burns and settles, and then returns the number; it doesn't look at the digest, which `seal` puts there. A
-//! block whose burn or settle failed is spent: nobody knows what became of it, so the next one gets a higher number.
+//! block whose burn or settle failed is spent: its state is unknown, so the next one gets a higher number.
 //! An opening asks about each block from the given number up to the first blank one: a number that is too low costs
 //! time, one that is too high costs blocks, and neither costs data. So a block is passed over that a crash left burnt
 //! without a commit.
 //!
 //! A reader fetches, and then lends: `fetch` may refuse and needs the reader for itself, `block` lends what is kept
-//! to as many as like. A full reader drops the block that was asked for longest ago, also if the new one is then
-//! refused, since its octets are read into: so it never holds more than its capacity. A number beyond the disk is
-//! damage with that number: whoever wrote it meant a block. A kept block is answered without a read, and without its
+//! to any number of callers. A full reader drops the least recently used block, also if the new one is then
+//! refused, since the new one is read into its memory: so it never has more than its capacity. A number beyond the disk is
+//! reported as damage of that block, since something refers to it. A cached block is returned without a read, and without its
 //! digest being computed again.
 #![tactic(auto)]
 

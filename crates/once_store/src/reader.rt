@@ -1,4 +1,4 @@
-//! What reads blocks.
+//! Reads and caches blocks.
 ghost use Rattle.std.specs.Prelude.{◌≡◌, ◌<◌, ◌≤◌, ◌+◌, ◌-◌, ◌∷◌, ◌↔◌, ◌⊎◌, IsTrue, ℕ, List, Some, None, Err, true, false, IfOk, IsOk, OnOk, OnErr, IsErrOf, IfSome, IfNone, IsSome, min, take};
 ghost use Rattle.std.specs.List.{AllByRecursion, AllByRecursion-prop};
 ghost use Rattle.std.proofs.Props.{props};
@@ -13,7 +13,7 @@ use std::alloc::{AllocError, AllocFailed, Global};
 use std::num::NonZeroUsize;
 use std::sync::Arc;
 
-// Whether a block with this number carries its digest.
+// Whether a block with this number ends in its digest.
 fn checked(block: &Block, n: u64) -> Result<(), BlockError>
     ensures whole { IsWhole block.now → IsOk result }
     ensures found { OnOk result (IsWhole block.now) }
@@ -25,9 +25,9 @@ fn checked(block: &Block, n: u64) -> Result<(), BlockError>
     Err(BlockError::Damaged(n))
 }
 
-/// Reads blocks of a write-once disk, and keeps those that it read last. Each that it keeps carries its digest.
+/// Reads blocks of a write-once disk, and caches the most recently used ones. Each cached block ends in its digest.
 ///
-/// A reader stands on a `Seen` that knows the blocks which it keeps. One that was got later knows them too.
+/// A reader relies on a `Seen` that knows the blocks which it caches. A later one knows them too.
 #[derive(Drop)]
 pub struct ShelfReader<O: OnceDisk + Drop> {
     disk: Arc<O>,
@@ -39,7 +39,7 @@ pub struct ShelfReader<O: OnceDisk + Drop> {
 impl<O: OnceDisk + Drop> ShelfReader<O> {
     ghost use Rattle.once_store.specs.Readers.{IsKept, KnowsKept, capacity_of, kept_blocks, kept_count, reader_disk, without};
 
-    /// A reader of a disk that keeps at most `capacity` blocks. It has read none.
+    /// A reader of a disk that caches at most `capacity` blocks. It has read none.
     pub(crate) fn new(
         alloc: Global,
         disk: Arc<O>,
@@ -53,26 +53,26 @@ impl<O: OnceDisk + Drop> ShelfReader<O> {
         Ok(ShelfReader { disk, kept, alloc })
     }
 
-    /// Makes a block one of those that are kept: it is read where it isn't one.
+    /// Brings a block into the cache: it is read if it isn't there.
     ///
-    /// It takes no lock. Where as many are kept as may be, the one that was asked for longest ago makes room. A block
-    /// that is refused isn't kept.
+    /// It takes no lock. If the cache is full, the least recently used block makes room. A block
+    /// that is refused isn't cached.
     pub fn fetch(&mut self, seen: &mut O::Seen, n: u64) -> Result<(), BlockError>
         ensures kept { OnOk result ((block : List ℕ) × IsKept self.new n block × IsWhole block) }
         ensures octets { O.honest_seen (reader_disk self.old) seen.old → KnowsKept O.OnceDisk self.old seen.old → (block : List ℕ) → O.known seen.old n ≡ Some block → OnOk result (IsKept self.new n block × IsWhole block) }
 
-        // A block that is kept is there, is not read again, and none that is kept makes room for it.
+        // A cached block stays, isn't read again, and none makes room for it.
         ensures hit { (block : List ℕ) → IsKept self.old n block → IsOk result }
         ensures unread { (block : List ℕ) → IsKept self.old n block → seen.new ≡ seen.old }
         ensures all { (block : List ℕ) → IsKept self.old n block → (m : ℕ) (other : List ℕ) → IsKept self.old m other → IsKept self.new m other }
 
-        // The order of use: what is asked for comes first, and what was asked for longest ago makes room, one block at most.
+        // The order of use: the block comes first, and the least recently used one makes room, one at most.
         ensures first { (other : List ℕ) → IsKept self.old n other → (block : List ℕ) × (kept_blocks self.new ≡ (n, block) ∷ without n (kept_blocks self.old)) }
         ensures added { ((block : List ℕ) → IsKept self.old n block → ⊥) → OnOk result ((block : List ℕ) × (kept_blocks self.new ≡ (n, block) ∷ take (capacity_of self.old - 1) (kept_blocks self.old))) }
         ensures left { OnErr result ((kept_blocks self.new ≡ kept_blocks self.old) ⊎ (kept_blocks self.new ≡ take (capacity_of self.old - 1) (kept_blocks self.old))) }
         ensures one { kept_count self.old ≤ kept_count self.new + 1 }
 
-        // None makes room before as many are kept as may be, and a refusal adds none.
+        // None makes room before the cache is full, and a refusal adds none.
         ensures stays { kept_count self.old < capacity_of self.old → (m : ℕ) (other : List ℕ) → IsKept self.old m other → IsKept self.new m other }
         ensures refused { OnErr result ((m : ℕ) (other : List ℕ) → IsKept self.new m other → IsKept self.old m other) }
 
@@ -100,7 +100,7 @@ impl<O: OnceDisk + Drop> ShelfReader<O> {
         Ok(())
     }
 
-    /// A block that is kept. Ask for it by [`ShelfReader::fetch`] before.
+    /// A cached block. Call [`ShelfReader::fetch`] before.
     pub fn block(&self, n: u64) -> Option<&Block>
         ensures some { IfSome result (λ block. IsKept self.now n block.now) }
         ensures none { IfNone result ((block : List ℕ) → IsKept self.now n block → ⊥) }
@@ -108,7 +108,7 @@ impl<O: OnceDisk + Drop> ShelfReader<O> {
         self.kept.peek(&n)
     }
 
-    /// How many blocks it keeps, which is never more than its capacity.
+    /// How many blocks it caches, which is never more than its capacity.
     pub fn kept(&self) -> usize
         ensures count { result ≡ kept_count self.now }
         ensures few { result ≤ capacity_of self.now }
@@ -116,7 +116,7 @@ impl<O: OnceDisk + Drop> ShelfReader<O> {
         self.kept.len()
     }
 
-    // Makes a block the one that was asked for last. Returns whether it is kept.
+    // Makes a block the most recently used one. Returns whether it is cached.
     fn touch(&mut self, n: u64) -> bool
         ensures kept { IsTrue result → (block : List ℕ) × IsKept self.new n block × IsWhole block }
         ensures found { (block : List ℕ) → IsKept self.old n block → result ≡ true }
@@ -131,7 +131,7 @@ impl<O: OnceDisk + Drop> ShelfReader<O> {
         self.kept.promote(&n)
     }
 
-    // A block to read into: that of the entry that makes room, where as many are kept as may be.
+    // A block to read into: that of the entry that makes room, if the cache is full.
     fn room(&mut self) -> Result<Block, AllocError>
         ensures fewer { (m : ℕ) (block : List ℕ) → IsKept self.new m block → IsKept self.old m block }
         ensures stays { kept_count self.old < capacity_of self.old → self.new.kept ≡ self.old.kept }
@@ -149,7 +149,7 @@ impl<O: OnceDisk + Drop> ShelfReader<O> {
         }
     }
 
-    // Keeps a block.
+    // Caches a block.
     fn keep(&mut self, n: u64, block: Block) -> Result<(), AllocFailed<(u64, Block)>>
         requires { IsWhole block }
         ensures kept { OnOk result (IsKept self.new n block) }

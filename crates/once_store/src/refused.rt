@@ -1,8 +1,8 @@
-//! A refusal that hands disk and pen back.
+//! A refusal that returns disk and pen.
 use disk_models::{Fault, OnceDisk};
 use std::sync::Arc;
 
-/// A write-once disk and its pen that were given to be opened, handed back: the device failed.
+/// A write-once disk and its pen that were given to be opened, returned: the device failed.
 #[derive(Drop)]
 pub struct Refused<O: OnceDisk + Drop> {
     /// The disk.

@@ -46,7 +46,7 @@ impl<O: OnceDisk + Drop> Shelf<O> {
 
     /// A shelf over a disk and its pen, which looks for the first blank block from `next` on.
     ///
-    /// It asks the disk about each block that it passes, and trusts no number. A device that fails is handed back.
+    /// It asks the disk about each block that it passes, and trusts no number. If the device fails it is returned.
     pub fn open(disk: Arc<O>, mut pen: O::Pen, mut next: u64) -> Result<Self, Refused<O>>
         ensures next { O.honest disk.value pen → IfOk result (λ shelf. IsFirstBlank (O.model pen) (O.block_count disk.value) next (next_of shelf)) }
         ensures forward { IfOk result (λ shelf. next ≤ next_of shelf) }
@@ -87,8 +87,8 @@ impl<O: OnceDisk + Drop> Shelf<O> {
         ensures none_left { O.honest (disk_of self.old) (pen_of self.old) → AllTried (O.model (pen_of self.old)) (next_of self.old) (O.block_count (disk_of self.old)) → IsErr result }
         ensures same { O.honest (disk_of self.old) (pen_of self.old) → IsErrOf result AppendError.OnceFull → O.model (pen_of self.new) ≡ O.model (pen_of self.old) }
 
-        // A disk doesn't distinguish a burn that failed without a trace from a look that failed. So where a call gives up a
-        // block, the clause says that it is the first blank one, and not which call failed.
+        // A disk doesn't distinguish a burn that failed without a trace from a look that failed. So if a call spends a
+        // block, the clause states that it is the first blank one, and not which call failed.
         ensures failed { O.honest (disk_of self.old) (pen_of self.old) → IsErrOf result AppendError.Fault → HasPassed (next_of self.old) (next_of self.new) (O.model (pen_of self.old)) (O.model (pen_of self.new)) ⊎ IsAfterBlank (O.model (pen_of self.old)) (O.block_count (disk_of self.old)) (next_of self.old) (next_of self.new) }
 
         // In every outcome: whatever a crash leaves of the disk then, it leaves all that was settled before.
@@ -128,7 +128,7 @@ impl<O: OnceDisk + Drop> Shelf<O> {
         self.disk.look(&mut self.pen)
     }
 
-    /// A reader of its disk that keeps at most `capacity` blocks, 1 to 1,024.
+    /// A reader of its disk that caches at most `capacity` blocks, 1 to 1,024.
     pub fn reader(&self, alloc: Global, capacity: usize) -> Result<ShelfReader<O>, AllocError>
         requires some { 0 < capacity }
         requires few { capacity ≤ 1024 }
@@ -142,7 +142,7 @@ impl<O: OnceDisk + Drop> Shelf<O> {
         ShelfReader::new(alloc, Arc::try_clone(&self.disk)?, capacity)
     }
 
-    /// The number that the next block gets, or a lower one where blocks from there on aren't blank.
+    /// The number that the next block gets, or a lower one if blocks from there on aren't blank.
     pub fn next(&self) -> u64
         ensures next { result ≡ next_of self.now }
     {
@@ -156,7 +156,7 @@ impl<O: OnceDisk + Drop> Shelf<O> {
         O::pen_faults(&self.pen)
     }
 
-    /// Gives disk and pen back.
+    /// Returns disk and pen.
     pub fn into_disk(self) -> (Arc<O>, O::Pen)
         ensures disk { result.0.value ≡ disk_of self }
         ensures pen { result.1 ≡ pen_of self }

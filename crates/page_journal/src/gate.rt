@@ -1,4 +1,4 @@
-//! Gates of slots are closed.
+//! Closes the gates of slots.
 ghost use Rattle.std.specs.Prelude.{[], ◌≡◌, ◌≤◌, ◌<◌, ◌∷◌, ◌↔◌, ℕ, List, OnOk, IsErr, IsErrOf};
 ghost use Rattle.disk_models.specs.Erase.{Leaves, WritesWithin};
 ghost use Rattle.disk_models.specs.Serves.{Serves};

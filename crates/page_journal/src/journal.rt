@@ -20,8 +20,8 @@ use std::alloc::Global;
 /// Home pages on an erasable disk, some of which are replaced at once by a post, whatever a crash tears.
 ///
 /// Each post takes one of eight slots, and a checkpoint gives all back. After a write or a sync failed, each call,
-/// except those that only report something or give the disk up, returns that the journal must be opened again, until it
-/// is.
+/// except those that only report something or return the disk, is refused as needing recovery, until the journal is opened
+/// again.
 #[derive(Drop)]
 pub struct Journal<D: EraseDisk + Drop> {
     disk: D,
@@ -44,7 +44,7 @@ impl<D: EraseDisk + Drop> Journal<D> {
     ghost use Rattle.page_journal.specs.Calls.{IsDown, IsIdle, SameButDisk, SameJournal, TakesSlot};
     ghost use Rattle.page_journal.specs.Outcome.{disk_after, outcome};
 
-    /// Makes a journal with `homes` home pages on a disk. The pages keep what the disk holds.
+    /// Makes a journal with `homes` home pages on a disk. The pages keep the disk's octets.
     ///
     /// The note is of zeros. See [`Journal::create_with`].
     pub fn create(alloc: Global, disk: D, homes: u64) -> Result<Self, Refused<D, CreateError>>
@@ -61,11 +61,11 @@ impl<D: EraseDisk + Drop> Journal<D> {
         Journal::create_with(alloc, disk, homes, [0; 11], &[])
     }
 
-    /// Makes a journal with `homes` home pages on a disk. The first pages are written, and the others keep what the
-    /// disk holds.
+    /// Makes a journal with `homes` home pages on a disk. The first pages are written, and the others keep the
+    /// disk's octets.
     ///
     /// The note is for the layers above. The first octet of the identity page is written last, and alone: a crash
-    /// before the call returns leaves what the disk held, no journal, or this one. A disk of fewer than `homes` and 265
+    /// before the call returns leaves what was on the disk, no journal, or this one. A disk of fewer than `homes` and 265
     /// pages of 16,384 octets is refused as too small.
     pub fn create_with(
         alloc: Global,
@@ -81,7 +81,7 @@ impl<D: EraseDisk + Drop> Journal<D> {
         ensures idle { IfOk result (IsIdle D.EraseDisk) }
         ensures crash { D.honest disk → Leaves (D.model disk) (D.model (disk_after result)) (NoneOrJournal homes note (laid first.now (homes_from (D.model disk).octet 0 homes))) }
 
-        // The disk is refused for its size exactly where it is too small. It isn't written then, nor where memory runs out.
+        // The disk is refused as too small exactly if it is. It isn't written then, nor if memory runs out.
         ensures room { OnOk result (home_place homes ≤ D.octet_count disk) }
         ensures refused { IfErr (outcome result) (CreateRefusal homes (D.octet_count disk)) }
         ensures untouched { IfErr result (λ refused. refused.error ≢ CreateError.Fault → refused.disk ≡ disk) }
@@ -101,12 +101,12 @@ impl<D: EraseDisk + Drop> Journal<D> {
         }
     }
 
-    /// Opens the journal of a disk, and recovers it: what open slots hold is written home, and they are closed.
+    /// Opens the journal of a disk, and recovers it: the images of open slots are written home, and the slots are closed.
     ///
-    /// All slots are looked at before anything is written. A disk that only this journal wrote is refused only where
+    /// All slots are checked before anything is written. A disk that only this journal wrote is refused only if
     /// memory runs out or the device fails, whatever a crash left of it.
     pub fn open(alloc: Global, mut disk: D) -> Result<Self, Refused<D, OpenError>>
-        // What a read gives before the call is what the journal keeps, and each crash leaves it too.
+        // The journal represents what the disk reads as before the call, and each crash leaves the same.
         ensures opened { D.honest disk → IfOk result (λ journal. (pages : List (List ℕ)) → Recovers (home_pages journal) (note_of journal) (D.model disk).octet pages
             → Keeps D.EraseDisk journal pages) }
         ensures found { D.honest disk → IfOk result (λ journal. (pages : List (List ℕ)) × Recovers (home_pages journal) (note_of journal) (D.model disk).octet pages) }
@@ -116,7 +116,7 @@ impl<D: EraseDisk + Drop> Journal<D> {
         ensures idle { IfOk result (IsIdle D.EraseDisk) }
         ensures room { IfOk result (λ journal. home_place (home_pages journal) ≤ D.octet_count disk) }
 
-        // A disk is refused for what stands on it alone, and isn't written then. One that means a map is never damaged.
+        // Only the disk's octets are a reason to refuse it, and then it isn't written. One with a journal is never corrupt.
         ensures kinds { IfErr (outcome result) IsOpening }
         ensures refused { D.honest disk → IfErr (outcome result) (OpenRefusal (D.octet_count disk) (D.model disk).octet) }
         ensures undamaged { D.honest disk → (homes : ℕ) (note : List ℕ) (pages : List (List ℕ)) → Recovers homes note (D.model disk).octet pages
@@ -177,7 +177,7 @@ impl<D: EraseDisk + Drop> Journal<D> {
         !self.needs_recovery
     }
 
-    /// The page that was posted and isn't written home for longest, however often it was posted again since.
+    /// The page that has waited longest to be written home, however often it was posted again since.
     pub fn oldest_unhomed(&self) -> Option<u64>
         ensures oldest { result ≡ slice_get (unhomed_pages self.now) 0 }
         ensures listed { IfSome result (λ n. IsListed n (unhomed_pages self.now)) }
@@ -187,21 +187,21 @@ impl<D: EraseDisk + Drop> Journal<D> {
         unhomed::oldest(&self.unhomed)
     }
 
-    /// Gives its disk up.
+    /// Returns its disk.
     pub fn into_disk(self) -> D
         ensures disk { result ≡ disk_of self }
     {
         self.disk
     }
 
-    /// Reads a page of the map. After a failure `into` holds any octets.
+    /// Reads a committed page. After a failure `into` has any octets.
     pub fn read(&mut self, n: u64, into: &mut Page) -> Result<(), UseError>
         requires { n < home_pages self.old }
 
         ensures page { D.honest (disk_of self.old) → (pages : List (List ℕ)) → Keeps D.EraseDisk self.old pages
             → OnOk result (slice_get pages n ≡ Some into.new) }
 
-        // Done or failed, it writes nothing, and the journal keeps what it kept.
+        // Done or failed, it writes nothing, and the journal represents the same pages.
         ensures keeps { D.honest (disk_of self.old) → (pages : List (List ℕ)) → Keeps D.EraseDisk self.old pages
             → Keeps D.EraseDisk self.new pages }
         ensures stays { D.honest (disk_of self.old) → Stays (D.model (disk_of self.old)) (D.model (disk_of self.new)) }
@@ -270,13 +270,13 @@ impl<D: EraseDisk + Drop> Journal<D> {
         Ok(())
     }
 
-    /// Writes a page of the map home, as the map has it. Where the page wasn't posted, or is home, it does nothing.
+    /// Writes a committed page to its home place. If the page wasn't posted, or is home, nothing is written.
     ///
-    /// Another page than the map's would stand in the map after the next checkpoint.
+    /// The caller gives the committed octets: others would replace them at the next checkpoint.
     pub fn home(&mut self, n: u64, page: &Page) -> Result<(), UseError>
         requires { n < home_pages self.old }
 
-        // Each crash leaves the same map, whatever the page, since an open slot covers it.
+        // Each crash leaves the same committed pages, whatever the octets given, since an open slot has an image.
         ensures crash { D.honest (disk_of self.old) → (pages : List (List ℕ)) → Keeps D.EraseDisk self.old pages
             → Leaves (D.model (disk_of self.old)) (D.model (disk_of self.new)) (λ c. Recovers (home_pages self.old) (note_of self.old) c pages) }
         ensures keeps { D.honest (disk_of self.old) → (pages : List (List ℕ)) → Keeps D.EraseDisk self.old pages
@@ -306,7 +306,7 @@ impl<D: EraseDisk + Drop> Journal<D> {
         Ok(())
     }
 
-    /// Closes the open slots, the oldest first, once all pages are home. Where no slot is open it does nothing.
+    /// Closes the open slots, the oldest first, once all pages are home. If no slot is open it does nothing.
     pub fn checkpoint(&mut self) -> Result<(), UseError>
         requires { length (unhomed_pages self.old) ≡ 0 }
 

@@ -3,7 +3,7 @@ use crate::error::{CreateError, OpenError, PostError, UseError};
 use std::alloc::AllocError;
 use thiserror::Error;
 
-/// Why some call of a journal refuses, as one list of all reasons. Each call has its own.
+/// Why some call of a journal is refused, as one list of all reasons. Each call has its own.
 #[derive(Clone, Copy, Debug, PartialEq, Eq, Error)]
 pub enum JournalError {
     /// The device failed.
@@ -15,7 +15,7 @@ pub enum JournalError {
     /// No slot is closed.
     #[error("no slot of the journal is closed")]
     JournalFull,
-    /// The disk holds no journal.
+    /// The disk has no journal.
     #[error("the disk holds no journal")]
     NotAJournal,
     /// The journal must be opened again.
@@ -27,7 +27,7 @@ pub enum JournalError {
     /// This page of the disk is damaged.
     #[error("page {0} of the disk is damaged")]
     BadNode(u64),
-    /// A growth was refused.
+    /// An allocation failed.
     #[error("out of memory")]
     OutOfMemory,
 }

@@ -1,6 +1,6 @@
-//! Where the parts of a journal stand on its disk, and how large they are. Places are octets from 0 on.
+//! Where the parts of a journal are on its disk, and how large they are. Places are octets from 0 on.
 //!
-//! The disk's first page says what it holds. It is followed by eight slots, each of a page for its gate (the commit flag),
+//! The disk's first page is its identity. It is followed by eight slots, each of a page for its gate (the commit flag),
 //! one for its header and 31 for images, and then by the home pages. These are constants, so that code and definitions compute
 //! to the same number.
 

@@ -1,4 +1,4 @@
--- Why the calls of a transaction refuse.
+-- Why the calls of a transaction are refused.
 use Rattle.std.specs.Prelude.{◌≡◌, ◌<◌, ◌≤◌, ℕ, Bool, true, false}
 use Rattle.buffer_pool.specs.declared.error.FetchError.{FetchError}
 use Rattle.buffer_pool.specs.declared.error.FetchError.TheVariants as fetches
@@ -19,7 +19,7 @@ FetchRefusal down OutOfMemory = down ≡ false
 FetchRefusal down TooManyImages = ⊥
 FetchRefusal down PagesFull = ⊥
 
--- the reasons for which no image is laid, where images of `count` pages would then be held
+-- the reasons for which no image is laid, if images of `count` pages would then be held
 abbrev pub SetRefusal : ℕ → PageError → Type 0
 SetRefusal count TooManyImages = 31 < count
 SetRefusal count OutOfMemory = count ≤ 31

@@ -1,4 +1,4 @@
--- What contracts say of a transaction.
+-- The terms of contracts on a transaction.
 use Rattle.std.specs.Prelude.{◌≡◌, ◌⊎◌, ℕ, List}
 use Rattle.disk_models.specs.declared.erase.EraseDisk.{Ghosts}
 use Rattle.page_journal.specs.Journal.{disk_of, note_of}
@@ -13,7 +13,7 @@ use Rattle.page_tx.specs.declared.tx.Tx.{Tx}
 abbrev pub pool_of : {D : Type 0} {device : Ghosts D} → Tx D device → Pool D device
 pool_of tx = tx.pool
 
--- the numbers of the pages of which it holds images
+-- the numbers of the pages of which it has images
 abbrev pub named_pages : {D : Type 0} {device : Ghosts D} → Tx D device → List ℕ
 named_pages tx = pages_of tx.images.items
 
@@ -25,7 +25,7 @@ next_page tx = tx.next
 abbrev pub IsThere : {D : Type 0} {device : Ghosts D} → Tx D device → ℕ → Type 0
 IsThere tx n = IsListed n (named_pages tx) ⊎ IsResident tx.pool n
 
--- The pool maps the pages of the start, and with all images laid over them they are the pages that are shown. Since
+-- The pool represents the pages of the start, and with all images laid over them they are the pages that are shown. Since
 -- the start nothing was written.
 pub record Shows {D : Type 0} (device : Ghosts D) (tx : Tx D device) (start : Start) (shown : List (List ℕ)) : Type 0 where
   pub honest : device.honest (disk_of (journal_of tx.pool))

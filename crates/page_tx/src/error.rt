@@ -1,4 +1,4 @@
-//! Why a transaction doesn't read, set or give a page.
+//! Why a transaction doesn't read, set or add a page.
 ghost use Rattle.std.specs.Prelude.{◌≡◌};
 ghost use Rattle.page_tx.specs.declared.error.PageError.TheVariants as refusals;
 
@@ -6,7 +6,7 @@ use buffer_pool::FetchError;
 use std::alloc::AllocError;
 use thiserror::Error;
 
-/// Why a transaction doesn't read, set or give a page.
+/// Why a transaction doesn't read, set or add a page.
 #[derive(Clone, Copy, Debug, PartialEq, Eq, Error)]
 pub enum PageError {
     /// The device failed. The transaction goes on.
@@ -15,13 +15,13 @@ pub enum PageError {
     /// An earlier write or sync failed, and the journal wasn't opened again since.
     #[error("the journal must be opened again")]
     NeedsRecovery,
-    /// The transaction would hold images of more than 31 pages.
+    /// The transaction would have images of more than 31 pages.
     #[error("a transaction would hold more than 31 pages")]
     TooManyImages,
-    /// Fewer pages are left that were never used than the call needs.
+    /// Fewer unused pages are left than the call needs.
     #[error("too few pages are left")]
     PagesFull,
-    /// A growth was refused.
+    /// An allocation failed.
     #[error("out of memory")]
     OutOfMemory,
 }

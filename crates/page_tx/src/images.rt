@@ -29,14 +29,14 @@ pub fn place_of(images: &[(u64, Page)], n: u64) -> Option<usize>
     None
 }
 
-// How many images more are held with one of this page: 1 where none is held, else 0.
+// How many more images there are with one of this page: 1 if there is none yet, else 0.
 pub fn count_one(held: &[(u64, Page)], n: u64) -> usize
     ensures { result ≡ length (without (pages_of held.now) (n ∷ [])) }
 {
     if place_of(held, n).is_some() { 0 } else { 1 }
 }
 
-// How many images more are held with these.
+// How many more images there are with these.
 pub fn count_new(held: &[(u64, Page)], images: &[(u64, Page)]) -> usize
     ensures { result ≡ length (without (pages_of held.now) (pages_of images.now)) }
 {
@@ -49,7 +49,7 @@ pub fn count_new(held: &[(u64, Page)], images: &[(u64, Page)]) -> usize
     count
 }
 
-// Makes room for `more` images more.
+// Makes room for `more` further images.
 pub fn make_room(held: &mut Vec<(u64, Page)>, more: usize) -> Result<(), PageError>
     requires { length held.old.items ≤ 31 }
     ensures items { held.new.items ≡ held.old.items }

@@ -10,12 +10,12 @@ ghost use Rattle.page_tx.specs.Device.{KeepsDevice};
 use crate::error::PageError;
 use disk_models::Page;
 
-/// A map of pages with images laid over it, which become one change of the map together.
+/// The committed pages with images laid over them, which are committed together.
 ///
-/// Several owners of ranges of pages are each given it in turn. What one of them shows after its part, the next begins
+/// Several owners of ranges of pages are each given it in turn. What is shown after the part of one, the next begins
 /// with.
 pub trait Pages {
-    /// What was at the start, and the pages that are shown: those of the start with all images laid over them. It holds
+    /// What was at the start, and the pages that are shown: those of the start with all images laid over them. It is true
     /// only of a device that follows its model.
     ghost shows: { Self → Start → List (List ℕ) → Type 0 };
 
@@ -28,7 +28,7 @@ pub trait Pages {
     /// The first page that was never used.
     ghost next: { Self → ℕ };
 
-    /// The numbers of the pages of which images are held, each once.
+    /// The numbers of the pages that have images, each once.
     ghost named: { Self → List ℕ };
 
     /// An earlier write or sync failed, and the journal wasn't opened again since.
@@ -40,7 +40,7 @@ pub trait Pages {
     /// How often the device has failed.
     ghost faults: { Self → ℕ };
 
-    /// Sees to it that a page is in memory. Of one that is there it asks for no device and no memory.
+    /// Brings a page into memory. One that is there needs no device and no further memory.
     fn fetch(&mut self, n: u64) -> Result<(), PageError>
         requires { n < homes self.old }
         ensures resident { OnOk result (resident self.new n) }
@@ -57,7 +57,7 @@ pub trait Pages {
         ensures down { down self.new ≡ down self.old }
         ensures device { KeepsDevice (honest self.old) (honest self.new) (faults self.old) (faults self.new) (IsErrOf result PageError.Fault) };
 
-    /// A page as it is shown, lent without a copy, where it is in memory.
+    /// A page as it is shown, lent without a copy, if it is in memory.
     fn page(&self, n: u64) -> Option<&Page>
         ensures there { resident self.now n → IsSome result }
         ensures shown { (start : Start) (shown : List (List ℕ)) → shows self.now start shown → n < homes self.now → IfSome result (λ page. slice_get shown n ≡ Some page.now) };
@@ -119,7 +119,7 @@ pub trait Pages {
     fn home_pages(&self) -> u64
         ensures { result ≡ homes self.now };
 
-    /// Of how many pages it holds images: at most 31.
+    /// How many pages have images: at most 31.
     fn images(&self) -> usize
         ensures { result ≡ length (named self.now) };
 
@@ -127,19 +127,19 @@ pub trait Pages {
     fn next_page(&self) -> u64
         ensures { result ≡ next self.now };
 
-    /// As many pages are shown as there are.
+    /// All pages are shown.
     ghost count: { (pages : Self) (start : Start) (shown : List (List ℕ)) → shows pages start shown → length shown ≡ homes pages };
 
-    /// A page of which an image is held is in memory.
+    /// A page that has an image is in memory.
     ghost held: { (pages : Self) (n : ℕ) → IsListed n (named pages) → resident pages n };
 
-    /// Images of at most 31 pages are held.
+    /// At most 31 pages have images.
     ghost few: { (pages : Self) → length (named pages) ≤ 31 };
 
     /// No page is named twice.
     ghost distinct: { (pages : Self) → AreDistinct (named pages) };
 
-    /// Each page that is named is one of those that there are.
+    /// Each page that is named exists.
     ghost below: { (pages : Self) → AreBelow (homes pages) (named pages) };
 
     /// The first page that was never used is one of them, or the one after the last.

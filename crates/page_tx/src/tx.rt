@@ -22,7 +22,7 @@ use std::mem;
 
 /// A pool with its one transaction: images of distinct pages, at most 31, that are laid over its pages.
 ///
-/// Only a commit changes the pool's pages, and all of them together. A transaction that is begun again, or let go with
+/// Only a commit changes the pool's pages, and all of them together. A transaction that is begun again, or dropped with
 /// its pool taken back, changes nothing.
 #[derive(Drop)]
 pub struct Tx<D: EraseDisk + Drop> {
@@ -58,7 +58,7 @@ impl<D: EraseDisk + Drop> Tx<D> {
         }
     }
 
-    /// Begins again without an image: those held before are forgotten.
+    /// Begins again without an image: those of before are discarded.
     pub fn begin(&mut self, next: u64)
         requires { next ≤ home_pages (journal_of (pool_of self.old)) }
         ensures pool { pool_of self.new ≡ pool_of self.old }
@@ -83,7 +83,7 @@ impl<D: EraseDisk + Drop> Tx<D> {
         ensures refused { IfErr result (PostRefusal (needs_recovery (journal_of (pool_of self.old))) (length (named_pages self.old)) (closed_slots (journal_of (pool_of self.old)))) }
         ensures few { IsErrOf result PostError.TooManyImages → ⊥ }
 
-        // One slot is taken where an image was held, and none elsewhere.
+        // One slot is taken if an image was held, and otherwise none.
         ensures empty { length (named_pages self.old) ≡ 0 → journal_of (pool_of self.new) ≡ journal_of (pool_of self.old) }
         ensures taken { 0 < length (named_pages self.old) → OnOk result (opened_slots (journal_of (pool_of self.new)) ≡ opened_slots (journal_of (pool_of self.old)) + 1) }
 
@@ -157,7 +157,7 @@ impl<D: EraseDisk + Drop> Tx<D> {
         &self.pool
     }
 
-    /// Gives the pool back. The images are forgotten.
+    /// Returns the pool. The images are discarded.
     pub fn into_pool(self) -> Pool<D>
         ensures pool { result ≡ pool_of self }
     {

@@ -90,7 +90,7 @@ pub record IsFirstFault (rule : WithoutHop) (collector : ℕ) (peers : List Neig
   pub well : AreChangesOf rule collector peers prefix before changes
   pub faulty : IsFaultOf rule peers prefix entry fault
 
--- an entry's announcement, none where it is left out, or why there is none
+-- an entry's announcement, none if it is left out, or why there is none
 abbrev pub EntryGives : WithoutHop → ℕ → List Neighbor → IpPrefix → Entry → Result (Option Change) ResolveFault → Type 0
 EntryGives rule collector peers prefix entry (Ok (Some change)) = IsChangeOf collector peers prefix entry change
 EntryGives rule collector peers prefix entry (Ok None) = IsLeftOut rule peers entry
@@ -106,11 +106,11 @@ EntriesGive rule collector peers prefix entries (Err faults.BadPeerIndex) = IsFi
 EntriesGive rule collector peers prefix entries (Err faults.Malformed) = IsFirstFault rule collector peers prefix entries faults.Malformed
 EntriesGive rule collector peers prefix entries (Err faults.RouteTooLarge) = IsFirstFault rule collector peers prefix entries faults.RouteTooLarge
 
--- an entry as it is handed out
+-- an entry as it is returned
 abbrev pub entry_shown : RibEntry → Entry
 entry_shown entry = record { peer_index = entry.peer_index; attributes = entry.attributes.now }
 
--- the route that the octets of attributes give, none where their entry is left out, or why they give none
+-- the route that the octets of attributes give, none if their entry is left out, or why they give none
 abbrev pub RouteRead : WithoutHop → Family → List ℕ → Result (Option Route) MessageFault → Type 0
 RouteRead rule family octets (Ok (Some route)) = (a : PathAttributes) × AreAttributes widths.Four octets a × IsEntryRoute family a route × (length (route_octets route) ≤ 3072)
 RouteRead rule family octets (Ok None) = LeavesOut rule octets

@@ -9,7 +9,7 @@ use Rattle.resolve.specs.declared.fault.ResolveFault.{ResolveFault}
 use Rattle.resolve.specs.declared.fault.ResolveFault.TheVariants as faults
 use Rattle.resolve.specs.declared.without_hop.WithoutHop.{WithoutHop}
 
--- the record that comes after these gives this under their last peer table, where entries without a next hop are taken so; running out of memory is no meaning
+-- the record that comes after these gives this under their last peer table, under this rule for entries without a next hop; out of memory is no meaning
 pub record IsMeaning (rule : WithoutHop) (c : ℕ) (before : List Reported) (next : Reported) (result : Result (Option Admitted) ResolveFault) : Type 0 where
   pub table : Option (List Neighbor)
   pub last : LastTable before table

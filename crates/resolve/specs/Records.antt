@@ -39,7 +39,7 @@ MessageGives peer time width octets (Err faults.OutOfMemory) = Unit {0}
 abbrev pub state_changes : Peer → ℕ → List Change
 state_changes peer state = if state == 6 then [] else changes.Down peer ∷ []
 
--- what a state change gives: the end of the routes of the peer, where that fits an admission; never nothing
+-- what a state change gives: the end of the routes of the peer, if that fits an admission; never nothing
 abbrev pub StateGives : Peer → ℕ → ℕ → Result (Option Admitted) ResolveFault → Type 0
 StateGives peer time state (Ok None) = ⊥
 StateGives peer time state (Ok (Some a)) = (a ≡ admitted time (state_changes peer state)) × (IsLong a → ⊥)
@@ -50,11 +50,11 @@ StateGives peer time state (Err faults.NoPeerTable) = ⊥
 StateGives peer time state (Err faults.BadPeerIndex) = ⊥
 StateGives peer time state (Err faults.OutOfMemory) = Unit {0}
 
--- the announcements of the entries, of which there are none only where there is no entry
+-- the announcements of the entries, of which there are none only if there is no entry
 abbrev pub AreAnnounced : WithoutHop → ℕ → List Neighbor → IpPrefix → List Entry → List Change → Type 0
 AreAnnounced rule c peers prefix entries list = AreChangesOf rule c peers prefix entries list × (list ≡ [] → entries ≡ [])
 
--- one announcement for each entry that isn't left out, under the peers of the feed's peer table; nothing where there are entries and all are left out
+-- one announcement for each entry that isn't left out, under the peers of the feed's peer table; nothing if there are entries and all are left out
 abbrev pub RibGives : WithoutHop → ℕ → List Neighbor → ℕ → IpPrefix → List Entry → Result (Option Admitted) ResolveFault → Type 0
 RibGives rule c peers time prefix entries (Ok None) = AreChangesOf rule c peers prefix entries [] × (entries ≡ [] → ⊥)
 RibGives rule c peers time prefix entries (Ok (Some a)) = (list : List Change) × AreAnnounced rule c peers prefix entries list × (a ≡ admitted time list) × (IsLong a → ⊥)
@@ -70,7 +70,7 @@ abbrev pub RibGivesUnder : WithoutHop → ℕ → Option (List Neighbor) → ℕ
 RibGivesUnder rule c None time prefix entries result = result ≡ Err faults.NoPeerTable
 RibGivesUnder rule c (Some peers) time prefix entries result = RibGives rule c peers time prefix entries result
 
--- what a record gives, for the collector c, in a feed with this peer table, where entries without a next hop are taken so
+-- what a record gives for the collector c, in a feed with this peer table, under this rule for entries without a next hop
 abbrev pub Gives : WithoutHop → ℕ → Option (List Neighbor) → records.Reported → Result (Option Admitted) ResolveFault → Type 0
 Gives rule c table (records.Read (records.Message time peer width octets)) result = MessageGives (peer_of_neighbor c peer) time width octets result
 Gives rule c table (records.Read (records.StateChange time peer state)) result = StateGives (peer_of_neighbor c peer) time state result
@@ -79,7 +79,7 @@ Gives rule c table (records.Read (records.PeerTable peers)) result = (result ≡
 Gives rule c table (records.Skipped kind subtype) result = result ≡ Ok None
 Gives rule c table (records.Malformed kind subtype) result = result ≡ Err faults.Malformed
 
--- how many entries a record has beyond what it announces, where it isn't refused: those that are left out
+-- how many entries a record has beyond what it announces, if it isn't refused: those that are left out
 abbrev pub left_out : records.Reported → Result (Option Admitted) ResolveFault → ℕ
 left_out (records.Read (records.Rib time prefix entries)) (Ok (Some a)) = length entries - length a.changes
 left_out (records.Read (records.Rib time prefix entries)) (Ok None) = length entries

@@ -14,7 +14,7 @@ IsPeerTableRecord (Read (Rib time prefix entries)) = ⊥
 IsPeerTableRecord (Skipped kind subtype) = ⊥
 IsPeerTableRecord (Malformed kind subtype) = (kind ≡ 13) × (subtype ≡ 1)
 
--- the peers of a record that is a peer table: none where it is malformed
+-- the peers of a record that is a peer table: none if it is malformed
 abbrev pub peers_of : Reported → Option (List Neighbor)
 peers_of (Read (PeerTable peers)) = Some peers
 peers_of (Read (Message time peer width octets)) = None
@@ -23,7 +23,7 @@ peers_of (Read (Rib time prefix entries)) = None
 peers_of (Skipped kind subtype) = None
 peers_of (Malformed kind subtype) = None
 
--- after these records the feed has this peer table: that of the last peer table of them; none where that one is
+-- after these records the feed has this peer table: that of the last peer table of them; none if that one is
 -- malformed, or none came
 abbrev pub LastTable : List Reported → Option (List Neighbor) → Type 0
 LastTable records table =

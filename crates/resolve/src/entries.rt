@@ -33,7 +33,7 @@ fn family_of(address: &Address) -> Family
     }
 }
 
-/// Whether nothing gives an entry with these attributes a next hop.
+/// Whether an entry with these attributes has no next hop.
 fn has_no_hop(attributes: &PathAttributes<'_>) -> bool
     ensures { IsTrue result ↔ HasNoHop attributes.now }
 {
@@ -50,7 +50,7 @@ fn is_left_out(rule: WithoutHop, attributes: &PathAttributes<'_>) -> bool
     }
 }
 
-/// The route that the attributes of an entry give, none where the entry is left out.
+/// The route that the attributes of an entry give, none if the entry is left out.
 fn route_of(
     alloc: Global,
     rule: WithoutHop,
@@ -74,7 +74,7 @@ struct KnownRoute<'a> {
     route: SharedRoute,
 }
 
-/// The known route, where these attributes gave it.
+/// The known route, if these attributes gave it.
 fn known_route(
     known: &Option<KnownRoute<'_>>,
     attributes: &[u8],
@@ -84,7 +84,7 @@ fn known_route(
     let Some(known) = known else {
         return Ok(None);
     };
-    // Others mostly end in another octet, which is quick to see.
+    // Others mostly end in another octet, which is quick to compare.
     if known.attributes.last() != attributes.last() {
         return Ok(None);
     }
@@ -94,7 +94,7 @@ fn known_route(
     Ok(Some(known.route.share()?))
 }
 
-/// The announcement of an entry, none where it is left out. Its route is known from then on.
+/// The announcement of an entry, none if it is left out. Its route is known from then on.
 fn change_of<'a>(
     alloc: Global,
     rule: WithoutHop,
@@ -126,7 +126,7 @@ fn change_of<'a>(
     Ok(Some(Change::Announce(peer, *prefix, route)))
 }
 
-/// Adds the change, where there is one.
+/// Adds the change, if there is one.
 fn add_some(changes: &mut Vec<Change>, change: Option<Change>) -> Result<(), AllocError>
     ensures { OnOk result (changes.new.items ≡ changes.old.items ++ option_to_list change) }
 {

@@ -12,7 +12,7 @@ use thiserror::Error;
 /// without one.
 #[derive(Clone, Copy, Debug, Error, PartialEq, Eq)]
 pub enum ResolveFault {
-    /// The record, or a message or attributes in it, has no reading.
+    /// The record, or a message or attributes in it, is malformed.
     #[error("the record is malformed")]
     Malformed,
     /// A route that it announces has an encoding of more than 3,072 octets.
@@ -27,7 +27,7 @@ pub enum ResolveFault {
     /// The admission has an encoding of more than 131,072 octets.
     #[error("the admission has more than 131072 octets")]
     AdmissionTooLarge,
-    /// A growth of memory was refused.
+    /// An allocation failed.
     #[error("out of memory")]
     OutOfMemory,
 }

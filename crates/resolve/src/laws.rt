@@ -20,8 +20,8 @@ pub fn feeds_have_one_meaning()
     ensures meaning { (rule : WithoutHop) (c : ℕ) (records : List Reported) (x y : List (Result (Option Admitted) ResolveFault)) → Means rule c records x → Means rule c records y → x ≡ y }
 {}
 
-/// Where entries without a next hop are left out, a RIB record means what the record of its other entries means where they are refused; one
-/// that has no other means nothing. Where such a record isn't refused, as many are counted as there are beyond the others. Only out of memory is
+/// If entries without a next hop are left out, a RIB record means what the record of its other entries alone means; one
+/// that has no other means nothing. If such a record isn't refused, as many are counted as there are beyond the others. Only out of memory is
 /// returned at any record.
 pub fn records_mean_what_their_other_entries_mean()
     ensures others { (c : ℕ) (peers : List Neighbor) (time : ℕ) (prefix : IpPrefix) (entries others : List Entry) (result : Result (Option Admitted) ResolveFault) → AreOthers (IsLeftOut WithoutHop.LeftOut peers) entries others → (others ≡ [] → entries ≡ []) → Gives WithoutHop.LeftOut c (Some peers) (Read (Rib time prefix entries)) result → Gives WithoutHop.Refused c (Some peers) (Read (Rib time prefix others)) result }

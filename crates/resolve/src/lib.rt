@@ -17,8 +17,8 @@
 //! A route has at most 3,072 octets in its encoding, and an admission 131,072. A record above a limit is refused whole, and so is a RIB
 //! record with a fault in one entry: the first fault, in the order of entries, is returned.
 //!
-//! Some producers write entries without NEXT_HOP and MP_REACH_NLRI. By `WithoutHop` such an entry refuses its record, or it is left out and
-//! counted; a record of which all entries are left out gives nothing.
+//! Some producers write entries without NEXT_HOP and MP_REACH_NLRI. By `WithoutHop` the record of such an entry is refused, or the entry is
+//! left out and counted; a record of which all entries are left out gives nothing.
 //!
 //! Changes share routes: the prefixes of NLRI have one, those of MP_REACH_NLRI another, and an entry with the same attribute octets as the
 //! one of its record whose route was read last has that route, and isn't read.

@@ -23,7 +23,7 @@ const PEER_INDEX_TABLE: u16 = 1;
 /// The state Established (RFC 4271 section 8.2.2).
 const ESTABLISHED: u16 = 6;
 
-/// What is kept of a feed of a collector: its peer table, which later records need, and how many entries were left out.
+/// The state of a feed of a collector: its peer table, which later records need, and how many entries were left out.
 #[derive(Debug, Drop)]
 pub struct Resolver {
     collector: u8,
@@ -31,7 +31,7 @@ pub struct Resolver {
     left_out: u64,
 }
 
-/// Are these the type and the subtype of a peer table?
+/// Whether these are the type and the subtype of a peer table.
 fn is_peer_table(kind: u16, subtype: u16) -> bool
     ensures { IsTrue result ↔ (kind ≡ 13) × (subtype ≡ 1) }
 {
@@ -103,7 +103,7 @@ fn of_rib(
     Ok(Some(Admission::new(time, changes)?))
 }
 
-/// How many entries of a record that means this are left out.
+/// How many entries of a record of this meaning are left out.
 fn left_out_of(item: &Item, meaning: &Result<Option<Admission>, ResolveFault>) -> u64
     ensures { result ≡ left_out (reported item.now) meaning.now }
 {
@@ -130,7 +130,7 @@ impl Model for Resolver {
 }
 
 impl Resolver {
-    /// The feed of a collector, of which no record came yet.
+    /// The feed of a collector, before its first record.
     pub fn new(collector: u8) -> Resolver
         ensures collector { result.collector ≡ collector }
         ensures none { result.table ≡ None }
@@ -143,7 +143,7 @@ impl Resolver {
         }
     }
 
-    /// How many entries were left out of the records until now; the count stops at 18446744073709551615.
+    /// How many entries of the records so far were left out; the count stops at 18446744073709551615.
     pub fn left_out(&self) -> u64
         ensures { result ≡ self.now.left_out }
     {
@@ -180,7 +180,7 @@ impl Resolver {
         Ok(())
     }
 
-    /// What the record means that comes next in the feed; nothing is counted yet.
+    /// The meaning of the next record of the feed; nothing is counted yet.
     fn meaning(
         &mut self,
         alloc: Global,
@@ -235,8 +235,8 @@ impl Resolver {
             }
         }
     }
-    /// What the record means that comes next in the feed: an admission, nothing, or why it is refused. An entry of a RIB record
-    /// that has no next hop is taken as `rule` says: it refuses the record, or it is left out and counted. A record of which all
+    /// The meaning of the next record of the feed: an admission, nothing, or why it is refused. An entry of a RIB record
+    /// that has no next hop is taken by `rule`: the record is refused, or the entry is left out and counted. A record of which all
     /// entries are left out means nothing.
     pub fn record(
         &mut self,

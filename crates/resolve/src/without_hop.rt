@@ -1,6 +1,6 @@
 //! How entries without a next hop are taken.
 
-/// How a RIB record is taken of which an entry has no next hop: there is neither NEXT_HOP nor MP_REACH_NLRI.
+/// What becomes of a RIB record if an entry has no next hop: neither NEXT_HOP nor MP_REACH_NLRI.
 #[derive(Clone, Copy, Debug, PartialEq, Eq)]
 pub enum WithoutHop {
     /// The record is refused, with its other entries.

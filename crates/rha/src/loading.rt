@@ -30,7 +30,7 @@ impl Noted {
     }
 }
 
-/// Nothing yet of each of `count` files. None where there is no memory.
+/// Nothing yet of each of `count` files. None if there is no memory.
 fn noted_of(rt: &HostRuntime, count: usize) -> Option<Vec<Noted>> {
     let mut noted = Vec::new(rt.alloc());
     for _ in 0..count {
@@ -39,7 +39,7 @@ fn noted_of(rt: &HostRuntime, count: usize) -> Option<Vec<Noted>> {
     Some(noted)
 }
 
-/// The files of these names. None where there is no memory.
+/// The files of these names. None if there is no memory.
 fn sources_of<'a, 'o>(
     rt: &'a HostRuntime,
     names: &[&'a str],

@@ -6,7 +6,7 @@
 //! (SIGXFSZ), and the archive's files ask for that limit before each write.
 //!
 //! `--wait` tries again ten times a second: three files are locked one after another, and no call waits some seconds for a
-//! lock; so nobody has a place in a line. Which process has an archive is read in `/proc/locks`, by the device and inode of
+//! lock; so processes that wait aren't queued. Which process has an archive is read in `/proc/locks`, by the device and inode of
 //! `pages.rha`. `info` reads the head in the file of the pages, while it holds the archive: an opening brings all pages
 //! home and closes the slots, so the file has what the archive has.
 //!

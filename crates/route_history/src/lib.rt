@@ -1,7 +1,7 @@
 //! Questions of a route history as turns over versions by key and stamp, of which some lie in settled blocks: what version
-//! a change is, and how the rows and events of answers are gathered, one look after another.
+//! a change is, and how the rows and events of answers are gathered, one lookup after another.
 //!
-//!     walk of a question of a moment, over the keys               look from   found                       the cursor then
+//!     walk of a question of a moment, over the keys               lookup from found                       the cursor then
 //!       session of p   (p, x)   (p, y)   session of q   ..        session     it ended at stamp e         keeps e, is past the session
 //!                                                                 (p, x)      a value of stamp s > e      has the row, is past (p, x)
 //!                                                                 (p, y)      a value of stamp s <= e     has no row, is past (p, y)
@@ -14,12 +14,12 @@
 //! and ends the walk.
 //!
 //! A question of a history asks for both keys, the prefix's and the session's, from one stamp. Before the lesser of the
-//! stamps that the two looks return all versions are there, and their events are put in the order of their stamps; so an
-//! errand may have two places. An errand may end the walk: then the next turn returns the answer without a look. What
+//! stamps that the two lookups return all versions are there, and their events are put in the order of their stamps; so an
+//! errand may have two places. An errand may end the walk: then the next turn returns the answer without a lookup. What
 //! encodes no route is passed over, as is a version of the history whose time is no moment. After a refused turn the cursor
 //! may have leapt; what it has gathered is the same.
 //!
-//! A caller that owns pages and a reader makes the looks itself: it asks a cursor for the next one, and gives it what was
+//! A caller that owns pages and a reader makes the lookups itself: it asks a cursor for the next one, and gives it what was
 //! found (`next_look`, `take_reached`, `take_parts`). That a walk comes further is stated without the versions (`rose`), so
 //! it ends over damaged pages too. The archive and `tree_questions` use [`version_of_change`], these calls, the errands and
 //! the laws; [`take_rows_turn`] and [`take_events_turn`] serve a store that is one value, as in tests.

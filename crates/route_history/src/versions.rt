@@ -15,7 +15,7 @@ use version_model::Stamp;
 /// Versions by key and stamp. Those that are current can be looked up at once; others lie in settled blocks, and a look returns
 /// their place.
 pub trait Versions {
-    /// By these settled blocks the store stands for these versions, in the order of their stamps.
+    /// By these settled blocks the store represents these versions, in the order of their stamps.
     ghost stands: { Self → (ℕ → Option BlockNode) → List Version → Type 0 };
 
     /// The next key from `from` on, itself included, that has a value as of the stamp; or a higher key below which none has;

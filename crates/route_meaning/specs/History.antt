@@ -11,7 +11,7 @@ pub record Intake : Type 0 where
   pub mark : ℕ
   pub offered : ℕ
 
--- the intakes of the collectors 0, 1 and so on; and how far the admissions are applied: the first `whole` of the one order, and the first `some` changes of the next
+-- the intakes of the collectors 0, 1 and so on; and how far the admissions are applied: the first `whole` of the merged order, and the first `some` changes of the next
 pub record History : Type 0 where
   pub intakes : List Intake
   pub whole : ℕ
@@ -39,7 +39,7 @@ front whole some ps = take whole ps ++ begun some (drop whole ps)
 abbrev pub applied : History → List (Placed Admitted)
 applied h = front h.whole h.some (all_of h)
 
--- the time of the first, or the mark where there is none
+-- the time of the first, or the mark if there is none
 abbrev pub first_or : {X : Type 0} → (X → ℕ) → ℕ → List X → ℕ
 first_or time mark [] = mark
 first_or time mark (x ∷ xs) = time x
@@ -49,7 +49,7 @@ abbrev pub bounds : ℕ → List Intake → List (Placed Admitted) → List ℕ
 bounds c [] ps = []
 bounds c (i ∷ is) ps = first_or admitted_time i.mark (part c ps) ∷ bounds (suc c) is ps
 
--- the least of the numbers, 0 where there is none
+-- the least of the numbers, 0 if there is none
 abbrev pub least : List ℕ → ℕ
 least [] = 0
 least (n ∷ []) = n

@@ -26,7 +26,7 @@ abbrev pub all_placed : {X : Type 0} → ℕ → List (List X) → List (Placed 
 all_placed c [] = []
 all_placed c (xs ∷ lists) = map (placed c) xs ++ all_placed (suc c) lists
 
--- the lists of the collectors 0, 1 and so on in one order: by time, then by collector, then as they stand in the list
+-- the lists of the collectors 0, 1 and so on in one order: by time, then by collector, then in the order of the list
 abbrev pub merged : {X : Type 0} → (X → ℕ) → List (List X) → List (Placed X)
 merged time lists = by_time (λ p. time p.item) (all_placed 0 lists)
 

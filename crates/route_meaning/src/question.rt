@@ -24,7 +24,7 @@ pub struct Spot {
     pub prefix: Prefix,
 }
 
-/// A question of one moment: the rows that lie strictly above a spot, or all where there is none.
+/// A question of one moment: the rows that lie strictly above a spot, or all if there is none.
 #[derive(Clone, Copy, Debug, PartialEq, Eq)]
 pub struct RowsQuestion {
     pub moment: Moment,

@@ -61,7 +61,7 @@ next_hop (Pair o) = 32 ∷ o
 abbrev pub flag : Bool → ℕ
 flag b = if b then 1 else 0
 
--- a number in four octets where there is one, else nothing
+-- a number in four octets if there is one, else nothing
 abbrev pub optional : Option ℕ → List ℕ
 optional None = []
 optional (Some n) = to_be_bytes w32 n

@@ -3,7 +3,7 @@ use Rattle.std.specs.Prelude.{◌≡◌, ℕ, ◌≤◌, ◌<◌, List, ◌++◌
 use Rattle.route_model.specs.declared.octets.ReadFault.{ReadFault}
 use Rattle.route_model.specs.declared.octets.ReadFault.TheVariants as faults
 
--- Malformed only where no value has the relation
+-- Malformed only if no value has the relation
 abbrev pub NoReading : {V : Type 0} → (V → Type 0) → ReadFault → Type 0
 NoReading {V = V} Reads faults.Malformed = (v : V) → Reads v → ⊥
 NoReading {V = V} Reads faults.OutOfMemory = Unit {0}
@@ -21,12 +21,12 @@ pub record BeginsWith {V : Type 0} (Field : List ℕ → V → Type 0) (bytes : 
   pub is_field : Field field value
   pub parts : bytes ≡ field ++ more
 
--- the field at the front and its size, or none where no field stands there
+-- the field at the front and its size, or none if no field stands there
 abbrev pub AtFront : {V : Type 0} → (List ℕ → V → Type 0) → List ℕ → Option (V × ℕ) → Type 0
 AtFront Field bytes None = BeginsWith Field bytes → ⊥
 AtFront Field bytes (Some found) = (found.1 ≤ length bytes) × (0 < found.1) × Field (take found.1 bytes) found.0
 
--- Malformed only where no field stands at the front
+-- Malformed only if no field stands at the front
 abbrev pub NoFront : {V : Type 0} → (List ℕ → V → Type 0) → List ℕ → ReadFault → Type 0
 NoFront Field bytes faults.Malformed = BeginsWith Field bytes → ⊥
 NoFront Field bytes faults.OutOfMemory = Unit {0}

@@ -126,7 +126,7 @@ fn added_len(before: &[Change], c: &Change) -> usize
     }
 }
 
-/// The length in octets of the encoding of an admission with these changes, or none where it is
+/// The length in octets of the encoding of an admission with these changes, or none if it is
 /// more than [`MAX_ADMISSION_LEN`]: without memory, by a look back for each change.
 fn measure_back(changes: &[Change]) -> Option<usize>
     requires { AllByRecursion IsChange changes.now }
@@ -212,7 +212,7 @@ fn measure_by_tables(alloc: Global, changes: &[Change]) -> Result<Option<usize>,
     Ok(Some(len))
 }
 
-/// The length in octets of the encoding of an admission with these changes, or none where it is
+/// The length in octets of the encoding of an admission with these changes, or none if it is
 /// more than [`MAX_ADMISSION_LEN`]. Tables are made where there is memory for them.
 pub(crate) fn measure(alloc: Global, changes: &[Change]) -> Option<usize>
     requires { AllByRecursion IsChange changes.now }

@@ -122,7 +122,7 @@ impl Key {
         octets
     }
 
-    /// What the key is made of, or none where no session and no prefix has this key.
+    /// What the key is made of, or none if no session and no prefix has this key.
     pub fn parts(self) -> Option<KeyParts>
         ensures found { IfSome result (λ parts. IsKeyParts parts × (self ≡ key_of parts)) }
         ensures only { (parts : KeyParts) → IsKeyParts parts → self ≡ key_of parts → result ≡ Some parts }
@@ -177,7 +177,7 @@ impl Key {
         Key::from_octets(&octets)
     }
 
-    /// The key after this one, or none where this is the last of all.
+    /// The key after this one, or none if this is the last of all.
     pub fn next(self) -> Option<Key>
         ensures next { IfSome result (λ next. next ≡ suc self) }
         ensures last { (result ≡ None) ↔ (suc self ≡ 2 ^ 320) }

@@ -1,18 +1,18 @@
 //! The values of the archive: peers, prefixes, routes, admissions, their unique encodings in
 //! octets, and their keys.
 //!
-//! What a value is belongs to its encoding: "these octets encode this value" says that the value is in its ranges (octets below 256, AS
+//! A value is defined by its encoding: "these octets encode this value" means that the value is in its ranges (octets below 256, AS
 //! numbers of four octets, no bit past a prefix's length, segments of 1 to 255 numbers) and that the octets are its one encoding. So
 //! `decode` returns a value exactly if there is one, and all crates above may rely on what was decoded. Reading is liberal, and what was
 //! read is encoded again and compared: no reader looks for a peer that is listed twice, a table that isn't in the order of first use, or a
-//! presence bit that says nothing. It costs one encoding a reading, of which the part of the routes is kept.
+//! presence bit without a field. It costs one encoding a reading, of which the part of the routes is kept.
 //!
 //!     admission   time 8   peers: each once, in the order of first use   routes: the same   changes: places in both tables, and a prefix
 //!
 //!     key    0     22    23       39      40
 //!            peer  kind  address  length        kind 0: the session, then zeros; 4 or 6: a prefix of this family
 //!
-//! A change holds a [`SharedRoute`]: the route and its encoding, once, shared by a counter, since an UPDATE announces one route for many
+//! A change has a [`SharedRoute`]: the route and its encoding, once, shared by a counter, since an UPDATE announces one route for many
 //! prefixes. An admission is encoded by copying encodings, and its length is known when it is made. Values of the tables are distinguished
 //! by their encoding, which is the same as by value (`encodings_are_one`). The tables are index sets, in which a row is found by its hash
 //! if there are more than eight: so encoding, decoding and measuring take time linear in the changes, also of a RIB record, which has as
@@ -25,7 +25,7 @@
 //!
 //! Moments and marks are types over 64 bits with their range in the invariant, so that another unit of time changes these types and
 //! `IsAdmission` alone. A mark reaches one second further than a moment, so it can be above every moment. A key is five words; a contract
-//! sees the number of their octets. They compare and hash at the speed of words, and one law says that this is the order of rows. Numbers
+//! sees the number of their octets. They compare and hash at the speed of words, and by one law this is the order of rows. Numbers
 //! are read in two ways, by std here and by byteorder in records, pages and blocks; `numbers_agree` is the law between them.
 #![tactic(auto)]
 

@@ -28,7 +28,7 @@ impl Mark {
     /// The last mark, above every moment.
     pub const LAST_SECOND: u64 = 4_294_967_296;
 
-    /// The mark at this many seconds, or none where they are above [`Mark::LAST_SECOND`].
+    /// The mark at this many seconds, or none if they are above [`Mark::LAST_SECOND`].
     pub fn new(seconds: u64) -> Option<Mark>
         ensures mark { SomeIff result (seconds ≤ 4294967296) seconds }
     {

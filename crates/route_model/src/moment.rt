@@ -27,7 +27,7 @@ impl Moment {
     /// The last moment.
     pub const LAST_SECOND: u64 = 4_294_967_295;
 
-    /// The moment at this many seconds, or none where they are above [`Moment::LAST_SECOND`].
+    /// The moment at this many seconds, or none if they are above [`Moment::LAST_SECOND`].
     pub fn new(seconds: u64) -> Option<Moment>
         ensures moment { SomeIff result (seconds ≤ 4294967295) seconds }
     {

@@ -17,7 +17,7 @@ use std::alloc::{AllocError, AllocFailed};
 pub enum ReadFault {
     /// They have no reading.
     Malformed,
-    /// A growth of memory was refused.
+    /// An allocation failed.
     OutOfMemory,
 }
 

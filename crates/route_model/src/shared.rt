@@ -43,7 +43,7 @@ impl SharedRoute {
         Ok(SharedRoute { shared })
     }
 
-    /// The same route once more: nothing is copied. (Memory is refused only where the count of owners
+    /// The same route once more: nothing is copied. (Memory is refused only if the count of owners
     /// would pass its limit.)
     pub fn share(&self) -> Result<SharedRoute, AllocError>
         ensures route { IfOk result (λ r. r ≡ self.now) }

@@ -46,7 +46,7 @@ pub fn as_number_at(width: AsWidth, bytes: &[u8], place: usize) -> u32
 }
 
 /// The prefix of this family at the front, and how many octets it takes (RFC 4271 section 4.3). Bits past
-/// the length are cleared. None where the length is above the family's, or the octets end before the prefix.
+/// the length are cleared. None if the length is above the family's, or the octets end before the prefix.
 pub fn prefix_at(family: Family, bytes: &[u8]) -> Option<(Prefix, usize)>
     ensures front { AtFront (IsPrefixField family) bytes.now result }
 {

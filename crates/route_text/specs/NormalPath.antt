@@ -3,7 +3,7 @@ use Rattle.std.specs.Prelude.{◌≡◌, List, [], ◌∷◌, length}
 use Rattle.route_model.specs.declared.path.Segment.{Segment}
 use Rattle.route_model.specs.declared.path.Segment.TheVariants.{Set, Sequence}
 
--- a sequence stands before another one only where it is full: it has 255 numbers
+-- a sequence stands before another one only if it is full: it has 255 numbers
 abbrev pub MayPrecede : Segment → Segment → Type 0
 MayPrecede (Sequence numbers) (Sequence others) = length numbers ≡ 255
 MayPrecede (Sequence numbers) (Set others) = Unit {0}

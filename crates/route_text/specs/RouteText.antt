@@ -23,7 +23,7 @@ abbrev pub segment_text : Segment → List ℕ
 segment_text (segments.Set numbers) = codes "{" ++ numbers_text 44 numbers ++ codes "}"
 segment_text (segments.Sequence numbers) = numbers_text 32 numbers
 
--- the segments with spaces between them, or a dash where there is none
+-- the segments with spaces between them, or a dash if there is none
 abbrev pub path_text : List Segment → List ℕ
 path_text [] = codes "-"
 path_text (s ∷ path) = join_with_byte 32 (map segment_text (s ∷ path))

@@ -17,7 +17,7 @@ pub enum TextError {
     /// The text is none of those that were asked for.
     #[error("not a text of the kind that was asked for")]
     BadText,
-    /// A growth of memory was refused.
+    /// An allocation failed.
     #[error("out of memory")]
     OutOfMemory,
 }

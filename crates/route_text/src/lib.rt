@@ -2,15 +2,15 @@
 //!
 //!     a route   path|origin|next hop|MED|LOCAL_PREF|aggregate|aggregator|others
 //!
-//! A row is made of many texts, so writers append to one `String`. After a refusal of memory nothing is said
-//! of what the buffer holds. A reader that takes no memory returns [`BadText`], a unit; `read_route`, which
-//! makes lists, returns [`TextError`]: so a lack of memory can't pass for a bad text. A number above the
+//! A row is made of many texts, so writers append to one `String`. After out of memory the buffer may have
+//! any text. A reader that needs no memory returns [`BadText`], a unit; `read_route`, which
+//! makes lists, returns [`TextError`]: so out of memory can't pass for a bad text. A number above the
 //! greatest that is asked for is `BadText`, like one above 64 bits.
 //!
 //! A route's text has one form: `read_route` reads, writes what it read into a second string, and compares.
 //! So "reading and writing again gives the same text" is the clause `found` itself, for the price of one more
 //! string. Neighbouring numbers of a path are read into sequences of 255 and a last shorter one, since a
-//! sequence holds no more (RFC 4271 section 4.3): paths that differ only in how their sequences are cut have
+//! sequence has no more (RFC 4271 section 4.3): paths that differ only in how their sequences are cut have
 //! one text, and what is read is in normal form (`IsNormalPath`).
 //!
 //! Addresses are read by std's grammar, with dots refused outside IPv4, and written by std's groups, which

@@ -12,7 +12,7 @@ greatest mark (t ∷ ts) = max t (greatest mark ts)
 abbrev pub is_late : ℕ → List ℕ → ℕ → Bool
 is_late mark earlier t = nat_lt t mark || list_any (λ u. nat_lt t u) earlier
 
--- the items that aren't late, where items of the earlier times were offered before them
+-- the items that aren't late, if items of the earlier times were offered before them
 abbrev pub timely : {X : Type 0} → (X → ℕ) → ℕ → List ℕ → List X → List X
 timely time mark earlier [] = []
 timely time mark earlier (x ∷ xs) =

@@ -10,7 +10,7 @@ use crate::first::{Candidate, better};
 use crate::lane::Lane;
 use std::marker::Model;
 
-/// For each collector, how many of its first times are passed over. Nothing is taken by it: where what was begun is given up,
+/// For each collector, how many of its first times are passed over. Nothing is taken by it: if what was begun is given up,
 /// all waits as before.
 #[derive(Drop)]
 pub struct Ahead {

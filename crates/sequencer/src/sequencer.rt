@@ -113,7 +113,7 @@ impl Sequencer {
         Ok(())
     }
 
-    /// The collector whose first time is the next of all that waits, where that time is below every mark. Of
+    /// The collector whose first time is the next of all that waits, if that time is below every mark. Of
     /// equal times that of the lowest collector goes first.
     pub fn next(&self) -> Option<usize>
         ensures some { IfSome result (IsNext self.now) }
@@ -136,7 +136,7 @@ impl Sequencer {
         self.lanes[collector].pop();
     }
 
-    /// Takes the first time of all that waits, where it is below every mark, and returns its collector. Of equal times
+    /// Takes the first time of all that waits, if it is below every mark, and returns its collector. Of equal times
     /// that of the lowest collector goes first.
     pub fn release(&mut self) -> Option<usize>
         ensures some { IfSome result (λ c. Releases self.old c self.new) }
@@ -162,7 +162,7 @@ impl Sequencer {
         Ok(Ahead { passed })
     }
 
-    /// The collector whose first time that isn't passed over is the next of all of these, where that time is below every mark. Of
+    /// The collector whose first time that isn't passed over is the next of all of these, if that time is below every mark. Of
     /// equal times that of the lowest collector goes first.
     pub fn next_after(&self, ahead: &Ahead) -> Option<usize>
         requires count { length ahead.now ≡ length self.now }

@@ -1,4 +1,4 @@
--- What a shared archive replies to a request, over what a pass sees once it is replied. Where nothing is promised of the archive, as of
+-- What a shared archive replies to a request, over what a pass sees once it is replied. If nothing is promised of the archive, as of
 -- one in files, no answer of it is claimed to be right.
 use Rattle.std.specs.Prelude.{◌≡◌, ◌⊎◌, ⊤, ℕ, suc, ◌<◌, ◌≤◌, List}
 use Rattle.route_meaning.specs.History.{settled}
@@ -49,7 +49,7 @@ SeesBy (Question query) v w = BeginsView v w
 SeesBy Watermark v w = (w ≡ with_seen v 0 (watermark_of w)) × (watermark_of v ≤ watermark_of w)
 SeesBy (Durable collector) v w = (w ≡ v) ⊎ ((w ≡ with_seen v (suc collector) (durable_of w collector)) × (durable_of v collector ≤ durable_of w collector))
 
--- a question is refused as above the watermark only where it isn't below one that the pass has seen before
+-- a question is refused as above the watermark only if it isn't below one that the pass has seen before
 abbrev pub IsNotBelow : View → Request → Unanswered → Type 0
 IsNotBelow v (Question query) (whys.AboveWatermark reported) = watermark_of v ≤ last_moment query
 IsNotBelow v request why = ⊤

@@ -57,7 +57,7 @@ fn read_order(words: &[&str]) -> Result<Command, BadText>
 ///
 /// # Errors
 ///
-/// `BadRequest` where it is none; `OutOfMemory` where a growth of memory was refused.
+/// `BadRequest` where it is none; `OutOfMemory` where an allocation failed.
 pub fn read_command(alloc: Global, line: &[u8]) -> Result<Command, RequestError>
     ensures found { IfOk result (IsCommandLine line.now) }
     ensures none { result ≡ Err RequestError.BadRequest → (command : Command) → IsCommandLine line.now command → ⊥ }

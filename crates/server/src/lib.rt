@@ -1,9 +1,9 @@
-//! An archive that serves lines: what the lines of a connection ask, and what they are replied.
+//! Replies to the lines of a connection to an archive.
 //!
-//! A reply is stated over what the pass has seen once it is written: the answer is that of what is applied there, and
+//! A reply is stated over what the pass has seen when it is written: the answer is that of what is applied there, and
 //! the lines are those of service, so a client gets what `ask` would print of that history. `watermark` and `durable`
 //! return the board's numbers, which no lock delays. `mark` replies after the last step of applying, so its watermark
-//! counts what others applied. What is promised of an archive is an argument of the relations (`promised`): lines are
+//! includes what others applied. What is promised of an archive is an argument of the relations (`promised`): lines are
 //! written in the same way over files, of which nothing is promised, so one theorem on a connection serves both.
 //!
 //! What a line asks depends on the port that it came over: a read-only one takes no line that changes the archive or

@@ -49,17 +49,17 @@ answer_text a = flat_map row_line a.rows.items ++ ending a.rows.items a.more (sl
 abbrev pub timed_text : List ℕ → ℕ → List ℕ
 timed_text letter time = letter ++ codes "|" ++ decimal time
 
--- what a peer said, and when: a route that it announced, that it withdrew one, or that all of its routes ended
+-- what happened, and when: the peer announced a route, or withdrew one, or all of its routes ended
 abbrev pub change_line : ℕ → Change → List ℕ
 change_line time (Announce peer prefix route) = timed_text (codes "A") time ++ codes "|" ++ route_text route ++ line_end
 change_line time (Withdraw peer prefix) = timed_text (codes "W") time ++ line_end
 change_line time (Down peer) = timed_text (codes "D") time ++ line_end
 
--- an event: what was said, and when
+-- an event: what happened, and when
 abbrev pub event_line : Event → List ℕ
 event_line e = change_line e.time e.change
 
--- how many events there are, where no more follow; else how many the next question skips, of which this one skipped this many
+-- how many events there are, if no more follow; else how many the next question skips, of which this one skipped this many
 abbrev pub events_ending : ℕ → List Event → Bool → List ℕ
 events_ending skip events false = codes "E|" ++ decimal (length events) ++ line_end
 events_ending skip events true = codes "M|" ++ decimal (skip + length events) ++ line_end

@@ -1,4 +1,4 @@
--- What is printed of a check of an archive.
+-- What is printed for a check of an archive.
 use Rattle.std.specs.Prelude.{◌≡◌, ◌⊎◌, true, false, ℕ, List, [], ◌∷◌, codes}
 use Rattle.route_meaning.specs.History.{History, settled}
 use Rattle.archive_calls.specs.Does.{IsUnchecked, applied_changes}
@@ -25,8 +25,8 @@ pub record ReportsUnchecked (h : History) (was now err_was err_now : OutputState
   pub unwritten : now ≡ was
   pub reported : ReportsError (of_trouble trouble) err_was err_now
 
--- How a check ended, by its status. `Failed` is answered where not all could be written: where that was so before, nothing is done; else a
--- front of what should have been written was, and standard error says where a write to standard output failed.
+-- How a check ended, by its status. It is `Failed` if not all could be written: if that was so before, nothing is done; else a
+-- front of what should have been written was, and standard error shows a write to standard output that failed.
 abbrev pub IsCheckEnd : History → Status → OutputState → OutputState → OutputState → OutputState → Type 0
 IsCheckEnd h statuses.Done was now err_was err_now = ReportsCount h was now × (now.failed ≡ false) × (err_now.failed ≡ false) × (err_now ≡ err_was)
 IsCheckEnd h statuses.Refused was now err_was err_now = ReportsUnchecked h was now err_was err_now × (now.failed ≡ false) × (err_now.failed ≡ false)

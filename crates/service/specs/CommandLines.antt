@@ -38,7 +38,7 @@ number_rule name least most = record (new_rule name) {
   required = true;
 }
 
--- an option with this name: a number from the least to the most, and the default where it isn't there
+-- an option with this name: a number from the least to the most, and the default if it isn't there
 abbrev pub number_or_rule : List ℕ → ℕ → ℕ → List ℕ → Rule
 number_or_rule name least most default = record (new_rule name) {
   long = Some name;
@@ -56,7 +56,7 @@ flag_rule name = record (new_rule name) { long = Some name; action = Some SetTru
 abbrev pub text_rule : List ℕ → Rule
 text_rule name = record (new_rule name) { long = Some name; value_names = 1; action = Some Set }
 
--- an option of this name, and its text, which is the default where the option isn't there
+-- an option of this name, and its text, which is the default if the option isn't there
 abbrev pub text_or_rule : List ℕ → List ℕ → Rule
 text_or_rule name default = record (text_rule name) { defaults = default ∷ [] }
 
@@ -81,7 +81,7 @@ peer_rule = record (new_rule (codes "peer")) {
   action = Some Set;
 }
 
--- WORD..: one word at least, and all that stand after it
+-- WORD..: one word at least, and all that follow it
 abbrev pub words_rule : Rule
 words_rule = record (new_rule (codes "WORD")) {
   action = Some Append;
@@ -174,13 +174,13 @@ program = with_subcommand (with_subcommand (with_subcommand archive_program dump
 abbrev pub spaced : List (List ℕ) → List ℕ
 spaced words = join_by (λ word. word) (codes " ") words
 
--- The number after an option, which is within the limits: the one that its text writes, where the text is taken.
+-- The number after an option, which is within the limits: the one that its text writes, if the text is taken.
 pub record IsNumber (least most : ℕ) (text : Option (List ℕ)) (n : ℕ) : Type 0 where
   pub low : least ≤ n
   pub high : n ≤ most
   pub written : (t : List ℕ) → text ≡ Some t → IsUnsignedIn least most t → n ≡ digits_value 10 (without_leading_plus t)
 
--- Whether an option without a text of its own is there, as clap says it by a text.
+-- Whether an option without a text of its own is there, which clap represents by a text.
 pub record IsThere (text : Option (List ℕ)) (there : Bool) : Type 0 where
   pub given : text ≡ Some (codes "true") → there ≡ true
   pub left_out : text ≡ Some (codes "false") → there ≡ false

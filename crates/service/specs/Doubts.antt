@@ -11,7 +11,7 @@ IsSkipped c dropped = (0 < c.skipped) × (c.admitted ≡ 0) × (dropped ≡ 0)
 abbrev pub IsDoubtful : FeedCounts → ℕ → Type 0
 IsDoubtful c dropped = (c.records ≡ 0) ⊎ (((0 < c.late) × (c.admitted ≡ 0)) ⊎ ((c.records < 100 * c.refused) ⊎ IsSkipped c dropped))
 
--- the mark, if there is one, is in doubt where the collector's is this one: it lies more than a day after it
+-- the mark, if there is one, is in doubt if the collector's is this one: it lies more than a day after it
 abbrev pub IsFar : Option ℕ → ℕ → Type 0
 IsFar None present = ⊥
 IsFar (Some mark) present = present + DAY < mark

@@ -18,11 +18,11 @@ batch_line from to offered = numbers_line (codes "B") (from ∷ to ∷ offered �
 abbrev pub late_line : Late → List ℕ
 late_line l = numbers_line (codes "L") (l.index ∷ l.time ∷ l.mark ∷ [])
 
--- what a batch became, and then each of its late records
+-- what became of a batch, and then each of its late records
 abbrev pub admitted_text : BatchReply → List ℕ
 admitted_text a = batch_line a.receipt.from a.receipt.to a.offered ++ flat_map late_line a.late.items
 
--- of a feed: its records, and how many of them were admitted, came late, were refused and skipped
+-- of a feed: its records, and how many of them were admitted, late, refused and skipped
 abbrev pub counts_line : FeedCounts → List ℕ
 counts_line c = numbers_line (codes "F") (c.records ∷ c.admitted ∷ c.late ∷ c.refused ∷ c.skipped ∷ [])
 

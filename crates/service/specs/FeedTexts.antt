@@ -24,7 +24,7 @@ capped n = min n 18446744073709551615
 abbrev pub intake_in : List Intake → ℕ → Intake
 intake_in intakes c = get_or intakes c (record { admitted = []; mark = 0; offered = 0 })
 
--- the admissions of a batch that aren't late, where the collector's intake was this one
+-- the admissions of a batch that aren't late, if the collector's intake was this one
 abbrev pub admitted_of : Intake → List Admitted → List Admitted
 admitted_of i batch = timely admitted_time i.mark [] batch
 

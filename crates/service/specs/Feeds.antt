@@ -1,4 +1,4 @@
--- What a feed of MRT records is, and what an archive represents once it took it in.
+-- What a feed of MRT records is, and what an archive represents after it.
 use Rattle.std.specs.Prelude.{◌≡◌, ◌⊎◌, ◌+◌, Bool, true, false, ℕ, map, length, List, [], ◌∷◌, ◌++◌, Option, Some, None, Result}
 use Rattle.resolve.specs.declared.without_hop.WithoutHop.{WithoutHop}
 use Rattle.service.specs.Represented.{Represented, HasIntakes}
@@ -28,18 +28,18 @@ use Rattle.service.specs.declared.faults.FeedStop.TheVariants as stops
 use Rattle.service.specs.declared.intake.End.{End}
 use Rattle.service.specs.declared.intake.End.TheVariants as ends
 
--- what a batch may have, by its number of admissions as the feed's settings say, and by its octets as the archive takes them
+-- what a batch may have: a number of admissions, by the feed's settings, and of octets, by the archive
 abbrev pub limits_for : FeedSettings → ℕ → BatchLimits
 limits_for how most = record { records = how.limit; octets = most }
 
--- the octets are these whole records, of which this is taken where this many of their first admissions are dropped, and then a rest at whose front no whole record stands
+-- The octets are these whole records, and then a rest that begins with no whole record. Of the records this is taken, after as many of their first admissions are dropped.
 pub record IsFeed (rule : WithoutHop) (c dropped : ℕ) (bytes rest : List ℕ) (records : List Reported) (results : List (Result (Option Admitted) ResolveFault)) : Type 0 where
   pub items : List Item
   pub framed : GainsFrames bytes rest [] items
   pub reported_are : map reported items ≡ records
   pub means : MeansFrom rule c dropped records results
 
--- The octets that a reader gives in all, where they are known before, as those of memory are. Of a file nothing is known: any octets may be those that it gave.
+-- The octets that a reader gives in all, if they are known before, as those of memory are. Of a file nothing is known: any octets may be those that it gave.
 abbrev pub MayGive : Option (List ℕ) → List ℕ → Type 0
 MayGive None bytes = Unit {0}
 MayGive (Some all) bytes = bytes ≡ all
@@ -50,13 +50,13 @@ IsCut rest None = rest ≡ []
 IsCut rest (Some cuts.Truncated) = (rest ≡ [] → ⊥) × (Over rest → ⊥)
 IsCut rest (Some cuts.TooLong) = Over rest
 
--- how many entries of these records are left out, where they mean this
+-- how many entries of these records are left out, if they mean this
 abbrev pub entries_lost : List Reported → List (Result (Option Admitted) ResolveFault) → ℕ
 entries_lost [] meanings = 0
 entries_lost (r ∷ records) [] = 0
 entries_lost (r ∷ records) (m ∷ meanings) = left_out r m + entries_lost records meanings
 
--- What is known of a feed besides what it gave: what became of its records, where it came to its end; how many of their entries were left out; how many
+-- What is known of a feed besides what it gave: what became of its records, if it came to its end; how many of their entries were left out; how many
 -- admissions are still dropped; the collector's mark after it.
 pub record Sums : Type 0 where
   pub counts : Option FeedCounts
@@ -71,8 +71,8 @@ pub record IsSummed (c dropped : ℕ) (limit : BatchLimits) (h : History) (recor
   pub drops : sums.left ≡ left_over dropped meanings
   pub marks : sums.mark ≡ (intake_in (given h c (admissions_of results)).intakes c).mark
 
--- The archive represented h; now it represents all that the feed gives too, wherever it is applied, and what the feed writes was written. It
--- was cut short for this, or it wasn't. Where the feed gives anything, there is the collector.
+-- The archive represented h; now it also represents all that the feed gives, wherever it is applied, and the feed's lines were written. It
+-- was cut short for this reason, or not at all. If the feed gives anything, the collector exists.
 pub record IsFed (rule : WithoutHop) (c dropped : ℕ) (limit : BatchLimits) (h : History) (bytes : List ℕ) (cut : Option FeedCut) (sums : Sums) (archive : Represented) (was now : OutputState) : Type 0 where
   pub rest : List ℕ
   pub records : List Reported
@@ -85,7 +85,7 @@ pub record IsFed (rule : WithoutHop) (c dropped : ℕ) (limit : BatchLimits) (h 
   pub there : (admissions_of results ≡ [] → ⊥) → IsCollector h c
 
 -- why a feed is given up of which these turns were made and the next ones weren't: there is no such collector, the next batch would
--- pass the last count of offered records, the collector's ring was full where nothing could be applied any more, the archive had another
+-- pass the last count of offered records, the collector's ring was full and nothing could be applied any more, the archive had another
 -- trouble, or a reader or a writer failed
 abbrev pub IsReason : ℕ → History → List Turn → List Turn → FeedStop → Type 0
 IsReason c h made unmade stops.NoCollector = IsCollector h c → ⊥
@@ -118,13 +118,13 @@ IsEnd rule c dropped limit h bytes ends.Well sums archive was now = IsFed rule c
 IsEnd rule c dropped limit h bytes ends.Cut sums archive was now = (why : FeedCut) × IsFed rule c dropped limit h bytes (Some why) sums archive was now
 IsEnd rule c dropped limit h bytes (ends.Refused why) sums archive was now = IsGivenUp rule c dropped limit h bytes why sums archive was now
 
--- how a feed that ended so is answered: where not all of its lines were written, it is given up for the writer
+-- the result for a feed that ended so: if not all of its lines were written, it is given up for the writer
 abbrev pub as_reported : Bool → End → End
 as_reported true end = ends.Refused stops.Outside
 as_reported false end = end
 
--- What a feed that ended so says of its reader, which had failed before it or not and has after it or not, and of its writer: it was
--- given up for what is outside only where one of them has failed, and where it ended otherwise, no read of it failed.
+-- What is known of its reader, which had failed before it or not and has after it or not, and of its writer, if a feed ended so: it was
+-- given up for what is outside only if one of them has failed, and if it ended otherwise, no read of it failed.
 pub record FitsFailures (end : End) (lost_was lost failed : Bool) : Type 0 where
   pub outside : end ≡ ends.Refused stops.Outside → (lost ≡ true) ⊎ (failed ≡ true)
   pub inside : (end ≡ ends.Refused stops.Outside → ⊥) → lost ≡ lost_was

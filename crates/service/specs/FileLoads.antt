@@ -1,4 +1,4 @@
--- What an archive represents once files are loaded, one after another.
+-- What an archive represents after files are loaded, one after another.
 use Rattle.std.specs.Prelude.{◌≡◌, ◌⊎◌, ◌↔◌, ◌-◌, ℕ, Bool, true, false, IsTrue, List, [], ◌∷◌, ◌++◌, Option, None}
 use Rattle.route_meaning.specs.History.{History}
 use Rattle.service.specs.Represented.{Represented}
@@ -30,13 +30,13 @@ pub record FileState : Type 0 where
   pub input : InputState
   pub report : LoadReport
 
--- how a file is loaded that these come after: with the mark where there are none
+-- how a file is loaded that these come after: with the mark if there are none
 abbrev pub with_mark_at : List FileState → LoadSettings → LoadSettings
 with_mark_at [] how = how
 with_mark_at (file ∷ later) how = record how { mark = None }
 
--- The report of a load whose feed has these sums, where `dropped` admissions were to be dropped before it: what became of its records, how many of their entries were left out, how many
--- admissions were dropped, and that the load is held back exactly where it has to be.
+-- The report of a load whose feed has these sums, if `dropped` admissions were to be dropped before it: what became of its records, how many of their entries were left out, how many
+-- admissions were dropped, and that the load is held back exactly if it has to be.
 pub record IsReported (how : LoadSettings) (dropped : ℕ) (sums : Sums) (report : LoadReport) : Type 0 where
   pub begun : report.is_begun ≡ true
   pub counts : report.counts ≡ sums.counts
@@ -44,7 +44,7 @@ pub record IsReported (how : LoadSettings) (dropped : ℕ) (sums : Sums) (report
   pub drops : report.dropped ≡ dropped - sums.left
   pub held : IsTrue report.is_held ↔ IsHeld how.strict how.mark sums.counts report.dropped sums.mark
 
--- How the load of a file of these octets ended, `dropped` of whose first admissions are dropped: as one that isn't strict; but where it is held back, no mark
+-- How the load of a file of these octets ended, `dropped` of whose first admissions are dropped: as one that isn't strict; but if it is held back, no mark
 -- was set, and it is refused. `left` admissions are dropped of the next file.
 pub record IsFileEnd (how : LoadSettings) (most dropped left : ℕ) (h : History) (bytes : List ℕ) (lost_was lost : Bool) (status : Status) (report : LoadReport) (archive : Represented) (was now err_was err_now : OutputState) : Type 0 where
   pub sums : Sums
@@ -68,8 +68,8 @@ AreWhole how most dropped left h next (file ∷ files) (file_now ∷ files_now) 
 AreWhole how most dropped left h next [] (file ∷ files) was now err = ⊥
 AreWhole how most dropped left h next (file ∷ files) [] was now err = ⊥
 
--- How a load of files ended: each file of a front was loaded without a mark, and its load was done; then the load of the next one, with the mark where it is the last, ended so.
--- Where that isn't done, those after it are as they were.
+-- How a load of files ended: each file of a front was loaded without a mark, and its load was done; then the load of the next one, with the mark if it is the last, ended so.
+-- If that isn't done, those after it are as they were.
 pub record IsLoadedTo (how : LoadSettings) (most dropped : ℕ) (h : History) (files files_now : List FileState) (status : Status) (archive : Represented) (was now err_was err_now : OutputState) : Type 0 where
   pub front : List FileState
   pub front_now : List FileState
@@ -88,7 +88,7 @@ pub record IsLoadedTo (how : LoadSettings) (most dropped : ℕ) (h : History) (f
   pub ended : IsFileEnd (with_mark_at later how) most left left_now next bytes file.input.failed file_now.input.failed status file_now.report archive between now err_was err_now
   pub last : status ≡ statuses.Done → later ≡ []
 
--- How a load of files ended. Where it goes on, as many of their admissions are dropped, one file after another, as were offered of the collector. Of no files it does nothing.
+-- How a load of files ended. If it goes on, as many of their admissions are dropped, one file after another, as were offered of the collector. Of no files it does nothing.
 abbrev pub AreLoaded : LoadSettings → ℕ → History → List FileState → List FileState → Status → Represented → OutputState → OutputState → OutputState → OutputState → Type 0
 AreLoaded how most h files files_now status archive was now err_was err_now =
     ((files ≡ []) × (status ≡ statuses.Done) × archive h × (now ≡ was) × (err_now ≡ err_was))

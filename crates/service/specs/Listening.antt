@@ -1,4 +1,4 @@
--- Where a server takes connections: as the command line writes it, and as it is printed.
+-- Where a server accepts connections: as the command line has it, and as it is printed.
 use Rattle.std.specs.Prelude.{◌≡◌, ◌≤◌, ◌⊎◌, ⊤, ℕ, true, false, List, [], ◌++◌, Option, Some, None, codes, decimal}
 use Rattle.std.specs.Net.Addr.{ipv4_octets}
 use Rattle.std.specs.Net.Grammar.{IsDotted}
@@ -40,11 +40,11 @@ abbrev pub http_text : Option SocketAddrV4 → List ℕ
 http_text None = []
 http_text (Some http) = codes " http " ++ socket_v4_text http
 
--- where connections are taken
+-- where connections are accepted
 abbrev pub listening_line : SocketAddrV4 → Option SocketAddrV4 → List ℕ
 listening_line bound http = codes "listening " ++ socket_v4_text bound ++ http_text http ++ line_end
 
--- That line was written, and what was buffered was written out. The exit status is 0 where all could be written, and else 1.
+-- That line was written, and what was buffered was written out. The exit status is 0 if all could be written, and else 1.
 pub record IsListeningReported (bound : SocketAddrV4) (http : Option SocketAddrV4) (code : ℕ) (was now err_was err_now : OutputState) : Type 0 where
   pub wrote : Reports was now (listening_line bound http)
   pub sound : now.failed ≡ false → code ≡ 0

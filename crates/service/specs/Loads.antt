@@ -1,4 +1,4 @@
--- What an archive represents once a file is loaded.
+-- What an archive represents after a file is loaded.
 use Rattle.std.specs.Prelude.{◌≡◌, ◌⊎◌, Bool, true, false, ℕ, ◌++◌, List, [], Option, Some, None, Result}
 use Rattle.resolve.specs.declared.without_hop.WithoutHop.{WithoutHop}
 use Rattle.service.specs.Represented.{Represented, HasIntakes, whatever}
@@ -24,7 +24,7 @@ use Rattle.service.specs.declared.intake.End.TheVariants as ends
 use Rattle.service.specs.declared.status.Status.{Status}
 use Rattle.service.specs.declared.status.Status.TheVariants as statuses
 
--- the collector's mark is this one where there is one
+-- the collector's mark is this one if there is one
 abbrev pub marked_if : ℕ → Option ℕ → History → History
 marked_if c None h = h
 marked_if c (Some mark) h = marked h c mark
@@ -48,7 +48,7 @@ pub record IsLoaded (rule : WithoutHop) (c dropped : ℕ) (limit : BatchLimits) 
   pub wrote : Reports was now (feed_text (intake_in h.intakes c) limit records results cut ++ settled_line (settled applied.now))
   pub summed : IsSummed c dropped limit h records results feed.means.meanings sums
 
--- The feed was given up, for what is outside only where the reader failed, and for anything else only where no read failed; the archive
+-- The feed was given up, for what is outside only if the reader failed, and for anything else only if no read failed; the archive
 -- represents what it gave until then too, applied as far as may be. What the feed wrote is followed by the settled watermark.
 pub record IsGivenUpLoad (rule : WithoutHop) (c dropped : ℕ) (limit : BatchLimits) (h : History) (bytes : List ℕ) (sums : Sums) (lost_was lost : Bool) (archive : Represented) (was now : OutputState) : Type 0 where
   pub why : FeedStop
@@ -59,7 +59,7 @@ pub record IsGivenUpLoad (rule : WithoutHop) (c dropped : ℕ) (limit : BatchLim
   pub applied : IsSettled (given h c (offered given_up.made)).intakes archive
   pub wrote : Reports between now (settled_line (settled applied.now))
 
--- the whole feed was taken in, and the mark that was asked for is below the collector's, which stays
+-- the whole feed was taken, and the mark that was asked for is below the collector's, which stays
 pub record IsMarkedBack (rule : WithoutHop) (c dropped : ℕ) (limit : BatchLimits) (mark : Option ℕ) (h : History) (bytes : List ℕ) (sums : Sums) (archive : Represented) (was now : OutputState) : Type 0 where
   pub lower : ℕ
   pub asked : mark ≡ Some lower
@@ -71,8 +71,8 @@ pub record IsMarkedBack (rule : WithoutHop) (c dropped : ℕ) (limit : BatchLimi
   pub summed : IsSummed c dropped limit h records results feed.means.meanings sums
   pub represented : HasIntakes (given h c (admissions_of results)).intakes archive
 
--- This history has the intakes of what the feed gave, and its mark where the feed ended well and all of its lines were written. The feed
--- was given up for what is outside only where the reader failed, or the writer, and no read failed where it ended otherwise.
+-- This history has the intakes of what the feed gave, and its mark if the feed ended well and all of its lines were written. The feed
+-- was given up for what is outside only if the reader failed, or the writer, and no read failed if it ended otherwise.
 abbrev pub IsPartLoaded : WithoutHop → ℕ → ℕ → BatchLimits → Option ℕ → History → List ℕ → Sums → Bool → Bool → History → OutputState → OutputState → Type 0
 IsPartLoaded rule c dropped limit mark h bytes sums lost_was lost past was now =
     ((f : IsFed rule c dropped limit h bytes None sums whatever was now) × (now.failed ≡ false) × (lost ≡ lost_was) × (past.intakes ≡ (marked_if c mark (given h c (admissions_of f.results))).intakes))
@@ -94,14 +94,14 @@ IsRefusedLoad rule c dropped limit mark h bytes sums lost_was lost archive was n
     ⊎ ((why : LoadStop) × IsUnloaded rule c dropped limit mark h bytes sums lost_was lost archive was now why × ReportsError (of_load why) err_was err_now))
 
 -- Not all lines could be written. The archive represents all the same what the feed gave, applied as far as may be, and the watermark was
--- written after its lines as far as it could be; or the load ended outside its feed. Standard error says what failed of standard output.
+-- written after its lines as far as it could be; or the load ended outside its feed. Standard error shows what failed of standard output.
 abbrev pub IsFailedLoad : WithoutHop → ℕ → ℕ → BatchLimits → Option ℕ → History → List ℕ → Sums → Bool → Bool → Represented → OutputState → OutputState → OutputState → OutputState → Type 0
 IsFailedLoad rule c dropped limit mark h bytes sums lost_was lost archive was now err_was err_now =
     ((mid : OutputState) × (past : History) × archive past × NothingToApply past × IsPartLoaded rule c dropped limit mark h bytes sums lost_was lost past was mid × Reports mid now (settled_line (settled past)) × ReportsFailure now.failed err_was err_now)
     ⊎ ((why : LoadStop) × IsUnloaded rule c dropped limit mark h bytes sums lost_was lost archive was now why × ((err_mid : OutputState) × ReportsError (of_load why) err_was err_mid × ReportsFailure now.failed err_mid err_now))
 
--- How a load of these octets ended, by its status, where the reader had failed before it or not, and has after it or not. It is
--- `Failed` exactly where a writer has.
+-- How a load of these octets ended, by its status, and by whether the reader had failed before it, and has after it. It is
+-- `Failed` exactly if a writer has.
 abbrev pub IsLoadEnd : WithoutHop → ℕ → ℕ → BatchLimits → Option ℕ → History → List ℕ → Sums → Bool → Bool → Status → Represented → OutputState → OutputState → OutputState → OutputState → Type 0
 IsLoadEnd rule c dropped limit mark h bytes sums lost_was lost statuses.Done archive was now err_was err_now = IsCollector h c × IsLoaded rule c dropped limit mark h bytes None sums archive was now × (now.failed ≡ false) × (err_now.failed ≡ false) × (err_now ≡ err_was) × (lost ≡ lost_was)
 IsLoadEnd rule c dropped limit mark h bytes sums lost_was lost statuses.Refused archive was now err_was err_now = IsRefusedLoad rule c dropped limit mark h bytes sums lost_was lost archive was now err_was err_now × (now.failed ≡ false) × (err_now.failed ≡ false)

@@ -1,18 +1,18 @@
--- What is written to a writer of lines, and read of a reader of octets.
+-- What is written to a writer of lines, and read from a reader of octets.
 use Rattle.std.specs.Prelude.{◌≡◌, ℕ, Bool, true, false, List, [], ◌++◌, Option}
 use Rattle.std.specs.Io.KnownBytes.{Appends}
 
--- a writer of lines: what it holds, where that is known, and whether a write failed
+-- a writer of lines: what it has, if that is known, and whether a write failed
 pub record OutputState : Type 0 where
   pub held : Option (List ℕ)
   pub failed : Bool
 
--- a reader of octets: what it will give, where that is known, and whether a read failed
+-- a reader of octets: what it will give, if that is known, and whether a read failed
 pub record InputState : Type 0 where
   pub left : Option (List ℕ)
   pub failed : Bool
 
--- The text was written; where a write failed, a front of it; after a write that failed before, nothing.
+-- The text was written; if a write failed, a front of it; after a write that failed before, nothing.
 pub record Reports (was now : OutputState) (text : List ℕ) : Type 0 where
   pub front : List ℕ
   pub rest : List ℕ

@@ -87,7 +87,7 @@ refused_record_line r place = refusal_head r ++ codes "|" ++ decimal place ++ li
 abbrev pub error_head : Refusal → List ℕ
 error_head r = codes "rha: " ++ decimal (number_of r) ++ codes " " ++ name_of r
 
--- one that stands alone there
+-- one that is alone on its line
 abbrev pub error_line : Refusal → List ℕ
 error_line r = error_head r ++ line_end
 
@@ -99,7 +99,7 @@ reason_line r why = error_head r ++ codes ": " ++ why ++ line_end
 abbrev pub ReportsError : Refusal → OutputState → OutputState → Type 0
 ReportsError r was now = Reports was now (error_line r) ⊎ ((why : List ℕ) × Reports was now (reason_line r why))
 
--- standard error says that lines couldn't be written where it is so, and nothing where it isn't
+-- standard error shows that lines couldn't be written if it is so, and nothing if it isn't
 pub record ReportsFailure (failed : Bool) (err_was err_now : OutputState) : Type 0 where
   pub reported : failed ≡ true → ReportsError refusals.Outside err_was err_now
   pub quiet : failed ≡ false → err_now ≡ err_was

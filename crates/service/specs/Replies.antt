@@ -73,8 +73,8 @@ IsRefused h line (whys.Trouble trouble) = Unit {0}
 abbrev pub IsReported : History → List ℕ → List ℕ → Type 0
 IsReported h line text = IsReplyText h line text ⊎ ((why : Unanswered) × IsRefused h line why × (text ≡ refusal_line (of_unanswered why)))
 
--- How a line was answered, by the status. `Failed` is answered where not all could be written: where that was so before, nothing is
--- done; else a front of what should have been written was, and standard error says where a write of it failed.
+-- How a line was answered, by the status. It is `Failed` if not all could be written: if that was so before, nothing is
+-- done; else a front of what should have been written was, and standard error shows a write of it that failed.
 abbrev pub IsAskEnd : History → List ℕ → Status → OutputState → OutputState → OutputState → OutputState → Type 0
 IsAskEnd h line statuses.Done was now err_was err_now = (text : List ℕ) × IsReplyText h line text × Reports was now text × (now.failed ≡ false) × (err_now.failed ≡ false) × (err_now ≡ err_was)
 IsAskEnd h line statuses.Refused was now err_was err_now = (why : Unanswered) × IsRefused h line why × Reports was now (refusal_line (of_unanswered why)) × (now.failed ≡ false) × (err_now.failed ≡ false) × (err_now ≡ err_was)

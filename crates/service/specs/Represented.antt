@@ -1,4 +1,4 @@
--- What is said of an archive, by the histories that it represents.
+-- What is true of an archive, by the histories that it represents.
 use Rattle.std.specs.Prelude.{◌≡◌, ⊤, List}
 use Rattle.route_meaning.specs.History.{History, Intake}
 
@@ -12,6 +12,6 @@ pub record HasIntakes (intakes : List Intake) (archive : Represented) : Type 0 w
   pub are : now.intakes ≡ intakes
   pub represented : archive now
 
--- nothing is said of what it represents
+-- nothing is known of what it represents
 abbrev pub whatever : Represented
 whatever h = ⊤

@@ -7,7 +7,7 @@ use Rattle.resolve.specs.Meanings.{Means}
 use Rattle.resolve.specs.declared.without_hop.WithoutHop.{WithoutHop}
 use Rattle.resolve.specs.declared.fault.ResolveFault.{ResolveFault}
 
--- what is taken of a record that means this, where this many admissions are still dropped: an admission that is dropped counts as none
+-- what is taken of a record that means this, if this many admissions are still dropped: an admission that is dropped counts as none
 abbrev pub taken_at : ℕ → Result (Option Admitted) ResolveFault → Result (Option Admitted) ResolveFault
 taken_at n (Err fault) = Err fault
 taken_at n (Ok None) = Ok None
@@ -21,7 +21,7 @@ left_after n (Ok None) = n
 left_after zero (Ok (Some a)) = zero
 left_after (suc n) (Ok (Some a)) = n
 
--- what is taken of records that mean this, where this many of their first admissions are dropped
+-- what is taken of records that mean this, if this many of their first admissions are dropped
 abbrev pub without_first : ℕ → List (Result (Option Admitted) ResolveFault) → List (Result (Option Admitted) ResolveFault)
 without_first n [] = []
 without_first n (m ∷ meanings) = taken_at n m ∷ without_first (left_after n m) meanings
@@ -31,7 +31,7 @@ abbrev pub left_over : ℕ → List (Result (Option Admitted) ResolveFault) → 
 left_over n [] = n
 left_over n (m ∷ meanings) = left_over (left_after n m) meanings
 
--- what is taken of these records of a feed, where this many of their first admissions are dropped
+-- what is taken of these records of a feed, if this many of their first admissions are dropped
 pub record MeansFrom (rule : WithoutHop) (c dropped : ℕ) (records : List Reported) (results : List (Result (Option Admitted) ResolveFault)) : Type 0 where
   pub meanings : List (Result (Option Admitted) ResolveFault)
   pub means : Means rule c records meanings

@@ -1,4 +1,4 @@
--- What the program does of a command, once its archive is made or open.
+-- What the program does for a command, once its archive is created or open.
 use Rattle.std.specs.Prelude.{◌≡◌, ℕ, Bool, true, false, List, [], ◌++◌, codes, decimal}
 use Rattle.route_meaning.specs.History.{History}
 use Rattle.resolve.specs.declared.without_hop.WithoutHop.{WithoutHop}
@@ -15,8 +15,8 @@ use Rattle.service.specs.declared.invocation.Loading.{Loading}
 use Rattle.service.specs.declared.settings.LoadSettings.{LoadSettings}
 use Rattle.service.specs.declared.status.Status.{Status}
 
--- A command ended so, and then what was buffered was written out. The exit status is that of the command, and 1 where not all could be
--- written. Where that failed before, standard error says no more of it.
+-- A command ended so, and then what was buffered was written out. The exit status is that of the command, and 1 if not all could be
+-- written. If that failed before, standard error has no more of it.
 pub record IsWrittenOut (ended : Status) (code : ℕ) (was now err_was err_now : OutputState) : Type 0 where
   pub flushed : Reports was now []
   pub sound : now.failed ≡ false → code ≡ code_of ended
@@ -24,7 +24,7 @@ pub record IsWrittenOut (ended : Status) (code : ℕ) (was now err_was err_now :
   pub quiet : was.failed ≡ true → err_now ≡ err_was
   pub reported : was.failed ≡ false → ReportsFailure now.failed err_was err_now
 
--- how entries without a next hop are taken, where it may have been asked that they are lost
+-- what becomes of entries without a next hop, by whether the command line has them left out
 abbrev pub rule_where : Bool → WithoutHop
 rule_where true = LeftOut
 rule_where false = Refused
@@ -33,8 +33,8 @@ rule_where false = Refused
 abbrev pub settings_of : Loading → LoadSettings
 settings_of asked = record { feed = record { collector = asked.collector; limit = asked.batch; rule = rule_where asked.lose_entries }; mark = asked.mark; resume = asked.resume; strict = asked.strict }
 
--- The files were loaded as they were asked for, into an archive that represented h and takes batches of at most `most` octets, and what was buffered
--- was written out.
+-- The files were loaded as the command line asks, into an archive that represented h and takes batches of at most `most` octets, and what was buffered
+-- was flushed.
 pub record AreFilesLoaded (asked : Loading) (most : ℕ) (h : History) (files files_now : List FileState) (code : ℕ) (archive : Represented) (was now err_was err_now : OutputState) : Type 0 where
   pub loaded : Status
   pub loaded_to : OutputState
@@ -42,7 +42,7 @@ pub record AreFilesLoaded (asked : Loading) (most : ℕ) (h : History) (files fi
   pub load : AreLoaded (settings_of asked) most h files files_now loaded archive was loaded_to err_was loaded_err
   pub written : IsWrittenOut loaded code loaded_to now loaded_err err_now
 
--- the line was answered by an archive that represents h, and what was buffered was written out
+-- the line was answered by an archive that represents h, and what was buffered was flushed
 pub record IsLineAsked (line : List ℕ) (h : History) (code : ℕ) (was now err_was err_now : OutputState) : Type 0 where
   pub answered : Status
   pub answered_to : OutputState
@@ -62,7 +62,7 @@ pub record IsArchiveChecked (h : History) (code : ℕ) (was now err_was err_now 
 abbrev pub created_line : Creation → List ℕ
 created_line made = codes "created " ++ decimal made.collectors ++ codes " " ++ decimal made.ring ++ codes " " ++ decimal made.pages ++ codes " " ++ decimal made.blocks ++ line_end
 
--- That line was written, and what was buffered was written out. The exit status is 0 where all could be written, and else 1.
+-- That line was written, and what was buffered was written out. The exit status is 0 if all could be written, and else 1.
 pub record IsCreationReported (made : Creation) (code : ℕ) (was now err_was err_now : OutputState) : Type 0 where
   pub wrote : Reports was now (created_line made)
   pub sound : now.failed ≡ false → code ≡ 0

@@ -37,43 +37,43 @@ is_crowded limit waiting a = ltb limit.octets (batch_octets (waiting ++ a ∷ []
 abbrev pub is_full : BatchLimits → List Admitted → Bool
 is_full limit waiting = leb limit.records (length waiting)
 
--- where it is so, all that waits is offered
+-- if it is so, all pending admissions are offered
 abbrev pub offer_where : Bool → List Admitted → List Turn
 offer_where true waiting = Offer waiting ∷ []
 offer_where false waiting = []
 
--- and nothing waits any more
+-- and none is pending any more
 abbrev pub wait_unless : Bool → List Admitted → List Admitted
 wait_unless true waiting = []
 wait_unless false waiting = waiting
 
--- what waits with one more admission, for which room is made first
+-- the pending ones with one more admission, for which room is made first
 abbrev pub waiting_with : BatchLimits → List Admitted → Admitted → List Admitted
 waiting_with limit waiting a = wait_unless (is_crowded limit waiting a) waiting ++ a ∷ []
 
--- what is done for the record at this place, where these admissions wait
+-- what is done for the record at this place, if these admissions are pending
 abbrev pub turns_at : BatchLimits → ℕ → List Admitted → Result (Option Admitted) ResolveFault → List Turn
 turns_at limit place waiting (Ok (Some a)) = offer_where (is_crowded limit waiting a) waiting ++ offer_where (is_full limit (waiting_with limit waiting a)) (waiting_with limit waiting a)
 turns_at limit place waiting (Ok None) = []
 turns_at limit place waiting (Err fault) = Refuse place fault ∷ []
 
--- what waits after it
+-- the pending ones after it
 abbrev pub waits_after : BatchLimits → List Admitted → Result (Option Admitted) ResolveFault → List Admitted
 waits_after limit waiting (Ok (Some a)) = wait_unless (is_full limit (waiting_with limit waiting a)) (waiting_with limit waiting a)
 waits_after limit waiting (Ok None) = waiting
 waits_after limit waiting (Err fault) = waiting
 
--- what is done for the records of these meanings, the first of which has this place, where these admissions wait
+-- what is done for the records of these meanings, the first of which has this place, if these admissions are pending
 abbrev pub turns_for : BatchLimits → ℕ → List Admitted → List (Result (Option Admitted) ResolveFault) → List Turn
 turns_for limit place waiting [] = []
 turns_for limit place waiting (r ∷ results) = turns_at limit place waiting r ++ turns_for limit (suc place) (waits_after limit waiting r) results
 
--- what waits after them
+-- the pending ones after them
 abbrev pub waits_beyond : BatchLimits → List Admitted → List (Result (Option Admitted) ResolveFault) → List Admitted
 waits_beyond limit waiting [] = waiting
 waits_beyond limit waiting (r ∷ results) = waits_beyond limit (waits_after limit waiting r) results
 
--- what waits at the end of a feed is offered, if there is any
+-- the pending ones at the end of a feed are offered, if there are any
 abbrev pub last_turns : List Admitted → List Turn
 last_turns [] = []
 last_turns (a ∷ waiting) = Offer (a ∷ waiting) ∷ []

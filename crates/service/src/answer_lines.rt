@@ -21,7 +21,7 @@ pub fn write_place(out: &mut String, peer: &Peer, prefix: &Prefix) -> Result<(),
     write_prefix(out, prefix)
 }
 
-/// `R|`, the place and the fields of the route, and LF. After an error nothing is said of `out`.
+/// `R|`, the place and the fields of the route, and LF. After an error `out` may have any text.
 pub fn write_row(out: &mut String, row: &Row) -> Result<(), AllocError>
     ensures line { OnOk result (string_bytes out.new ≡ string_bytes out.old ++ row_line row.now) }
 {
@@ -32,7 +32,7 @@ pub fn write_row(out: &mut String, row: &Row) -> Result<(), AllocError>
     out.push('\n')
 }
 
-/// `E|ROWS`, or where more rows follow `M` and the place of the last one. After an error nothing is said of `out`.
+/// `E|ROWS`, or if more rows follow, `M` and the place of the last one. After an error `out` may have any text.
 pub fn write_ending(out: &mut String, answer: &RowsAnswer) -> Result<(), AllocError>
     ensures line { OnOk result (string_bytes out.new ≡ string_bytes out.old ++ ending answer.now.rows.items answer.now.more (slice_get answer.now.rows.items (length answer.now.rows.items - 1))) }
 {
@@ -50,8 +50,8 @@ pub fn write_ending(out: &mut String, answer: &RowsAnswer) -> Result<(), AllocEr
 }
 
 /// Writes an answer at the end of `out`: for each row `R|COLLECTOR|ADDRESS|AS|PREFIX|` and the fields of its route,
-/// then `E|ROWS` where no more rows follow, else `M|COLLECTOR|ADDRESS|AS|PREFIX` of the last row. After an error
-/// nothing is said of `out`.
+/// then `E|ROWS` if no more rows follow, else `M|COLLECTOR|ADDRESS|AS|PREFIX` of the last row. After an error
+/// `out` may have any text.
 pub fn write_answer(out: &mut String, answer: &RowsAnswer) -> Result<(), AllocError>
     ensures lines { OnOk result (string_bytes out.new ≡ string_bytes out.old ++ answer_text answer.now) }
 {

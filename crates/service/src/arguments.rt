@@ -96,7 +96,7 @@ fn number<'a>(
         .action(ArgAction::Set)
 }
 
-/// `--NAME LETTER`: a number from the least to the most, and `default` where it isn't there.
+/// `--NAME LETTER`: a number from the least to the most, and `default` if it isn't there.
 fn number_or<'a>(
     alloc: Global,
     name: &'a str,
@@ -249,7 +249,7 @@ fn loading<'a>(alloc: Global) -> Result<Command<'a>, AllocError>
         .arg(files(alloc))
 }
 
-/// `--format FORM`: `lines` where it isn't there.
+/// `--format FORM`: `lines` if it isn't there.
 fn format<'a>(alloc: Global) -> Arg<'a>
     ensures rule { rule_of result ≡ text_or_rule (codes "format") (codes "lines") }
     ensures own { result.global ≡ false }

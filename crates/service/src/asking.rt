@@ -12,8 +12,8 @@ use archive_calls::RouteArchive;
 use std::alloc::Global;
 use std::io::Write;
 
-/// Writes what the archive replies to a request line: the lines of the reply, or the line of the refusal. Where these
-/// can't all be written, `err` says so; where `out` had failed before, nothing is done.
+/// Writes what the archive replies to a request line: the lines of the reply, or the line of the refusal. If these
+/// can't all be written, `err` shows it; if `out` had failed before, nothing is done.
 pub fn ask<A: RouteArchive, W: Write, E: Write>(
     alloc: Global,
     archive: &mut A,

@@ -1,4 +1,4 @@
-//! Archives that are checked.
+//! Checks of archives.
 
 ghost use Rattle.std.specs.Prelude.{◌≡◌};
 ghost use Rattle.route_meaning.specs.History.{History};
@@ -22,10 +22,10 @@ fn write_checked<W: Write>(out: &mut Output<W>, changes: u64, settled: Mark)
     write_numbers(out, "ok", &[changes, settled.seconds()]);
 }
 
-/// Has the archive read all that it keeps of what is applied, and writes `ok|CHANGES|SETTLED`: how many changes are applied, and the
-/// settled watermark. What can't be read, or isn't what it is to be, is printed to `err`, and nothing is written to `out`. Where a line
-/// can't be written, `err` says so; where `out` had failed before, nothing is done. No memory is needed but the archive's, and that of
-/// a reason, which is left out where there is none for it.
+/// Has the archive read all of its applied and pending changes, and writes `ok|CHANGES|SETTLED`: how many changes are applied, and the
+/// settled watermark. What can't be read, or isn't what it has to be, is printed to `err`, and nothing is written to `out`. If a line
+/// can't be written, `err` shows it; if `out` had failed before, nothing is done. No memory is needed but the archive's, and that of
+/// a reason, which is left out if there is none for it.
 pub fn check<A: RouteArchive, W: Write, E: Write>(
     alloc: Global,
     archive: &mut A,

@@ -28,7 +28,7 @@ use route_text::{BadText, read_mark};
 use std::alloc::{AllocError, Global};
 use std::convert::AsStr;
 
-/// The word of this name. No clause of `clap`'s says that it is there: else it counts as empty.
+/// The word of this name. No clause of `clap`'s promises that it is there: else it counts as empty.
 fn word_of<'a>(matches: &ArgMatches<'a>, name: &str) -> &'a str
     ensures word { result.now ≡ word_in name.now (rows_of (found_of matches.now)) }
 {
@@ -42,7 +42,7 @@ fn text_of<'a>(matches: &ArgMatches<'a>, name: &str) -> Option<&'a str>
     matches.get_str(name)
 }
 
-/// The number that the text after an option writes, which `clap` has read. No clause of its says that the text is there
+/// The number after an option, which `clap` has read. No clause of its promises that the text is there
 /// and within the limits: else the least counts.
 fn number_in(text: Option<&str>, least: u64, most: u64) -> u64
     requires limits { least ≤ most }
@@ -72,7 +72,7 @@ fn line_of(alloc: Global, words: &[&str]) -> Result<String, AllocError>
     words.join(alloc, " ")
 }
 
-/// The mark that the text writes, where there is a text.
+/// The mark in the text, if there is a text.
 fn mark_of(text: Option<&str>) -> Result<Option<Mark>, BadText>
     ensures found { IfOk result (IsMarkIf (option_map (λ t. t.now) text.entry)) }
     ensures none { OnErr result (IsNoMark (option_map (λ t. t.now) text.entry)) }
@@ -100,7 +100,7 @@ fn is_there_or(matches: &ArgMatches<'_>, is_implied: bool, name: &str) -> bool
     is_there(matches, name)
 }
 
-/// What the arguments of `create` say.
+/// What the arguments of `create` ask for.
 fn creation_of<'a>(matches: &ArgMatches<'a>) -> Creation<'a>
     ensures found { IsCreation (rows_of (found_of matches.now)) result }
 {
@@ -113,7 +113,7 @@ fn creation_of<'a>(matches: &ArgMatches<'a>) -> Creation<'a>
     }
 }
 
-/// The texts of this name. No clause of `clap`'s says that there is one.
+/// The texts of this name. No clause of `clap`'s promises that there is one.
 fn texts_of<'a>(
     alloc: Global,
     matches: &ArgMatches<'a>,
@@ -124,7 +124,7 @@ fn texts_of<'a>(
     matches.get_strs(name).unwrap_or(&[]).to_vec(alloc)
 }
 
-/// What the arguments of `load` say, whose files are these.
+/// What the arguments of `load` ask for, whose files are these.
 fn loading_of<'a>(matches: &ArgMatches<'a>, files: Vec<&'a str>) -> Result<Loading<'a>, BadText>
     requires files { map (λ f. f.now) files.items ≡ unwrap_or (all_of (codes "FILE") (rows_of (found_of matches.now))) [] }
     ensures found { IfOk result (IsLoading (rows_of (found_of matches.now))) }
@@ -144,12 +144,12 @@ fn loading_of<'a>(matches: &ArgMatches<'a>, files: Vec<&'a str>) -> Result<Loadi
     })
 }
 
-/// What the arguments of `ask` say.
+/// What the arguments of `ask` ask for.
 fn question_of<'a>(alloc: Global, matches: &ArgMatches<'a>) -> Result<Question<'a>, AllocError>
     ensures found { IfOk result (IsQuestion (rows_of (found_of matches.now))) }
 {
     let folder = word_of(matches, "DIR");
-    // No clause of clap's says that there is a WORD, either.
+    // No clause of clap's promises that there is a WORD, either.
     let words = matches.get_strs("WORD").unwrap_or(&[]);
     let line = line_of(alloc, words)?;
     let wait = number_of(matches, "wait", 0, MAX_WAIT);
@@ -164,7 +164,7 @@ fn question_of<'a>(alloc: Global, matches: &ArgMatches<'a>) -> Result<Question<'
     })
 }
 
-/// Which text of `serve` isn't that of an address and port.
+/// Which text of `serve` isn't an address and port.
 #[derive(Clone, Copy)]
 enum BadAddress {
     Listen,
@@ -172,7 +172,7 @@ enum BadAddress {
     Http,
 }
 
-/// What the arguments of `serve` say.
+/// What the arguments of `serve` ask for.
 fn serving_of<'a>(matches: &ArgMatches<'a>) -> Result<Serving<'a>, BadAddress>
     ensures found { IfOk result (IsServing (rows_of (found_of matches.now))) }
     ensures listen { result ≡ Err BadAddress.Listen → IsNoListenText (word_in (codes "listen") (rows_of (found_of matches.now))) }
@@ -198,7 +198,7 @@ fn serving_of<'a>(matches: &ArgMatches<'a>) -> Result<Serving<'a>, BadAddress>
     })
 }
 
-/// What the arguments of `check` say.
+/// What the arguments of `check` ask for.
 fn checking_of<'a>(matches: &ArgMatches<'a>) -> Checking<'a>
     ensures found { IsChecking (rows_of (found_of matches.now)) result }
 {
@@ -208,7 +208,7 @@ fn checking_of<'a>(matches: &ArgMatches<'a>) -> Checking<'a>
     }
 }
 
-/// What the arguments of `info` say.
+/// What the arguments of `info` ask for.
 fn examining_of<'a>(matches: &ArgMatches<'a>) -> Examining<'a>
     ensures found { IsExamining (rows_of (found_of matches.now)) result }
 {
@@ -219,7 +219,7 @@ fn examining_of<'a>(matches: &ArgMatches<'a>) -> Examining<'a>
     }
 }
 
-/// What the arguments of `dump` say.
+/// What the arguments of `dump` ask for.
 fn dumping_of<'a>(alloc: Global, matches: &ArgMatches<'a>) -> Result<Dumping<'a>, AllocError>
     ensures found { IfOk result (IsDumping (rows_of (found_of matches.now))) }
 {
@@ -233,7 +233,7 @@ fn dumping_of<'a>(alloc: Global, matches: &ArgMatches<'a>) -> Result<Dumping<'a>
     })
 }
 
-/// What the arguments of `peers` say.
+/// What the arguments of `peers` ask for.
 fn listing_of<'a>(matches: &ArgMatches<'a>) -> Listing<'a>
     ensures found { IsListing (rows_of (found_of matches.now)) result }
 {
@@ -244,7 +244,7 @@ fn listing_of<'a>(matches: &ArgMatches<'a>) -> Listing<'a>
     }
 }
 
-/// What the arguments of `diff` say.
+/// What the arguments of `diff` ask for.
 fn comparing_of<'a>(matches: &ArgMatches<'a>) -> Comparing<'a>
     ensures found { IsComparing (rows_of (found_of matches.now)) result }
 {
@@ -338,19 +338,19 @@ fn usage(error: clap::Error) -> CommandError
 /// - `rha peers DIR [--at T]`
 /// - `rha diff DIR FROM TO [--within PREFIX]`
 ///
-/// Each but `create` takes `--wait SECONDS` too, 0 to 1000000; in `ask` it stands before the first WORD. Without it 0 counts.
+/// Each but `create` takes `--wait SECONDS` too, 0 to 1000000; in `ask` before the first WORD. The default is 0.
 ///
 /// `clap` reads the words, and each number within its limits; an option that isn't there has its default: 1 collector, a ring of 4096
 /// pages, 10000000 pages, 100000000 blocks, batches of 1000, 300 idle seconds. `--read-only` implies `--close-on-http`. Then M is read as a mark, ADDRESS as an IPv4 address and PORT as a number
 /// of at most 65535, and the WORDs are joined to a line with one space between two; the texts of `dump`, `peers` and `diff` aren't read
-/// here. What stands after the first WORD is a WORD too, also
-/// where it looks like an option.
+/// here. All arguments after the first WORD are WORDs too, even
+/// if they look like options.
 ///
 /// # Errors
 ///
-/// `Usage` where `clap` doesn't accept the words, or they ask for help. `BadMark` where M is the text of no mark,
-/// `BadListen` where ADDRESS:PORT is that of no address and port, `BadHttp` where that of `--http` is, or is that of `--listen` (and the
-/// port isn't 0), and `OutOfMemory` where a growth of memory was refused.
+/// `Usage` if `clap` doesn't accept the words, or they ask for help. `BadMark` if M isn't a mark,
+/// `BadListen` if ADDRESS:PORT isn't an address and port, `BadHttp` if that of `--http` isn't, or is that of `--listen` (and the
+/// port isn't 0), and `OutOfMemory` if an allocation failed.
 pub fn command<'a, S: AsStr>(alloc: Global, words: &'a [S]) -> Result<Invocation<'a>, CommandError>
     ensures found { IfOk result (IsInvocation (map S.text words.now)) }
     ensures usage { (e : Error) → result ≡ Err (CommandError.Usage e) → IsAmong (kind_of e) (fault_of program (map S.text words.now)) }

@@ -1,4 +1,4 @@
-//! What a feed's counts, and a mark, let a person doubt.
+//! Which counts of a feed, and which marks, are in doubt.
 
 ghost use Rattle.std.specs.Prelude.{◌≡◌, ◌<◌, ◌*◌, ◌↔◌, ℕ, Option, IsTrue, option_map};
 ghost use Rattle.service.specs.Doubts.{IsDoubtful, IsFar, IsHeld, IsSkipped};
@@ -6,15 +6,15 @@ ghost use Rattle.service.specs.Doubts.{IsDoubtful, IsFar, IsHeld, IsSkipped};
 use crate::feed_lines::FeedCounts;
 use route_model::Mark;
 
-/// How many seconds a mark may lie after its collector's last record, and not be in doubt: a day.
+/// How many seconds a mark may be after its collector's last record without being in doubt: a day.
 pub const DAY: u64 = 86_400;
 
-/// What the counts of a feed let a person doubt. Each may hold beside the others.
+/// Why the counts of a feed are in doubt. Several reasons may apply at once.
 #[derive(Clone, Copy, Debug, PartialEq, Eq)]
 pub struct FeedDoubt {
     /// There was no record.
     pub is_empty: bool,
-    /// Records came late, and none was admitted.
+    /// Records were late, and none was admitted.
     pub is_late: bool,
     /// More than one record in a hundred was refused.
     pub is_refused: bool,
@@ -29,7 +29,7 @@ fn is_skipped(counts: &FeedCounts, dropped: u64) -> bool
     counts.skipped > 0 && counts.admitted == 0 && dropped == 0
 }
 
-/// What these counts let a person doubt of a feed, of whose admissions this many were dropped.
+/// Why these counts are in doubt, of a feed of whose admissions this many were dropped.
 pub fn doubts_of(counts: &FeedCounts, dropped: u64) -> FeedDoubt
     ensures empty { IsTrue result.is_empty ↔ (counts.now.records ≡ 0) }
     ensures late { IsTrue result.is_late ↔ ((0 < counts.now.late) × (counts.now.admitted ≡ 0)) }
@@ -64,7 +64,7 @@ pub fn is_far(mark: Option<Mark>, present: u64) -> bool
 }
 
 /// Whether a load is held back: it is strict, and its feed, which came to its end with these counts and of whose admissions this many were
-/// dropped, is in doubt, or its mark is, which is set where the collector's is at `present` seconds.
+/// dropped, is in doubt, or its mark is, which is set if the collector's is at `present` seconds.
 pub(crate) fn is_held(
     is_strict: bool,
     mark: Option<Mark>,

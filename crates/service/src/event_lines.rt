@@ -17,7 +17,7 @@ fn write_timed(out: &mut String, letter: &str, time: Moment) -> Result<(), Alloc
     write_moment(out, time)
 }
 
-/// The line of an event. After an error nothing is said of `out`.
+/// The line of an event. After an error `out` may have any text.
 pub fn write_change(out: &mut String, time: Moment, change: &Change) -> Result<(), AllocError>
     ensures line { OnOk result (string_bytes out.new ≡ string_bytes out.old ++ change_line time change.now) }
 {
@@ -39,7 +39,7 @@ pub fn write_change(out: &mut String, time: Moment, change: &Change) -> Result<(
     }
 }
 
-/// `E|EVENTS`, or where more events follow `M` and how many the next question skips. After an error nothing is said of `out`.
+/// `E|EVENTS`, or if more events follow, `M` and how many the next question skips. After an error `out` may have any text.
 pub fn write_events_ending(
     out: &mut String,
     skip: u64,
@@ -57,9 +57,9 @@ pub fn write_events_ending(
 }
 
 /// Writes an answer at the end of `out` whose question skipped this many events: for each event `A|TIME|` and the fields
-/// of the route that was announced, `W|TIME` for a withdrawal, or `D|TIME` where all routes of the peer ended; then
-/// `E|EVENTS` where no more events follow, else `M|SKIP` with the number that the next question skips. After an error
-/// nothing is said of `out`.
+/// of the route that was announced, `W|TIME` for a withdrawal, or `D|TIME` if all routes of the peer ended; then
+/// `E|EVENTS` if no more events follow, else `M|SKIP` with the number that the next question skips. After an error
+/// `out` may have any text.
 pub fn write_events(out: &mut String, skip: u64, answer: &EventsAnswer) -> Result<(), AllocError>
     ensures lines { OnOk result (string_bytes out.new ≡ string_bytes out.old ++ events_text skip answer.now) }
 {

@@ -73,7 +73,7 @@ pub enum Unanswered {
     Trouble(Trouble),
 }
 
-/// Why a batch of a feed isn't taken, as the feed is given up for it.
+/// Why a batch of a feed isn't admitted, as the reason why the feed is given up.
 pub(crate) fn stop_of(refusal: AdmitError) -> FeedStop
     ensures { result ≡ of_admit refusal }
 {

@@ -18,7 +18,7 @@ use std::io::Write;
 pub struct FeedCounts {
     pub records: u64,
     pub admitted: u64,
-    /// Those that came late.
+    /// Those that were late.
     pub late: u64,
     pub refused: u64,
     pub skipped: u64,

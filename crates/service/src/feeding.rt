@@ -1,4 +1,4 @@
-//! A feed under way: its records are resolved, and their admissions offered in batches.
+//! A feed in progress: its records are resolved, and their admissions offered in batches.
 
 ghost use Rattle.std.specs.Prelude.{◌≡◌, ◌≤◌, ◌∷◌, ◌++◌, ◌+◌, ltb, ℕ, List, [], Option, Some, Ok, map, OnOk, OnErr, IfErr};
 ghost use Rattle.route_meaning.specs.History.{History};
@@ -41,7 +41,7 @@ pub(crate) struct Feeding {
     pub(crate) rule: WithoutHop,
     /// The peer table of the feed, which later records need.
     pub(crate) resolver: Resolver,
-    /// How many admissions are still to be dropped, since they were kept before.
+    /// How many of the next admissions are dropped, since an earlier feed admitted them.
     pub(crate) dropping: u64,
     /// The pending batch: admissions that aren't offered yet.
     pub(crate) gathered: Vec<Admission>,
@@ -51,7 +51,7 @@ pub(crate) struct Feeding {
     pub(crate) counts: FeedCounts,
 }
 
-/// Whether this many octets with this many more are more than there may be.
+/// Whether `octets` and `more` together exceed the limit.
 fn is_over(octets: usize, more: usize, most: usize) -> bool
     ensures over { result ≡ ltb most (octets + more) }
 {
@@ -70,7 +70,7 @@ pub fn report_batch<W: Write>(out: &mut Output<W>, admitted: &BatchReply)
     out.flush();
 }
 
-/// Writes the line of a refused record at its place, and writes it out: the next record may come late, of a pipe.
+/// Writes the line of a refused record, and flushes it: from a pipe the next record may come much later.
 pub fn report_refused<W: Write>(out: &mut Output<W>, fault: ResolveFault, place: u64)
     ensures line { Reports out.old out.new (refused_record_line (of_record fault) place) }
 {
@@ -79,7 +79,7 @@ pub fn report_refused<W: Write>(out: &mut Output<W>, fault: ResolveFault, place:
 }
 
 impl Feeding {
-    /// The beginning of a feed into the archive, whose first admissions are dropped, as many as `dropping` has.
+    /// Starts a feed into the archive that drops its first `dropping` admissions, which an earlier feed admitted.
     pub(crate) fn new<A: RouteArchive>(
         alloc: Global,
         archive: &A,
@@ -110,7 +110,7 @@ impl Feeding {
         }
     }
 
-    /// Offers what is gathered as a batch, and writes what became of it.
+    /// Offers the pending admissions as a batch, and writes what became of it.
     fn offer<A: RouteArchive, W: Write>(
         &mut self,
         archive: &mut A,
@@ -135,7 +135,7 @@ impl Feeding {
         Ok(())
     }
 
-    /// Offers what is gathered where it would be too large with this many octets more.
+    /// Offers the pending batch if `more` octets would make it too large.
     fn make_room<A: RouteArchive, W: Write>(
         &mut self,
         octets: usize,
@@ -156,7 +156,7 @@ impl Feeding {
         Ok(())
     }
 
-    /// Offers what is gathered where it has as many admissions as a batch may have.
+    /// Offers the pending batch if it has as many admissions as a batch may have.
     fn offer_full<A: RouteArchive, W: Write>(
         &mut self,
         archive: &mut A,
@@ -176,7 +176,7 @@ impl Feeding {
         Ok(())
     }
 
-    /// Offers what is gathered, if there is any.
+    /// Offers the pending batch, if it has any admission.
     pub(crate) fn offer_rest<A: RouteArchive, W: Write>(
         &mut self,
         archive: &mut A,
@@ -194,7 +194,7 @@ impl Feeding {
         self.offer(archive, out)
     }
 
-    /// Adds an admission of this many octets to what is gathered.
+    /// Adds an admission of this many octets to the pending batch.
     fn push(&mut self, admission: Admission, octets: usize) -> Result<(), AllocError>
         ensures same { IsSameFeed self.old self.new }
         ensures counts { self.new.counts ≡ self.old.counts }
@@ -206,8 +206,8 @@ impl Feeding {
         Ok(())
     }
 
-    /// Gathers one more admission. What was gathered is offered first where it would be too large with it, and all of
-    /// it where it has as many admissions as a batch may have.
+    /// Adds an admission to the pending batch. The batch is offered first if it would become too large, and afterwards if it
+    /// has as many admissions as a batch may have.
     fn gather<A: RouteArchive, W: Write>(
         &mut self,
         archive: &mut A,
@@ -230,7 +230,7 @@ impl Feeding {
         }
     }
 
-    /// Counts a refused record, and writes its line. Running out of memory is no fault of a record.
+    /// Counts a refused record, and writes its line. Out of memory is no fault of a record.
     fn refuse<W: Write>(
         &mut self,
         fault: ResolveFault,
@@ -285,7 +285,7 @@ impl Feeding {
         }
     }
 
-    /// Takes the next records of the feed, in their order.
+    /// Takes the next records of the feed, in order.
     pub(crate) fn take_all<A: RouteArchive, W: Write>(
         &mut self,
         alloc: Global,

@@ -12,23 +12,23 @@ pub(crate) const PROGRAM: &str = "Example:
 
 `rha COMMAND --help` has the limits of a command, its defaults and its exit statuses.
 
-Exit status: 0 where all is done, 1 where something was refused or couldn't be written (printed on standard
-error as `rha: NUMBER NAME` where it has no line of its own), 2 where the command line isn't accepted.";
+Exit status: 0 if everything succeeded, 1 if something was refused or couldn't be written (printed on standard
+error as `rha: NUMBER NAME` if it has no line of its own), 2 if the command line isn't accepted.";
 
 /// Of `create`.
 pub(crate) const CREATE: &str =
     "Pages and blocks have 16384 octets each, and take room on the disk as they are used: unused ones take none,
-however many there are. What is loaded of a collector waits in its ring until it may be applied; a table dump
-of one moment waits there whole. There must be a page for each page of each ring and 3 more. Nothing is left
-where the archive can't be made. Prints `created COLLECTORS RING PAGES BLOCKS`.
+however many there are. A collector's records wait in its ring until they may be applied; a table dump of one
+moment waits there whole. There must be a page for each page of each ring and 3 more. Nothing is left if the
+archive can't be made. Prints `created COLLECTORS RING PAGES BLOCKS`.
 
 The files have holes, which a copy has to keep: `cp -a --sparse=always`, `tar -cS`, `rsync -aS`.
 
 Example:
   rha create a --collectors 2
 
-Exit status: 0 where the archive is made; 1 where it is refused, printed on standard error as
-`rha: NUMBER NAME`; 2 where the command line isn't accepted.";
+Exit status: 0 if the archive is made; 1 if it is refused, printed on standard error as
+`rha: NUMBER NAME`; 2 if the command line isn't accepted.";
 
 /// Of `load`.
 pub(crate) const LOAD: &str =
@@ -39,13 +39,13 @@ Each FILE is a feed of its own, with its own lines. One that can't be read or en
 other refusals do: no mark is set, and standard error shows which FILEs were not read.
 With --strict the load ends so, too, at a FILE without a record, one whose records came late or were skipped and none
 is kept, or one of which more than one record in a hundred is refused; and a mark isn't set that is more than a day
-after the collector's last record. Without it standard error warns of these.
+after the collector's last record or mark. Without it standard error warns of these.
 With --resume, the FILEs are all that the collector ever gave, from its beginning, in this order: as many of their
-first records as were offered before are left out, so a load that was broken off goes on.
+first records as were offered before are left out, so an interrupted load goes on.
 With --lose-entries, an entry of a table dump that has no next hop is left out, and the others of its record are
 loaded; without it the whole record is refused. Standard error has a line with how many were left out.
 
-Prints of each FILE, as soon as each is true:
+Prints for each FILE, each line as soon as it is true:
   B|FROM|TO|OFFERED          a batch is kept: its records have the numbers FROM to below TO
   L|INDEX|TIME|MARK          after it: the record at this place of the batch came late
   X|NUMBER|NAME|RECORD       a record is refused, or the file ends in one
@@ -56,9 +56,9 @@ Examples:
   rha load a --collector 0 --mark 2024-01-01T00:15:00Z updates.mrt
   rha load a --collector 0 --strict --mark 2024-01-02T00:00:00Z updates.20240101.*.mrt
 
-Exit status: 0 where each FILE was read to its end, also where records of it were late or refused; 1 where one
-ends inside a record, where --strict ends the load, or something else was refused or couldn't be written (shown on
-standard error as `rha: NUMBER NAME` where it has no line of its own); 2 where the command line isn't accepted.";
+Exit status: 0 if each FILE was read to its end, also if records of it were late or refused; 1 if one ends
+inside a record, --strict ends the load, or something else was refused or couldn't be written (shown on
+standard error as `rha: NUMBER NAME` if it has no line of its own); 2 if the command line isn't accepted.";
 
 /// Of `ask`.
 pub(crate) const ASK: &str = "The words are one request line:
@@ -81,14 +81,14 @@ Examples:
   rha ask a at 2024-01-01T00:10:00Z prefix 10.0.0.0/8
   rha ask a --all at 2024-01-01T00:10:00Z cover 10.0.0.1
 
-Exit status: 0 where the line is answered; 1 where it is refused (`X|NUMBER|NAME`), or something else was
-refused or couldn't be written (printed on standard error as `rha: NUMBER NAME`); 2 where the command line
+Exit status: 0 if the line is answered; 1 if it is refused (`X|NUMBER|NAME`), or something else was
+refused or couldn't be written (printed on standard error as `rha: NUMBER NAME`); 2 if the command line
 isn't accepted.";
 
 /// Of `serve`.
 pub(crate) const SERVE: &str =
-    "Prints `listening ADDRESS:PORT` as soon as connections are taken, and with --http after it ` http ADDRESS:PORT`;
-the system chooses a free port where PORT is 0. No other command can open the archive meanwhile: what is to be
+    "Prints `listening ADDRESS:PORT` as soon as connections are accepted, and with --http after it ` http ADDRESS:PORT`;
+the system chooses a free port if PORT is 0. No other command can open the archive meanwhile: what is to be
 loaded is fed through a connection. Each of N workers serves one connection to its end, and further ones wait: a
 client that stays connected keeps a worker.
 
@@ -114,22 +114,22 @@ Examples:
   echo at 2024-01-01T00:10:00Z all | nc -N 127.0.0.1 17900
   curl http://127.0.0.1:17980/api/info
 
-Exit status: 0 where a client stopped the server; 1 where the archive can't be opened, an address or PATH
-can't be listened on or something else was refused (printed on standard error as `rha: NUMBER NAME`); 2 where
+Exit status: 0 if a client stopped the server; 1 if the archive can't be opened, an address or PATH
+can't be listened on or something else was refused (printed on standard error as `rha: NUMBER NAME`); 2 if
 the command line isn't accepted.";
 
 /// Of `check`.
 pub(crate) const CHECK: &str =
-    "Reads all that waits, and every page and block that answers come from, and counts the changes in these. Before
-that it looks at the journal's open slots. Nothing that is answered later is changed.
+    "Reads all pending records, and every page and block that answers come from, and counts the changes in these.
+First it looks at the journal's open slots. It changes no later answer.
 Prints `ok|CHANGES|SETTLED`: how many changes are applied, and the settled watermark.
 
 Example:
   rha check a
 
-Exit status: 0 where all could be read, and has as many changes as were applied; 1 where a block or a page
-isn't what may stand there, which standard error shows as `rha: 8 Damaged` or `rha: 9 BadNode`, or something
-else was refused or couldn't be written (`rha: NUMBER NAME`); 2 where the command line isn't accepted.";
+Exit status: 0 if all could be read, and has as many changes as were applied; 1 if a block or a page isn't
+a valid node there, which standard error shows as `rha: 8 Damaged` or `rha: 9 BadNode`, or something
+else was refused or couldn't be written (`rha: NUMBER NAME`); 2 if the command line isn't accepted.";
 
 /// Of `info`.
 pub(crate) const INFO: &str =
@@ -141,8 +141,8 @@ object in one line.
 Example:
   rha info a
 
-Exit status: 0 where the archive could be read; 1 where something was refused or couldn't be written (printed on
-standard error as `rha: NUMBER NAME`); 2 where the command line isn't accepted.";
+Exit status: 0 if the archive could be read; 1 if something was refused or couldn't be written (printed on
+standard error as `rha: NUMBER NAME`); 2 if the command line isn't accepted.";
 
 /// Of `dump`.
 pub(crate) const DUMP: &str =
@@ -157,8 +157,8 @@ Examples:
   rha dump a --at 2024-01-01T00:10:00Z --format bgpdump
   rha dump a --peer 0 192.0.2.1 64496
 
-Exit status: 0 where the whole table is written; 1 where something was refused or couldn't be written (on standard
-error as `rha: NUMBER NAME`, or the last line is `X|NUMBER|NAME`); 2 where the command line isn't accepted.";
+Exit status: 0 if the whole table is written; 1 if something was refused or couldn't be written (on standard
+error as `rha: NUMBER NAME`, or the last line is `X|NUMBER|NAME`); 2 if the command line isn't accepted.";
 
 /// Of `peers`.
 pub(crate) const PEERS: &str =
@@ -168,8 +168,8 @@ below the settled watermark; without --at it is the last moment that is.
 Example:
   rha peers a --at 2024-01-01T00:10:00Z
 
-Exit status: 0 where all are printed; 1 where something was refused or couldn't be written (on standard error as
-`rha: NUMBER NAME`, or the last line is `X|NUMBER|NAME`); 2 where the command line isn't accepted.";
+Exit status: 0 if all are printed; 1 if something was refused or couldn't be written (on standard error as
+`rha: NUMBER NAME`, or the last line is `X|NUMBER|NAME`); 2 if the command line isn't accepted.";
 
 /// Of `diff`.
 pub(crate) const DIFF: &str =
@@ -182,6 +182,6 @@ and then E|LINES. ROUTE is the eight fields of a row. Both moments have to be be
 Example:
   rha diff a 2024-01-01T00:00:00Z 2024-01-01T00:10:00Z --within 10.0.0.0/8
 
-Exit status, as of diff(1): 0 where the tables are the same; 1 where they differ; 2 where something was refused or
+Exit status, as of diff(1): 0 if the tables are the same; 1 if they differ; 2 if something was refused or
 couldn't be written (on standard error as `rha: NUMBER NAME`, or the last line is `X|NUMBER|NAME`), or the command
 line isn't accepted.";

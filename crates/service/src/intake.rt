@@ -39,7 +39,7 @@ pub enum End {
 }
 
 impl Feeding {
-    /// Takes the records that are whole with the next piece. Answers whether the feed goes on.
+    /// Takes the records that are whole with the next piece. Returns whether the feed goes on.
     fn take_piece<A: RouteArchive, W: Write>(
         &mut self,
         alloc: Global,
@@ -95,7 +95,7 @@ impl Feeding {
                 return Ok(());
             }
         }
-        // No memory holds a count of this many pieces.
+        // There are never this many pieces.
         Err(FeedStop::Trouble(Trouble::OutOfMemory))
     }
 }
@@ -120,7 +120,7 @@ fn report_cut<W: Write>(cut: &Option<FeedCut>, records: u64, out: &mut Output<W>
     }
 }
 
-/// Writes how a feed ended, and its counts, and writes them out: what comes next is applying, which may take long.
+/// Writes how a feed ended, and its counts, and flushes them: applying, which comes next, may take long.
 pub fn report_end<W: Write>(cut: &Option<FeedCut>, counts: &FeedCounts, out: &mut Output<W>)
     ensures reported { Reports out.old out.new (cut_line cut.now counts.now.records ++ counts_line counts.now) }
 {
@@ -129,7 +129,7 @@ pub fn report_end<W: Write>(cut: &Option<FeedCut>, counts: &FeedCounts, out: &mu
     out.flush();
 }
 
-/// Writes for what a feed is given up, and writes it out.
+/// Writes why a feed is given up, and flushes the line.
 pub fn report_stop<W: Write>(why: FeedStop, out: &mut Output<W>)
     ensures reported { Reports out.old out.new (refusal_line (of_stop why)) }
 {
@@ -137,7 +137,7 @@ pub fn report_stop<W: Write>(why: FeedStop, out: &mut Output<W>)
     out.flush();
 }
 
-/// Takes a feed in to its end. Returns why it is cut short, if it is; `counts` are those that were written then, none if it is given up, and
+/// Takes a feed to its end. Returns why it is cut short, if it is; `counts` are those that were written then, none if it is given up, and
 /// `dropping` is how many admissions are still to be dropped.
 fn take_in<A: RouteArchive, R: Read, W: Write>(
     alloc: Global,
@@ -169,7 +169,7 @@ fn take_in<A: RouteArchive, R: Read, W: Write>(
     Ok(cut)
 }
 
-/// How a feed that ended so is answered once its lines are written: where not all of them could be, it is given up for
+/// The result for a feed that ended so, after its lines: if not all of them could be written, it is given up for
 /// the writer.
 fn as_reported<W: Write>(end: End, out: &Output<W>) -> End
     ensures reported { result ≡ as_reported out.now.failed end }
@@ -181,13 +181,13 @@ fn as_reported<W: Write>(end: End, out: &Output<W>) -> End
     end
 }
 
-/// Takes a feed of a collector in. As many of its first admissions as `dropping` has are dropped, and it becomes how many are still to be dropped
-/// where the feed came to its end. A record of a dropped admission counts as a record and as nothing else. The other admissions are offered in batches, as soon as one has `limit` admissions, before
-/// it would have more octets than the archive takes, and at the end. Where the collector's ring is too full for one, what
-/// may be applied is applied, and the batch offered once more. A refused record writes its line when it
-/// is met, each batch what became of it, and the end the counts of the feed; where the feed ends inside a record or
-/// at a Length above the limit, a line before them. Another refusal writes its line and ends the feed. Each line is
-/// written out at once. Where not all lines can be written, the answer is that the feed is given up for the writer,
+/// Takes a feed of a collector. As many of its first admissions as `dropping` has are dropped, and it becomes how many are still to be dropped
+/// if the feed came to its end. A record of a dropped admission counts as a record and as nothing else. The other admissions are offered in batches, as soon as one has `limit` admissions, before
+/// it would have more octets than the archive takes, and at the end. If the collector's ring is too full for one, what
+/// may be applied is applied, and the batch is offered once more. The line of a refused record is written when it
+/// is read, what became of a batch after it, and the counts of the feed at the end; if the feed ends inside a record or
+/// at a Length above the limit, a line before them. The line of another refusal ends the feed. Each line is
+/// flushed at once. If not all lines can be written, the feed is given up for the writer,
 /// `Outside`. If it came to its end, `counts` become those of the feed, and `left_out` how many entries of its RIB records were left out; otherwise
 /// there are no counts.
 pub fn feed<A: RouteArchive, R: Read, W: Write>(

@@ -12,7 +12,7 @@ use thiserror::Error;
 /// What `create` is given.
 #[derive(Debug, Drop)]
 pub struct Creation<'a> {
-    /// The folder to make.
+    /// The folder to create.
     pub folder: &'a str,
     /// How many collectors there will be, 1 to 16.
     pub collectors: u8,
@@ -27,7 +27,7 @@ pub struct Creation<'a> {
 /// What `load` is given.
 #[derive(Debug, Drop)]
 pub struct Loading<'a> {
-    /// How many seconds the archive is waited for while it is in use, 0 to 1000000.
+    /// How many seconds to wait for the archive while it is in use, 0 to 1000000.
     pub wait: u64,
     /// The folder of the archive.
     pub folder: &'a str,
@@ -50,7 +50,7 @@ pub struct Loading<'a> {
 /// What `ask` is given.
 #[derive(Debug, Drop)]
 pub struct Question<'a> {
-    /// How many seconds the archive is waited for while it is in use, 0 to 1000000.
+    /// How many seconds to wait for the archive while it is in use, 0 to 1000000.
     pub wait: u64,
     /// The folder of the archive.
     pub folder: &'a str,
@@ -62,10 +62,10 @@ pub struct Question<'a> {
     pub line: String,
 }
 
-/// What `dump` is given: texts, as they stand on the command line.
+/// What `dump` is given: texts, as on the command line.
 #[derive(Debug, Drop)]
 pub struct Dumping<'a> {
-    /// How many seconds the archive is waited for while it is in use, 0 to 1000000.
+    /// How many seconds to wait for the archive while it is in use, 0 to 1000000.
     pub wait: u64,
     /// The folder of the archive.
     pub folder: &'a str,
@@ -80,7 +80,7 @@ pub struct Dumping<'a> {
 /// What `peers` is given.
 #[derive(Debug, Drop)]
 pub struct Listing<'a> {
-    /// How many seconds the archive is waited for while it is in use, 0 to 1000000.
+    /// How many seconds to wait for the archive while it is in use, 0 to 1000000.
     pub wait: u64,
     /// The folder of the archive.
     pub folder: &'a str,
@@ -88,10 +88,10 @@ pub struct Listing<'a> {
     pub at: Option<&'a str>,
 }
 
-/// What `diff` is given: texts, as they stand on the command line.
+/// What `diff` is given: texts, as on the command line.
 #[derive(Debug, Drop)]
 pub struct Comparing<'a> {
-    /// How many seconds the archive is waited for while it is in use, 0 to 1000000.
+    /// How many seconds to wait for the archive while it is in use, 0 to 1000000.
     pub wait: u64,
     /// The folder of the archive.
     pub folder: &'a str,
@@ -99,28 +99,28 @@ pub struct Comparing<'a> {
     pub from: &'a str,
     /// The second moment.
     pub to: &'a str,
-    /// The prefix in which those of the rows lie.
+    /// The prefix that contains those of the rows.
     pub within: Option<&'a str>,
 }
 
 /// What `serve` is given.
 #[derive(Debug, Drop)]
 pub struct Serving<'a> {
-    /// How many seconds the archive is waited for while it is in use, 0 to 1000000.
+    /// How many seconds to wait for the archive while it is in use, 0 to 1000000.
     pub wait: u64,
     /// The folder of the archive.
     pub folder: &'a str,
-    /// Where connections are taken. At port 0 the system chooses a free one.
+    /// Where connections are accepted. At port 0 the system chooses a free one.
     pub listen: SocketAddrV4,
     /// How many connections are served at once, 1 to 16.
     pub workers: u8,
     /// Whether lines that change something are refused there: `feed`, `mark` and `stop`.
     pub read_only: bool,
-    /// Whether a connection is ended there after a request of HTTP, as where it is read-only.
+    /// Whether a connection is ended there after a request of HTTP, as it is if the port is read-only.
     pub close_on_http: bool,
     /// The path of a Unix socket that takes every line.
     pub admin: Option<&'a str>,
-    /// Where HTTP is served; the system chooses the port where it is 0.
+    /// Where HTTP is served; the system chooses the port if it is 0.
     pub http: Option<SocketAddrV4>,
     /// After how many seconds a connection is ended that sends nothing, or doesn't read, 1 to 1000000.
     pub idle: u32,
@@ -129,7 +129,7 @@ pub struct Serving<'a> {
 /// What `check` is given.
 #[derive(Debug, Drop)]
 pub struct Checking<'a> {
-    /// How many seconds the archive is waited for while it is in use, 0 to 1000000.
+    /// How many seconds to wait for the archive while it is in use, 0 to 1000000.
     pub wait: u64,
     /// The folder of the archive.
     pub folder: &'a str,
@@ -138,7 +138,7 @@ pub struct Checking<'a> {
 /// What `info` is given.
 #[derive(Debug, Drop)]
 pub struct Examining<'a> {
-    /// How many seconds the archive is waited for while it is in use, 0 to 1000000.
+    /// How many seconds to wait for the archive while it is in use, 0 to 1000000.
     pub wait: u64,
     /// The folder of the archive.
     pub folder: &'a str,
@@ -149,7 +149,7 @@ pub struct Examining<'a> {
 /// What a command line asks for.
 #[derive(Debug, Drop)]
 pub enum Invocation<'a> {
-    /// An archive is made in a new folder.
+    /// An archive is created in a new folder.
     Create(Creation<'a>),
     /// Files are loaded into an archive.
     Load(Loading<'a>),
@@ -157,9 +157,9 @@ pub enum Invocation<'a> {
     Ask(Question<'a>),
     /// An archive is served on a socket.
     Serve(Serving<'a>),
-    /// All that an archive keeps of what is applied is read.
+    /// An archive is checked.
     Check(Checking<'a>),
-    /// How far an archive has come is shown.
+    /// Facts of an archive are shown.
     Info(Examining<'a>),
     /// A table of one moment is written.
     Dump(Dumping<'a>),
@@ -175,22 +175,22 @@ pub enum CommandError {
     /// The words aren't accepted, or they ask for help: `clap`'s text.
     #[error(transparent)]
     Usage(clap::Error),
-    /// The text after `--mark` is that of no mark.
+    /// The text after `--mark` isn't a mark.
     #[error("the text after --mark is that of no mark")]
     BadMark,
-    /// The text after `--listen` is that of no IPv4 address and port.
+    /// The text after `--listen` isn't an IPv4 address and port.
     #[error("the text after --listen is that of no address and port")]
     BadListen,
-    /// The text after `--http` is that of no IPv4 address and port, or of those of `--listen`.
+    /// The text after `--http` isn't an IPv4 address and port, or has those of `--listen`.
     #[error("the text after --http is that of no address and port, or of those of --listen")]
     BadHttp,
-    /// A growth of memory was refused.
+    /// An allocation failed.
     #[error("out of memory")]
     OutOfMemory,
 }
 
 impl CommandError {
-    /// The exit status of the program: 2 where the words aren't accepted, 0 where they ask for help, else 1.
+    /// The exit status of the program: 2 if the words aren't accepted, 0 if they ask for help, else 1.
     pub fn code(&self) -> u8
         ensures usage { (e : Error) → self.now ≡ CommandError.Usage e → (kind_of e ≡ ErrorKind.DisplayHelp → ⊥) → (kind_of e ≡ ErrorKind.DisplayVersion → ⊥) → result ≡ 2 }
         ensures help { (e : Error) → self.now ≡ CommandError.Usage e → kind_of e ≡ ErrorKind.DisplayHelp → result ≡ 0 }

@@ -5,7 +5,7 @@
 //!     a feed         octets --> records --> admissions --> batches --> admit     B and L for each batch, X for a refused record, F at the end
 //!     files          a feed for each; then the mark, applying, flushing          those of each feed, and S
 //!     a request      words --> question --> answer                               R, or A, W and D; then E, or M if more follow; or S, N, X
-//!     a check        the archive reads all that it keeps                         ok
+//!     a check        the archive reads all that it has                           ok
 //!     arguments      clap's reading --> an `Invocation`                          none, or usage, help, version
 //!
 //! Such a line is a letter, or `ok`, and fields with `|` before each, and ends in LF; X has the number and the name of a refusal. Times are

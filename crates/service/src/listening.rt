@@ -1,4 +1,4 @@
-//! Where a server takes connections: as the command line writes it, and as it is printed.
+//! Where a server accepts connections: as the command line has it, and as it is printed.
 
 ghost use Rattle.std.specs.Prelude.{◌≡◌, ◌↔◌, IsTrue, OnErr, IfOk, option_map};
 ghost use Rattle.std.specs.Net.Text.{ipv4_text, socket_v4_text};
@@ -15,7 +15,7 @@ use std::net::{Ipv4Addr, SocketAddrV4};
 /// The greatest number of a port.
 const LAST_PORT: u64 = 65_535;
 
-/// The address and the port that a text writes with a colon between.
+/// The address and the port in a text, with a colon between.
 pub(crate) fn read_listen(text: &str) -> Result<SocketAddrV4, BadText>
     ensures found { IfOk result (IsListenText text.now) }
     ensures none { OnErr result (IsNoListenText text.now) }
@@ -35,7 +35,7 @@ fn are_same(listen: SocketAddrV4, http: SocketAddrV4) -> bool
     http == listen && listen.port() != 0
 }
 
-/// The address and port of HTTP that the text writes, if there is a text. They have to be others than those of `listen`, unless the
+/// The address and port of HTTP in the text, if there is a text. They have to differ from those of `listen`, unless the
 /// port is 0.
 pub(crate) fn read_http(
     listen: SocketAddrV4,
@@ -88,7 +88,7 @@ fn write_http<W: Write>(out: &mut Output<W>, http: Option<SocketAddrV4>)
     write_place(out, &place);
 }
 
-/// Writes where connections are taken.
+/// Writes where connections are accepted.
 fn write_listening<W: Write>(out: &mut Output<W>, bound: &SocketAddrV4, http: Option<SocketAddrV4>)
     ensures line { Reports out.old out.new (listening_line bound.now http) }
 {
@@ -98,8 +98,8 @@ fn write_listening<W: Write>(out: &mut Output<W>, bound: &SocketAddrV4, http: Op
     out.text("\n");
 }
 
-/// Prints where connections are taken, `listening ADDRESS:PORT`, and after ` http ` where those of HTTP are, if there are such. Then it
-/// writes out what is buffered. The exit status of the program is 0, or 1 if not all could be written, which `err` then says.
+/// Prints where connections are accepted, `listening ADDRESS:PORT`, and after ` http ` the address and port of HTTP, if there are such. Then it
+/// writes out what is buffered. The exit status of the program is 0, or 1 if not all could be written, which `err` then shows.
 pub fn report_listening<W: Write, E: Write>(
     alloc: Global,
     bound: &SocketAddrV4,

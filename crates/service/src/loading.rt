@@ -1,4 +1,4 @@
-//! Files that are loaded: fed, marked and applied.
+//! Loads files: feeds them, sets the mark, and applies.
 
 ghost use Rattle.std.specs.Prelude.{◌≡◌, ℕ, true, false, List, Option, None, OnOk, OnErr, IfErr, map};
 ghost use Rattle.route_meaning.specs.History.{History};
@@ -117,7 +117,7 @@ fn refusal_of(end: End) -> Option<Refusal> {
     }
 }
 
-/// The mark of a collector, in seconds: 0 where there is no such collector.
+/// The mark of a collector, in seconds: 0 if there is no such collector.
 fn present_mark<A: RouteArchive>(archive: &A, collector: u8) -> u64
     ensures present { (h : History) → A.represents archive.now h → result ≡ (intake_in h.intakes collector).mark }
 {
@@ -149,7 +149,7 @@ fn refused_if(is_held: bool, status: Status) -> Status
     }
 }
 
-/// Loads a file: takes it in as a feed, sets the mark where the feed ended well and the load isn't held back, applies what may be applied,
+/// Loads a file: takes it as a feed, sets the mark if the feed ended well and the load isn't held back, applies what may be applied,
 /// flushes, and writes the settled watermark. A refusal outside the feed is written to `err` and ends the load.
 fn load_one<A: RouteArchive, R: Read, W: Write, E: Write>(
     alloc: Global,
@@ -256,9 +256,9 @@ fn with_mark_if(is_last: bool, how: &LoadSettings) -> LoadSettings
     }
 }
 
-/// Loads files one after another, each as a feed of its own with its own lines: its records are taken in, what may be applied is applied, and the
+/// Loads files one after another, each as a feed of its own with its own lines: its records are admitted, what may be applied is applied, and the
 /// settled watermark is written. The mark is set once the last feed has ended well. The first file whose load isn't done ends the load: its
-/// feed was cut or given up, or something is in doubt of a load that is strict, or something was refused outside the feed, which is
+/// feed was cut or given up, or the load is strict and in doubt, or something was refused outside the feed, which is
 /// written to `err`. Those after it aren't read. Each file has a report of what became of it.
 pub fn load<A: RouteArchive, R: Read, W: Write, E: Write>(
     alloc: Global,

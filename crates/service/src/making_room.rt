@@ -1,4 +1,4 @@
-//! What is applied so that more can be taken in.
+//! Applies changes, so that a ring has room for more admissions.
 
 ghost use Rattle.std.specs.Prelude.{◌≡◌, ℕ, List, OnOk, OnErr};
 ghost use Rattle.route_meaning.specs.History.{History};
@@ -26,7 +26,7 @@ pub(crate) fn apply_all<A: RouteArchive>(archive: &mut A) -> Result<(), Trouble>
     Err(Trouble::OutOfMemory)
 }
 
-/// Admits a batch. Where the collector's ring is too full for it, what may be applied is applied, and then the batch is
+/// Admits a batch. If the collector's ring is too full for it, what may be applied is applied, and then the batch is
 /// offered once more.
 pub(crate) fn admit_with_room<A: RouteArchive>(
     archive: &mut A,

@@ -9,7 +9,7 @@ use itoa::Buffer;
 use std::io::{Error, ErrorKind, Read, Write};
 use std::marker::Model;
 
-/// A writer of lines. Where a write fails, the error is kept, and from then on nothing is written.
+/// A writer of lines. If a write fails, the error is kept, and from then on nothing is written.
 #[derive(Drop)]
 pub struct Output<W: Write> {
     writer: W,
@@ -25,7 +25,7 @@ impl<W: Write> Model for Output<W> {
     ghost view = { λ o. record { held = W.contents o.writer; failed = is_some o.failure } };
 }
 
-/// One write, done again where a signal interrupts it.
+/// One write, repeated if a signal interrupts it.
 fn write_through<W: Write>(writer: &mut W, octets: &[u8]) -> Result<usize, Error>
     ensures bound { WritesAtMost result octets.now }
     ensures bytes { WriteAppends (W.contents writer.old) (W.contents writer.new) result octets.now }
@@ -64,7 +64,7 @@ impl<W: Write> Output<W> {
         self.failure.as_ref()
     }
 
-    /// Writes at least one of the octets: how many, or none where the write failed.
+    /// Writes at least one of the octets: how many, or none if the write failed.
     fn write_some(&mut self, octets: &[u8]) -> Option<usize>
         ensures some { IfSome result (λ count. 0 < count) }
         ensures fits { IfSome result (λ count. count ≤ length octets.now) }
@@ -130,7 +130,7 @@ impl<W: Write> Output<W> {
     }
 }
 
-/// A reader of octets. Where a read fails, the error is kept.
+/// A reader of octets. If a read fails, the error is kept.
 #[derive(Drop)]
 pub struct Input<R: Read> {
     reader: R,
@@ -146,7 +146,7 @@ impl<R: Read> Model for Input<R> {
     ghost view = { λ i. record { left = R.remaining i.reader; failed = is_some i.failure } };
 }
 
-/// One read, done again where a signal interrupts it.
+/// One read, repeated if a signal interrupts it.
 pub fn read_through<R: Read>(reader: &mut R, piece: &mut [u8]) -> Result<usize, Error>
     ensures bound { ReadsAtMost result piece.new }
     ensures bytes { ReadConsumes (R.remaining reader.old) (R.remaining reader.new) result piece.new }
@@ -178,7 +178,7 @@ impl<R: Read> Input<R> {
         self.failure.as_ref()
     }
 
-    /// Reads some octets into the front of `piece`, which has room: how many, or 0 at the end. None where the read failed.
+    /// Reads some octets into the front of `piece`, which has room: how many, or 0 at the end. None if the read failed.
     pub(crate) fn read(&mut self, piece: &mut [u8]) -> Option<usize>
         ensures fits { IfSome result (λ count. count ≤ length piece.new) }
         ensures read { IfSome result (λ count. Consumes self.old.left self.new.left (take count piece.new)) }

@@ -1,4 +1,4 @@
-//! Why something isn't done, by number and name.
+//! Refusals, by number and name.
 
 ghost use Rattle.std.specs.Prelude.{◌≡◌, ◌++◌, [], IfSome, IfNone, codes, decimal};
 ghost use Rattle.service.specs.Outputs.{Reports};
@@ -9,13 +9,13 @@ use route_model::Mark;
 use std::io::Write;
 use thiserror::Error;
 
-/// Why something isn't done. Each refusal has a number and a name, which its line has.
+/// Why something was refused. Each refusal has a number and a name, which its line shows.
 #[derive(Clone, Copy, Debug, Error, PartialEq, Eq)]
 pub enum Refusal {
     /// A device failed.
     #[error("a device failed")]
     Fault,
-    /// The disks hold no archive.
+    /// The disks have no archive.
     #[error("there is no archive")]
     NotAJournal,
     /// An earlier write or sync failed, and the archive wasn't opened again since.
@@ -27,16 +27,16 @@ pub enum Refusal {
     /// No blank block is left.
     #[error("no block is left")]
     OnceFull,
-    /// The block of this number isn't what may stand there.
+    /// The block of this number isn't valid there.
     #[error("block {0} is damaged")]
     Damaged(u64),
-    /// The page of this number isn't what may stand there.
+    /// The page of this number isn't valid there.
     #[error("page {0} is damaged")]
     BadNode(u64),
     /// The tree would need a seventh level of key nodes.
     #[error("the tree is too high")]
     TooHigh,
-    /// An argument of the command line isn't a text of the kind that was asked for.
+    /// An argument of the command line isn't valid.
     #[error("an argument isn't a text of the kind that was asked for")]
     BadText,
     /// The feed ended inside a record.
@@ -45,7 +45,7 @@ pub enum Refusal {
     /// The Length of a record is above 131,072.
     #[error("the length of a record is above 131072")]
     TooLong,
-    /// The record has no reading.
+    /// The record is malformed.
     #[error("the record is malformed")]
     Malformed,
     /// An announced route has an encoding of more than 3,072 octets.
@@ -78,7 +78,7 @@ pub enum Refusal {
     /// A count would pass 18446744073709551615.
     #[error("a count is full")]
     CounterFull,
-    /// A growth of memory was refused.
+    /// An allocation failed.
     #[error("out of memory")]
     OutOfMemory,
     /// The line is no request.
@@ -200,7 +200,7 @@ pub fn write_refusal<W: Write>(out: &mut Output<W>, refusal: &Refusal)
     out.text("\n");
 }
 
-/// Writes the line of a refused record: `X|NUMBER|NAME|PLACE`, where the first record of a feed has the place 0. No
+/// Writes the line of a refused record: `X|NUMBER|NAME|PLACE`, if the first record of a feed has the place 0. No
 /// memory is needed.
 pub fn write_refused_record<W: Write>(out: &mut Output<W>, refusal: &Refusal, place: u64)
     ensures line { Reports out.old out.new (refused_record_line refusal.now place) }
@@ -221,7 +221,7 @@ fn write_error_head<W: Write>(out: &mut Output<W>, refusal: &Refusal)
     out.text(refusal.name());
 }
 
-/// Writes a refusal that has no other line, as standard error shows it: `rha: NUMBER NAME`. No memory is needed.
+/// Writes a refusal for standard error: `rha: NUMBER NAME`. No memory is needed.
 pub fn write_error<W: Write>(out: &mut Output<W>, refusal: &Refusal)
     ensures line { Reports out.old out.new (error_line refusal.now) }
 {

@@ -16,7 +16,7 @@ use interleaving_core::{Answer, Query};
 use route_text::write_number;
 use std::alloc::{AllocError, Global};
 
-/// How many events the question skips: none, where it is of a moment.
+/// How many events the question skips: none, if it is of a moment.
 pub fn skip_of(query: &Query) -> u64
     ensures skip { result ≡ skip_of query.now }
 {
@@ -26,7 +26,7 @@ pub fn skip_of(query: &Query) -> u64
     }
 }
 
-/// The lines of an answer to a question that skips this many events. Memory alone refuses them.
+/// The lines of an answer to a question that skips this many events. Only an allocation can fail.
 pub fn answer_text(alloc: Global, skip: u64, answer: &Answer) -> Result<String, AllocError>
     ensures text { IfOk result (λ text. string_bytes text ≡ reply_text skip answer.now) }
 {
@@ -62,7 +62,7 @@ fn number_text(alloc: Global, letter: &str, number: u64) -> Result<String, Alloc
     Ok(text)
 }
 
-/// Why a question isn't answered, as its line says it.
+/// Why a question isn't answered, as its line has it.
 fn unanswered(refusal: AskError) -> Unanswered
     ensures why { result ≡ of_ask refusal }
 {
@@ -150,7 +150,7 @@ fn reply_to<A: RouteArchive>(
     }
 }
 
-/// What the archive replies to a request line, which is without its end: the lines of the reply, or why there is none.
+/// What the archive replies to a request line, given without its LF: the lines of the reply, or why there is none.
 /// The lines that are read are those of [`read_request`]. A question whose last moment isn't below the settled watermark
 /// is refused, and so is the count of a collector that isn't there.
 pub fn reply<A: RouteArchive>(

@@ -1,4 +1,4 @@
-//! What is known of a load besides its lines and its status.
+//! What is reported of a load besides its lines and its status.
 
 ghost use Rattle.std.specs.Prelude.{◌≡◌, false, None};
 
@@ -8,20 +8,20 @@ use crate::refusal::Refusal;
 use route_model::Mark;
 use std::io::Read;
 
-/// What became of the load of a file, for words to a person: the lines and the status say it too, but for programs.
+/// What became of the load of a file, for messages to a person: the lines and the status are for programs.
 #[derive(Clone, Copy, Debug, PartialEq, Eq)]
 pub struct LoadReport {
     /// Whether the load came to this file.
     pub is_begun: bool,
-    /// The collector's mark before, where there is that collector.
+    /// The collector's mark before, if there is that collector.
     pub before: Option<Mark>,
-    /// What became of the records, where the feed wrote its counts.
+    /// What became of the records, if the feed wrote its counts.
     pub counts: Option<FeedCounts>,
-    /// How many entries of its RIB records were left out, where the feed wrote its counts.
+    /// How many entries of its RIB records were left out, if the feed wrote its counts.
     pub left_out: u64,
     /// How many admissions of the file were dropped, since they were offered before.
     pub dropped: u64,
-    /// The collector's mark after the feed, in seconds, from which `--mark` would raise it; where the feed ended well.
+    /// The collector's mark after the feed, in seconds, from which `--mark` would raise it; if the feed ended well.
     pub present: Option<u64>,
     /// Whether the load was held back: it is strict, and the feed or the mark is in doubt.
     pub is_held: bool,
@@ -30,7 +30,7 @@ pub struct LoadReport {
 }
 
 impl LoadReport {
-    /// The report of a load that has begun, or hasn't, of which nothing more is known.
+    /// The report of a load that has begun, or hasn't, without any result yet.
     pub(crate) fn new(is_begun: bool) -> LoadReport
         ensures begun { result.is_begun ≡ is_begun }
         ensures counts { result.counts ≡ None }

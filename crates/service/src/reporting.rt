@@ -15,8 +15,8 @@ use clap::error::ErrorKind as UsageKind;
 use std::alloc::Global;
 use std::io::{Eprint, Error, Print, Read, Write};
 
-/// Prints that a file, an address or an argument failed, which call, and the system's reason. Where there is no memory for the
-/// reason, the refusal stands alone. The exit status is 1.
+/// Prints that a file, an address or an argument failed, which call, and the system's reason. If there is no memory for the
+/// reason, the refusal is alone on its line. The exit status is 1.
 pub fn report_outside<E: Write>(
     alloc: Global,
     err: &mut Output<E>,
@@ -62,7 +62,7 @@ pub fn report_with<E: Write>(refusal: &Refusal, why: Option<String>, err: &mut O
     1
 }
 
-/// Prints why the program doesn't come to its command. The exit status is 1.
+/// Prints why the program doesn't begin its command. The exit status is 1.
 pub fn report_refusal<E: Write>(refusal: &Refusal, err: &mut Output<E>) -> u8
     ensures code { result ≡ 1 }
     ensures reported { Reports err.old err.new (error_line refusal.now) }
@@ -112,7 +112,7 @@ pub(crate) fn report_unwritten<W: Write, E: Write>(
 }
 
 /// Prints why the command line asks for nothing, or shows the help or version that it asks for. The exit status is that
-/// of the error, or 1 where help or version couldn't be shown.
+/// of the error, or 1 if help or version couldn't be shown.
 pub fn report_usage<R: Print + Eprint, E: Write>(
     alloc: Global,
     rt: &R,
@@ -130,7 +130,7 @@ pub fn report_usage<R: Print + Eprint, E: Write>(
         CommandError::Usage(usage) => {
             if let Err(why) = usage.print(rt) {
                 if error.code() == 0 {
-                    // Help that can't be shown isn't done.
+                    // Help that can't be shown is a failure.
                     return report_outside(alloc, err, "standard output", "write", &why);
                 }
             }

@@ -1,4 +1,4 @@
-//! Request lines, read.
+//! Reads request lines.
 
 ghost use Rattle.std.specs.Prelude.{◌≡◌, ◌∷◌, [], ℕ, codes, map, IfOk, OnErr};
 ghost use Rattle.service.specs.Requests.{words_of, AreDurableWords, AreRequestWords, IsRequestLine};
@@ -33,7 +33,7 @@ pub enum RequestError {
     OutOfMemory,
 }
 
-/// What stands before, between and after the spaces of a line.
+/// What is before, between and after the spaces of a line.
 pub fn words_of(alloc: Global, line: &str) -> Result<Vec<&str>, AllocError>
     ensures words { IfOk result (λ words. map (λ x. x.now) words.items ≡ words_of line.now) }
 {
@@ -84,7 +84,7 @@ fn read_words(words: &[&str]) -> Result<Request, BadText>
     Ok(Request::Durable(collector))
 }
 
-/// What a request line asks, the line being without its end. With exactly one space between two words it is one of
+/// What a request line asks; the line is given without its LF. With exactly one space between two words it is one of
 ///
 /// - `at T route PEER PREFIX`
 /// - `at T prefix PREFIX`, `at T cover ADDRESS`, `at T peer PEER` or `at T all`, and after it perhaps

@@ -12,7 +12,7 @@ use route_text::{BadText, read_address, read_number, read_prefix};
 /// The last number of a collector that a line can name.
 pub const LAST_COLLECTOR: u64 = 15;
 
-/// The words after the first, where that is this one.
+/// The words after the first, if that is this one.
 pub fn words_after<'a, 'b>(words: &'a [&'b str], word: &str) -> Option<&'a [&'b str]>
     ensures found { IfSome result (λ beyond. map (λ x. x.now) words.now ≡ word.now ∷ map (λ x. x.now) beyond.now) }
     ensures none { IfNone result ((beyond : List (List ℕ)) → map (λ x. x.now) words.now ≡ word.now ∷ beyond → ⊥) }
@@ -21,7 +21,7 @@ pub fn words_after<'a, 'b>(words: &'a [&'b str], word: &str) -> Option<&'a [&'b 
     if *first == word { Some(beyond) } else { None }
 }
 
-/// The number of at most `last` that the only word writes.
+/// The number of at most `last` that the only word is.
 pub(crate) fn read_only_number(words: &[&str], last: u64) -> Result<u64, BadText>
     ensures found { IfOk result (AreNumberWords last (map (λ x. x.now) words.now)) }
     ensures none { OnErr result ((number : ℕ) → AreNumberWords last (map (λ x. x.now) words.now) number → ⊥) }

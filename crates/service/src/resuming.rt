@@ -13,7 +13,7 @@ use resolve::{ResolveFault, Resolver, WithoutHop};
 use route_model::Admission;
 use std::alloc::Global;
 
-/// How many admissions a feed of the collector drops: where it goes on, those that were offered until now.
+/// How many admissions a feed of the collector drops: if it goes on, those that were offered until now.
 pub(crate) fn dropped_where<A: RouteArchive>(archive: &A, collector: u8, resume: bool) -> u64
     ensures dropped { (h : History) → A.represents archive.now h → result ≡ dropped_where resume (intake_in h.intakes collector) }
 {
@@ -38,7 +38,7 @@ fn keep(dropping: &mut u64, admission: Admission) -> Option<Admission>
     None
 }
 
-/// What is taken of the next record of a feed, where this many admissions are still dropped: what it means, but for an
+/// What is taken of the next record of a feed, if this many admissions are still dropped: what it means, but for an
 /// admission that is dropped, which counts as none.
 pub(crate) fn read_next(
     alloc: Global,

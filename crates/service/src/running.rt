@@ -1,4 +1,4 @@
-//! What the program does of a command, once its archive is made or open.
+//! What the program does for a command, once its archive is created or open.
 
 ghost use Rattle.std.specs.Prelude.{◌≡◌, true, false, [], map, string_bytes};
 ghost use Rattle.route_meaning.specs.History.{History};
@@ -20,7 +20,7 @@ use resolve::WithoutHop;
 use std::alloc::Global;
 use std::io::{Read, Write};
 
-/// Writes out what is buffered: `Failed` where that fails, which `err` says where nothing failed before.
+/// Flushes what is buffered: `Failed` if that fails, which `err` shows if nothing failed before.
 fn write_out<W: Write, E: Write>(alloc: Global, out: &mut Output<W>, err: &mut Output<E>) -> Status
     ensures flushed { Reports out.old out.new [] }
     ensures done { out.new.failed ≡ false → result ≡ Status.Done }
@@ -39,7 +39,7 @@ fn write_out<W: Write, E: Write>(alloc: Global, out: &mut Output<W>, err: &mut O
     Status::Done
 }
 
-/// The exit status of the program whose command ended so: what is buffered is written out first, and where not all could
+/// The exit status of the program whose command ended so: what is buffered is written out first, and if not all could
 /// be written, it is 1.
 pub fn finish<W: Write, E: Write>(
     alloc: Global,
@@ -53,7 +53,7 @@ pub fn finish<W: Write, E: Write>(
     ended.code().max(written.code())
 }
 
-/// How entries without a next hop are taken, where a person may have asked that they are lost.
+/// What becomes of entries without a next hop, by whether the command line has them left out.
 fn rule_where(is_lost: bool) -> WithoutHop
     ensures rule { result ≡ rule_where is_lost }
 {
@@ -81,7 +81,7 @@ fn settings_of(asked: &Loading<'_>) -> LoadSettings
 }
 
 /// Loads the files as the command line asks, and writes out what is buffered. The exit status of the program is that of
-/// the load, and 1 where not all lines could be written. Each file has a report of what became of it.
+/// the load, and 1 if not all lines could be written. Each file has a report of what became of it.
 pub fn load_files<A: RouteArchive, R: Read, W: Write, E: Write>(
     alloc: Global,
     archive: &mut A,
@@ -98,7 +98,7 @@ pub fn load_files<A: RouteArchive, R: Read, W: Write, E: Write>(
 }
 
 /// Answers the line that the command line asks, and writes out what is buffered. The exit status of the program is that
-/// of the answer, and 1 where not all lines could be written.
+/// of the answer, and 1 if not all lines could be written.
 pub fn ask_line<A: RouteArchive, W: Write, E: Write>(
     alloc: Global,
     archive: &mut A,
@@ -113,7 +113,7 @@ pub fn ask_line<A: RouteArchive, W: Write, E: Write>(
     finish(alloc, answered, out, err)
 }
 
-/// Checks the archive, and writes out what is buffered. The exit status of the program is that of the check, and 1 where
+/// Checks the archive, and writes out what is buffered. The exit status of the program is that of the check, and 1 if
 /// not all could be written.
 pub fn check_archive<A: RouteArchive, W: Write, E: Write>(
     alloc: Global,
@@ -128,7 +128,7 @@ pub fn check_archive<A: RouteArchive, W: Write, E: Write>(
     finish(alloc, checked, out, err)
 }
 
-/// Writes what an archive is made with.
+/// Writes an archive's settings.
 fn write_created<W: Write>(out: &mut Output<W>, made: &Creation<'_>)
     ensures line { Reports out.old out.new (created_line made.now) }
 {
@@ -143,8 +143,8 @@ fn write_created<W: Write>(out: &mut Output<W>, made: &Creation<'_>)
     out.text("\n");
 }
 
-/// Prints that an archive is made, `created COLLECTORS RING PAGES BLOCKS`, and writes out what is buffered. The exit status
-/// of the program is 0, and 1 where not all could be written, which `err` says.
+/// Prints that an archive is created, `created COLLECTORS RING PAGES BLOCKS`, and flushes what is buffered. The exit status
+/// of the program is 0, and 1 if not all could be written, which `err` shows.
 pub fn report_created<W: Write, E: Write>(
     alloc: Global,
     made: &Creation<'_>,

@@ -1,23 +1,23 @@
-//! How feeds and files are taken in.
+//! The settings of feeds and loads.
 
 use resolve::WithoutHop;
 use route_model::Mark;
 
-/// How a feed is taken in.
+/// The settings of a feed.
 #[derive(Clone, Copy, Debug, PartialEq, Eq)]
 pub struct FeedSettings {
-    /// Whose feed it is.
+    /// The collector.
     pub collector: u8,
     /// The most admissions of a batch; 0 counts as 1.
     pub limit: usize,
-    /// How entries of RIB records are taken that have no next hop.
+    /// What becomes of entries of RIB records that have no next hop.
     pub rule: WithoutHop,
 }
 
 /// How files are loaded.
 #[derive(Clone, Copy, Debug, PartialEq, Eq)]
 pub struct LoadSettings {
-    /// How the feed of each file is taken in.
+    /// The settings of the feed of each file.
     pub feed: FeedSettings,
     /// The mark that is set once the feed of the last file has ended well.
     pub mark: Option<Mark>,

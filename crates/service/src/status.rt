@@ -16,14 +16,14 @@ use std::io::Write;
 pub enum Status {
     /// All is done.
     Done,
-    /// Something was refused. A line says so, unless that line couldn't be written.
+    /// Something was refused. A line shows it, unless that line couldn't be written.
     Refused,
     /// Not all lines could be written.
     Failed,
 }
 
 impl Status {
-    /// The exit status of the program: 0 where all is done, else 1.
+    /// The exit status of the program: 0 if all is done, else 1.
     pub fn code(self) -> u8
         ensures code { result ≡ code_of self }
     {
@@ -34,8 +34,8 @@ impl Status {
     }
 }
 
-/// The status of a command that has written its lines: `Failed` where not all of them could be written. Where that is
-/// so of `out`, `err` says it.
+/// The status of a command that has written its lines: `Failed` if not all of them could be written. If that is
+/// so of `out`, `err` shows it.
 pub fn reported<W: Write, E: Write>(
     alloc: Global,
     status: Status,

@@ -1,10 +1,10 @@
-//! Where a server takes connections.
+//! Where a server accepts connections.
 
 use server::Port;
 use std::net::TcpListener;
 use std::os::unix::net::UnixListener;
 
-/// Where a server takes connections, and how long it waits for a client.
+/// Where a server accepts connections, and how long it waits for a client.
 #[derive(Clone, Copy)]
 pub struct Doors<'a> {
     /// Connections of this one are served under `port`.
@@ -19,7 +19,7 @@ pub struct Doors<'a> {
     pub idle: u32,
 }
 
-/// Where further connections are taken, by an acceptor of their own.
+/// Where further connections are accepted, by an acceptor of their own.
 #[derive(Clone, Copy)]
 pub(crate) enum Door<'a> {
     /// Those of HTTP.

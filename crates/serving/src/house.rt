@@ -78,7 +78,7 @@ impl Signals {
     }
 }
 
-/// A worker's place. Where it is let go, the worker serves no more, or never began.
+/// A worker's place. If it is let go, the worker serves no more, or never began.
 pub(crate) struct Place<'a> {
     signals: &'a Signals,
 }

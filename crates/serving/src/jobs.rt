@@ -77,7 +77,7 @@ fn writer_of<'a>(
     BufWriter::new(alloc, socket)
 }
 
-/// Serves a connection to its end. `lapse` is then why its socket failed, where it did.
+/// Serves a connection to its end. `lapse` is then why its socket failed, if it did.
 fn serve_link<A: Store, N: Named + OnDisk<A::Disk>, G: Gate + Drop, R: Wait + Clock + Net, L: Log>(
     desk: &Desk<'_, R, L>,
     shared: &Shared<A, N, G>,
@@ -148,7 +148,7 @@ fn close_link<R: Net + Clock, L: Log>(
             let_go(link);
         }
         Closing::Failed => {
-            // Where no call failed, one took nothing of what was written.
+            // If no call failed, one took nothing of what was written.
             let lapse = lapse.unwrap_or(Lapse {
                 call: "write",
                 why: Error::from(ErrorKind::WriteZero),
@@ -160,7 +160,7 @@ fn close_link<R: Net + Clock, L: Log>(
     }
 }
 
-/// Serves connections, one after another, until no more come. Where there is no memory for that, the server stops.
+/// Serves connections, one after another, until no more come. If there is no memory for that, the server stops.
 fn work<A: Store, N: Named + OnDisk<A::Disk>, G: Gate + Drop, R: Wait + Clock + Net, L: Log>(
     desk: &Desk<'_, R, L>,
     shared: &Shared<A, N, G>,

@@ -47,7 +47,7 @@ impl Link {
         }
     }
 
-    /// Sends each answer at once, where the system would gather them.
+    /// Sends each answer at once, if the system would gather them.
     pub(crate) fn hurry(&self) {
         if let Link::Tcp(stream) = self {
             let _ = stream.set_nodelay(true);

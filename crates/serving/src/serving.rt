@@ -253,7 +253,7 @@ fn hand_back<A: Store, N: Named + OnDisk<A::Disk>, G: Gate + Drop>(
 /// Serves an archive on a socket, with `workers` workers, until a connection asks it to stop. The calling thread takes connections and
 /// hands them to the workers, each of which serves one to its end before it takes the next; one more thread applies changes, and one
 /// flushes pages. An admin socket and a port of HTTP have an acceptor and workers of their own each. Once all of these are made, `ready` is called: connections are
-/// taken if it returns true. Where a thread can't be made it isn't called, and no connection is served. A connection is ended that sends
+/// taken if it returns true. If a thread can't be made it isn't called, and no connection is served. A connection is ended that sends
 /// nothing for `doors.idle` seconds, or takes nothing of its answers. One whose socket fails ends with a warning, `29 Outside`, of which
 /// there is no more than one a second. To stop, no connection is taken any more, those that are open are served until they end or send
 /// nothing for a second, what may be applied is applied, and all pages are written home. The archive is handed back.

@@ -14,7 +14,7 @@ use std::sync::Wait;
 use std::time::{Clock, Duration};
 use std::{io, thread};
 
-/// How many milliseconds no connection is taken after one that couldn't be, as where the process is out of descriptors; and pass between
+/// How many milliseconds no connection is taken after one that couldn't be, as when the process is out of descriptors; and pass between
 /// two looks whether connections are taken.
 const REST: u64 = 10;
 
@@ -37,7 +37,7 @@ fn rest<R: Clock>(rt: &R, log: &impl Log, signals: &Signals, peer: Peer, why: io
     thread::sleep(rt, Duration::from_millis(REST));
 }
 
-/// Hands a connection to the workers. Where too many wait for one it is closed. Returns whether there are workers.
+/// Hands a connection to the workers. If too many wait for one it is closed. Returns whether there are workers.
 fn hand_over(rt: &impl Wait, queue: &Sender<Link>, link: Link) -> bool {
     match queue.try_send(rt, link) {
         Ok(()) => true,
@@ -45,7 +45,7 @@ fn hand_over(rt: &impl Wait, queue: &Sender<Link>, link: Link) -> bool {
     }
 }
 
-/// Waits until connections are taken. Returns false if they never are, as where a thread of the server can't be made.
+/// Waits until connections are taken. Returns false if they never are, as when a thread of the server can't be started.
 pub(crate) fn wait_for_opening<R: Wait + Clock>(rt: &R, signals: &Signals) -> bool {
     for _ in rt.forever() {
         if signals.is_stopping() {

@@ -85,7 +85,7 @@ impl Warnings {
         }
     }
 
-    /// How many were left out before one that may be written at this millisecond; none where it is to be left out, too.
+    /// How many were left out before one that may be written at this millisecond; none if it is to be left out, too.
     fn take_turn(&self, now: u64) -> Option<u64> {
         let due = self.due.load(Ordering::SeqCst);
         let next = now.saturating_add(PERIOD);

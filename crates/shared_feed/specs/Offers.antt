@@ -19,7 +19,7 @@ use Rattle.service.specs.declared.faults.FeedStop.{FeedStop}
 use Rattle.service.specs.declared.faults.FeedStop.TheVariants as stops
 
 -- A call made over what the pass had seen, or later, admitted the batch, as the reply says. Other threads may have called before it.
--- Where nothing is promised of the archive, no call of it is claimed to be right.
+-- If nothing is promised of the archive, no call of it is claimed to be right.
 pub record Admits (promised : Type 0) (c : ℕ) (batch : List Admitted) (reply : BatchReply) (v w : View) : Type 0 where
   pub at : View
   pub since : Since v at

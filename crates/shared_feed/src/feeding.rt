@@ -177,7 +177,7 @@ impl Feeding {
     }
 
     /// Gathers one more admission. What was gathered is offered first where it would be too large with it, and all of
-    /// it where it has as many admissions as a batch may have.
+    /// it if it has as many admissions as a batch may have.
     fn gather<A: Store, N: Named + OnDisk<A::Disk>, G: Gate + Drop, W: Write>(
         &mut self,
         rt: &impl Wait,

@@ -126,9 +126,9 @@ fn take_in<A: Store, N: Named + OnDisk<A::Disk>, G: Gate + Drop, R: Read, W: Wri
 }
 
 /// Takes a feed of a collector into a shared archive. Its admissions are offered in batches, as soon as one has `limit`
-/// admissions, before it would have more octets than the archive takes, and at the end. Where the collector's ring is too
+/// admissions, before it would have more octets than the archive takes, and at the end. If the collector's ring is too
 /// full for one, what may be applied is applied, and the batch offered once more. A refused record writes its line when it
-/// is met, each batch what became of it, and the end the counts of the feed; where the feed ends inside a record or at a
+/// is met, each batch what became of it, and the end the counts of the feed; if the feed ends inside a record or at a
 /// Length above the limit, a line before them. Another refusal writes its line and ends the feed, as does a collector that
 /// there isn't. Each line is written out at once. Each admission waits for the lock and lets it go; octets are waited for
 /// without it.

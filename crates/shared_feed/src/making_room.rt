@@ -41,7 +41,7 @@ fn stop_unless_full(refusal: AdmitError) -> Option<FeedStop>
     }
 }
 
-/// Admits a batch. Where the collector's ring is too full for it, what may be applied is applied, and then the batch is
+/// Admits a batch. If the collector's ring is too full for it, what may be applied is applied, and then the batch is
 /// offered once more. A second refusal ends the feed: nothing more could be applied, so waiting wouldn't help.
 pub(crate) fn admit_with_room<A: Store, N: Named + OnDisk<A::Disk>, G: Gate + Drop>(
     rt: &impl Wait,

@@ -6,7 +6,7 @@ ghost use Rattle.std.specs.Io.KnownBytes.{Consumes, IsAtEnd};
 use service::read_through;
 use std::io::Read;
 
-/// Reads some octets into the front of `piece`: how many, or 0 at the end. None where the read failed.
+/// Reads some octets into the front of `piece`: how many, or 0 at the end. None if the read failed.
 pub(crate) fn read_some<R: Read>(reader: &mut R, piece: &mut [u8]) -> Option<usize>
     ensures fits { IfSome result (λ count. count ≤ length piece.new) }
     ensures read { IfSome result (λ count. Consumes (R.remaining reader.old) (R.remaining reader.new) (take count piece.new)) }

@@ -19,7 +19,7 @@ use service::{
 use std::alloc::Global;
 use std::io::Write;
 
-/// What stands on standard error where an answer for a person has an end that isn't that of all.
+/// What is on standard error if an answer for a person doesn't have all rows or events.
 const MORE: &str = "rha: 256 lines shown, and more follow; --all prints all\n";
 
 /// How much of an answer is asked for, and for whom.

@@ -20,7 +20,7 @@ pub(crate) fn value_of(route: &Route, kind: u8) -> &[u8] {
     }
 }
 
-/// Writes a space, where something stands there already.
+/// Writes a space, if something is there already.
 fn write_space(out: &mut String, from: usize) -> Result<(), AllocError> {
     if from < out.len() {
         out.push(' ')?;

@@ -8,9 +8,9 @@
 //!
 //! An answer has 256 rows at most; here the next question is asked until none are left, and rows are written once they are found, so
 //! memory doesn't grow with the table. The next question begins after the place of the last row, or skips the events that were found
-//! (`pages`, `events`). All questions of a call are of one history: an archive that one process has changes by nothing that it is asked.
+//! (`pages`, `events`). All questions of a call are of one history: questions don't change the archive that the process has locked.
 //!
-//! Rows come in the order of peers, and of prefixes for each peer. So `peers` holds one count at a time, and `diff` goes through two tables
+//! Rows come in the order of peers, and of prefixes for each peer. So `peers` needs one count at a time, and `diff` goes through two tables
 //! side by side (`cursor`, `comparing`): the lesser place has a route at one moment alone, `-` for the first and `+` for the second; at the
 //! same place two routes differ, `~`, if their encodings do. A prefix that the rows of `diff` must lie in is applied here, to the rows of
 //! all prefixes.
@@ -19,8 +19,8 @@
 //! of lines, and a refusal is the last line, so a table that was cut can be seen. The forms bgpdump and json, which other programs read,
 //! have no such end: there the refusal is on standard error. Once a write has failed no more is asked.
 //!
-//! On a terminal the names of the columns stand on standard error (`headings`), so standard output is the same for programs and people.
-//! `reading` reads the arguments, `running` does the commands; `lines`, `human`, `bgpdump` and `json` are the forms of a row, and `known`
+//! On a terminal the names of the columns are on standard error (`headings`), so standard output is the same for programs and people.
+//! `reading` reads the arguments, `running` runs the commands; `lines`, `human`, `bgpdump` and `json` are the forms of a row, and `known`
 //! writes communities as texts (RFC 1997, RFC 4360, RFC 5668, RFC 8092).
 #![tactic(auto)]
 

@@ -97,7 +97,7 @@ pub fn read_comparison(asked: &Comparing<'_>) -> Result<Comparison, BadArgument>
     Ok(Comparison { from, to, within })
 }
 
-/// The moment that is asked for, or else the last that is settled; where none is, the first of all, which is refused then.
+/// The moment that is asked for, or else the last that is settled; if none is, the first of all, which is refused then.
 pub fn moment_of<A: RouteArchive>(archive: &A, at: Option<Moment>) -> Moment
     ensures moment { (h : History) → A.represents archive.now h → result ≡ moment_in h at }
 {

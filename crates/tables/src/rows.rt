@@ -62,7 +62,7 @@ fn write_rows<A: RouteArchive, W: Write>(
     Err(AskError::Trouble(Trouble::CounterFull))
 }
 
-/// Writes all rows of a question in a form, and, where the form has lines, `E|ROWS` after them. A refusal is the last line where the form
+/// Writes all rows of a question in a form, and, if the form has lines, `E|ROWS` after them. A refusal is the last line if the form
 /// has lines, and else a line of standard error.
 pub(crate) fn write_table<A: RouteArchive, W: Write, E: Write>(
     alloc: Global,

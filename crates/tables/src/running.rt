@@ -84,11 +84,11 @@ pub fn peers<A: RouteArchive, W: Write, E: Write>(
     finish(alloc, ended, out, err)
 }
 
-/// The exit status of a comparison where something was refused or not all was written, as that of diff(1).
+/// The exit status of a comparison if something was refused or not all was written, as that of diff(1).
 pub const TROUBLE: u8 = 2;
 
-/// Compares the tables of two moments. The exit status is that of diff(1): 0 where nothing differs, 1 where something does, and [`TROUBLE`]
-/// where something was refused or not all could be written. On a terminal the names of the columns stand before.
+/// Compares the tables of two moments. The exit status is that of diff(1): 0 if nothing differs, 1 if something does, and [`TROUBLE`]
+/// if something was refused or not all could be written. On a terminal the names of the columns stand before.
 pub fn diff<A: RouteArchive, W: Write, E: Write>(
     alloc: Global,
     archive: &mut A,

@@ -11,7 +11,7 @@ use Rattle.tsb_walk.specs.Shown.{StandsShown}
 use Rattle.version_model.specs.Pages.{Store}
 use Rattle.version_model.specs.Versions.{Version, IsRising}
 
--- The pages of a transaction show a tree whose root is at this place. It stands for these versions, whose stamps rise, by those pages and
+-- The pages of a transaction show a tree whose root is at this place. It represents these versions, whose stamps rise, by those pages and
 -- by blocks that are known to a reader, which reads well. It names no block from the first on that was never burnt.
 pub record ReadsTree {P : Type 0} (pages : Ghosts P) (held : P) {O Pen Seen : Type 0} (device : OnceGhosts O Pen Seen) (reader : ShelfReader O Pen Seen device) (seen : Seen) (root : PagePlace) (burnt : ℕ) (all : List Version) : Type 0 where
   pub start : Start

@@ -34,7 +34,7 @@ pub record ShowsTree {P : Type 0} (pages : Ghosts P) (held : P) (root : PagePlac
   pub rising : IsRising all
 
 -- A turn of a question of a moment, from one cursor to the next: the whole answer; or the walk has come further; or an errand of the next
--- cursor into a place that stands for these versions by these blocks, and the walk hasn't gone back.
+-- cursor into a place that represents these versions by these blocks, and the walk hasn't gone back.
 abbrev pub TurnsRows : (ℕ → Option BlockNode) → List Version → List (Placed Admitted) → RowsCursor → RowsCursor → RowsTurn → Type 0
 TurnsRows blocks all ps c d (rows.Done answer) = IsAnswer ps c.question answer.rows.items answer.more
 TurnsRows blocks all ps c d rows.Again = Rose (front_number c.front) (front_number d.front)

@@ -2,21 +2,21 @@
 //! settled blocks; or turn by turn, by the pages alone.
 //!
 //! A question of a moment looks for its next key (`tsb_walk::next`), one of a history for the versions of its two keys
-//! (`tsb_walk::part`). [`rows`] and [`events`] finish each look in the block to which it leads. A turn ([`rows_turn`],
-//! [`events_turn`]) reads pages alone and is given no reader: if a look leads into blocks the turn returns an errand, so a
+//! (`tsb_walk::part`). [`rows`] and [`events`] finish each lookup in the block to which it leads. A turn ([`rows_turn`],
+//! [`events_turn`]) reads pages alone and is given no reader: if a lookup leads into blocks the turn returns an errand, so a
 //! caller that holds a lock for a turn reads no block under it.
 //!
-//! A question of a peer's table or of all rows goes from key to key. After its look the current leaf in which the look
-//! began is scanned once (`tsb_runs`), and the cursor takes in all its keys:
+//! A question of a peer's table or of all rows goes from key to key. After its lookup the current leaf in which the lookup
+//! began is scanned once (`tsb_runs`), and the cursor takes all its keys:
 //!
 //!     current leaf, keys below f:    [a: value] [b: ended] [c: value] [d: value]
-//!     a look from a                  finds a
+//!     a lookup from a                finds a
 //!     the run from a                 a, c, d, and no other below f
-//!     the cursor                     takes a by the look; passes a of the run, takes c and d; goes on at f
+//!     the cursor                     takes a by the lookup; passes a of the run, takes c and d; goes on at f
 //!
 //! So a turn goes on from leaf to leaf. Other questions leap from key to key; for them the run is empty, as it is if `from`
-//! is looked for in the past. Of a run less may be taken in: if memory is refused in it, what was gathered stays, and the
-//! next look goes on from there.
+//! is looked for in the past. If memory runs out in a run, what was gathered stays, and the
+//! next lookup goes on from there.
 //!
 //! Once an answer is returned its cursor is at the start of its question again, so that what a cursor has gathered is right
 //! after each outcome. That a turn comes further is stated without the tree (`GoesOnRows`, `GoesOnEvents`), so questions

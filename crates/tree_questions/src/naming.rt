@@ -14,7 +14,7 @@ use std::alloc::Global;
 use tsb_walk::{Looked, NodeError, PagePlace, Parted, locate, next, part};
 use version_model::{Place, Stamp};
 
-// That a place in the past of a key's column lies in a block below `burnt`. The page of a column that names another is called bad.
+// That a place in the past of a key's column lies in a block below `burnt`. The page of a column that names another is reported as bad.
 fn check_named<P: Pages>(
     pages: &mut P,
     root: &PagePlace,
@@ -37,7 +37,7 @@ fn check_named<P: Pages>(
 }
 
 /// Looks for the next key as `tsb_walk::next` does. If that leads into the past, the block there is below `burnt`, the first that
-/// was never burnt. The page of a column that names another is called bad.
+/// was never burnt. The page of a column that names another is reported as bad.
 pub(crate) fn next_named<P: Pages>(
     pages: &mut P,
     alloc: Global,

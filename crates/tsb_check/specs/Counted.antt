@@ -1,4 +1,4 @@
--- How versions of the past are counted where every block is read.
+-- How versions of the past are counted when every block is read.
 use Rattle.std.specs.Prelude.{◌≡◌, ℕ, ◌+◌, ◌<◌, ◌⊎◌, List, [], ◌∷◌, Option, Some, min}
 use Rattle.std.specs.List.{AllByRecursion}
 use Rattle.version_model.specs.declared.bounds.Bounds.{Bounds}

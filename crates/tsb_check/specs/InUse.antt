@@ -15,8 +15,8 @@ pub record IsColumnUsed (in_use : InUse) (page : ℕ) (parts : List Part) (curre
   pub tried : AreLower in_use.blocks parts
   pub burnt : AreLower in_use.burnt parts
 
--- The page at fault for a column that uses what isn't in use: the column's own, where it names a block that was never burnt; or the page with
--- the record of what is in use, where the column, its current leaf or a block that it names isn't.
+-- The page at fault for a column that uses what isn't in use: the column's own, if it names a block that was never burnt; or the page with
+-- the record of what is in use, if the column, its current leaf or a block that it names isn't.
 pub data IsColumnUnused (in_use : InUse) (page : ℕ) (parts : List Part) (current : ℕ) : ℕ → Type 0 where
   never_burnt : (AreLower in_use.burnt parts → ⊥) → IsColumnUnused in_use page parts current page
   never_tried : (AreLower in_use.blocks parts → ⊥) → IsColumnUnused in_use page parts current in_use.recorded_on

@@ -1,4 +1,4 @@
--- How versions are counted where every page of a tree and every block of its past is read.
+-- How versions are counted when every page of a tree and every block of its past is read.
 use Rattle.std.specs.Prelude.{◌≡◌, ℕ, ◌+◌, ◌-◌, List, [], ◌∷◌, Option, Some}
 use Rattle.tsb_walk.specs.declared.page_place.PagePlace.{PagePlace}
 use Rattle.tsb_walk.specs.Shown.{Says, keys_at}

@@ -118,7 +118,7 @@ fn parts_reported(alloc: Global, block: &Block, place: &Place) -> Result<Reporte
     Ok(Reported::Parts(said.parts))
 }
 
-/// What a block holds for a place. Fails with NotANode exactly where it isn't what the place asks for: a leaf or a column, by the place's
+/// What a block holds for a place. Fails with NotANode exactly if it isn't what the place asks for: a leaf or a column, by the place's
 /// kind, of exactly its stamps and of its keys at least; and the parts of a column are in blocks of lower numbers.
 pub fn reported_by(alloc: Global, block: &Block, place: &Place) -> Result<Reported, ReadFault>
     ensures reported { IfOk result (IsReportedOf place.now block.now) }

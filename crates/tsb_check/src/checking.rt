@@ -67,7 +67,7 @@ fn take_place<P: Pages, O: OnceDisk + Drop>(
 /// How many versions a tree has at some places. Every page to which they lead is read, and every block of the past of each column, one
 /// after another, with a stack of the places that are left.
 ///
-/// The error names the first page or block that isn't what its place asks for; or, where a page or a block isn't in use, the page at fault
+/// The error names the first page or block that isn't what its place asks for; or, if a page or a block isn't in use, the page at fault
 /// for it. A number above the greatest `u64` is returned as that one.
 pub fn count_under<P: Pages, O: OnceDisk + Drop>(
     pages: &mut P,
@@ -104,7 +104,7 @@ pub fn count_under<P: Pages, O: OnceDisk + Drop>(
 /// Checks the tree with this root: every page and block that is reached from it says what the one above asks for, and the result is the
 /// number of the tree's versions, each counted once. The pages that are reached, and the blocks that their columns name, are in use.
 ///
-/// The error names the first page or block that doesn't. Where a column names a block that was never burnt, that is the column's page;
+/// The error names the first page or block that doesn't. If a column names a block that was never burnt, that is the column's page;
 /// where else a page or a block isn't in use, it is the page with the record of what is. A number above the greatest `u64` is returned as
 /// that one. Pages are only read.
 pub fn check<P: Pages, O: OnceDisk + Drop>(

@@ -9,7 +9,7 @@ use route_model::Key;
 use tsb_node::{key_fits, stamp_fits};
 use version_model::{Bounds, Entry, Stamp};
 
-// Whether a key is below the high key, where there is one.
+// Whether a key is below the high key, if there is one.
 fn is_below(key: Key, high: Option<Key>) -> bool
     ensures { IsTrue result ↔ (key < high_or high) }
 {
@@ -20,7 +20,7 @@ fn is_below(key: Key, high: Option<Key>) -> bool
     }
 }
 
-// Whether a stamp is before the end, where there is one.
+// Whether a stamp is before the end, if there is one.
 fn is_before(stamp: Stamp, end: Option<Stamp>) -> bool
     ensures { IsTrue result ↔ (stamp < end_or end) }
 {

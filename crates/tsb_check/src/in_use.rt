@@ -32,7 +32,7 @@ pub fn check_page(in_use: &InUse, page: u64) -> Result<(), NodeError>
     Err(NodeError::BadNode(in_use.recorded_on))
 }
 
-/// Returns an error where something that the column on a page uses isn't in use. The page itself is bad where it names a block that was
+/// Returns an error if something that the column on a page uses isn't in use. The page itself is bad if it names a block that was
 /// never burnt; else the page with the record.
 pub fn check_column(in_use: &InUse, page: u64, said: &ColumnSaid) -> Result<(), NodeError>
     ensures used { OnOk result (IsColumnUsed in_use.now page said.now.parts.items said.now.current.page) }

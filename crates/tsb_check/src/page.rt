@@ -15,7 +15,7 @@ use tsb_node::{ColumnSaid, LeafSaid, ReadFault, column_of_page, key_node_of_page
 use tsb_walk::{PagePlace, are_its_keys};
 use version_model::{Child, Stamp};
 
-/// The children of the key node in a page. Fails with NotANode exactly where there is none of exactly the place's level and keys.
+/// The children of the key node in a page. Fails with NotANode exactly if there is none of exactly the place's level and keys.
 pub fn children_in(alloc: Global, page: &Page, place: &PagePlace) -> Result<Vec<Child>, ReadFault>
     ensures says { IfOk result (λ children. PageSays page.now (KeyNode place.now.level (keys_at place.now) children.items)) }
     ensures none { (children : List ChildValue) → PageSays page.now (KeyNode place.now.level (keys_at place.now) children) → result ≡ Err ReadFault.NotANode → ⊥ }
@@ -35,7 +35,7 @@ pub fn children_in(alloc: Global, page: &Page, place: &PagePlace) -> Result<Vec<
     Ok(said.children)
 }
 
-/// The column in a page. Fails with NotANode exactly where there is none of exactly the place's keys.
+/// The column in a page. Fails with NotANode exactly if there is none of exactly the place's keys.
 pub fn column_in(alloc: Global, page: &Page, place: &PagePlace) -> Result<ColumnSaid, ReadFault>
     ensures says { IfOk result (λ said. PageSays page.now (ColumnNode (keys_at place.now) said.parts.items said.current.start said.current.page)) }
     ensures none { (parts : List PartValue) (start current : ℕ) → PageSays page.now (ColumnNode (keys_at place.now) parts start current) → result ≡ Err ReadFault.NotANode → ⊥ }
@@ -50,7 +50,7 @@ pub fn column_in(alloc: Global, page: &Page, place: &PagePlace) -> Result<Column
     Ok(said)
 }
 
-/// The leaf in a page. Fails with NotANode exactly where it isn't the current leaf of exactly the column's keys from the start on.
+/// The leaf in a page. Fails with NotANode exactly if it isn't the current leaf of exactly the column's keys from the start on.
 pub fn leaf_in(
     alloc: Global,
     page: &Page,

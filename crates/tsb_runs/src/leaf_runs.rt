@@ -82,7 +82,7 @@ fn run_here<P: Pages>(
 /// The keys from `from` on, itself included, that have a value as of the stamp, up to the end of the current leaf in which `from` is
 /// looked for; if that is in the past none, and only up to `from`.
 ///
-/// If the root stands, those are what its versions have, and no page is called bad. A failure of the disk, a journal that must be
+/// If the root is valid, those are what its versions have, and no page is reported as bad. A failure of the disk, a journal that must be
 /// opened again and a lack of memory refuse it too. Pages are only read, whatever is returned.
 pub fn next_run<P: Pages>(
     pages: &mut P,

@@ -48,7 +48,7 @@ fn column_spot<P: Pages>(
 
 /// The current leaf in which a key is looked for as of a stamp; None if that is in the past.
 ///
-/// If the root stands, the leaf shows what there is of its keys, and no page is called bad. Pages are only read.
+/// If the root is valid, the leaf has what there is of its keys, and no page is reported as bad. Pages are only read.
 pub fn leaf_at<P: Pages>(
     pages: &mut P,
     root: &PagePlace,

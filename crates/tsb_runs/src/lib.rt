@@ -14,7 +14,7 @@
 //! A run copies the values of the leaf, so it lasts while the pages change: at most those of one page, 16,384 octets. That isn't worth it
 //! for a question of one prefix, so tree_questions takes runs for the questions `peer` and `all` alone.
 //!
-//! If the root stands, the run is what its versions have, and no page is called bad; a page that is called bad isn't the node that it is to
+//! If the root is valid, the run is what its versions have, and no page is reported as bad; one that is reported isn't the node that it has to
 //! be. A failure of the disk, a journal that must be opened again and out of memory are returned as by tsb_walk. Pages are only read.
 #![tactic(auto)]
 

@@ -1,19 +1,19 @@
--- The ways of looks through settled blocks. A look reads of each block what it needs to go on, so a way is what the blocks lead to: if
--- they are what their places ask, it is the way to the leaf that has the key as of the stamp.
+-- The paths of lookups through settled blocks. A lookup reads of each block what it needs to go on, so a path is where the blocks lead: if
+-- they are what their places require, it is the path to the leaf that has the key as of the stamp.
 use Rattle.std.specs.Prelude.{◌≡◌, ℕ, ◌<◌, ◌≤◌, List, Option}
 use Rattle.version_model.specs.declared.part.Place.{Place}
 use Rattle.version_model.specs.Ranges.{IsPoint, range_of}
 use Rattle.tsb_walk.specs.Knowing.{IsKnown}
 use Rattle.tsb_walk.specs.Ways.{IsFit, LeadsTo}
 
--- If the place's block is what the place asks, the other place is the one to which it leads. Of other blocks it is known only that the
+-- If the place's block is what the place requires, the other place is the one to which it leads. Of other blocks it is known only that the
 -- next place is in a block of a lower number, and has the key and the stamp.
 pub record IsLedOn (known : ℕ → Option (List ℕ)) (count key stamp : ℕ) (place next : Place) : Type 0 where
   pub leads : (octets : List ℕ) → IsKnown known count place.part.block octets → IsFit place octets key stamp → LeadsTo place octets key stamp next
   pub lower : next.part.block < place.part.block
   pub point : IsPoint (range_of next.bounds) key stamp
 
--- the way of a key and a stamp from one place to another, as the blocks lead it
+-- the path of a key and a stamp from one place to another, as the blocks lead it
 pub data BlockWay (known : ℕ → Option (List ℕ)) (count key stamp : ℕ) : Place → Place → Type 0 where
   here : (place : Place) → BlockWay known count key stamp place place
   further : (first place next : Place) → BlockWay known count key stamp first place → IsLedOn known count key stamp place next → BlockWay known count key stamp first next
@@ -22,7 +22,7 @@ pub data BlockWay (known : ℕ → Option (List ℕ)) (count key stamp : ℕ) : 
 abbrev pub AreKnownTo : (ℕ → Option (List ℕ)) → ℕ → ℕ → Type 0
 AreKnownTo known count number = (n : ℕ) → n ≤ number → (octets : List ℕ) × IsKnown known count n octets
 
--- the way comes to this block, and the block isn't what its place asks for the key and the stamp
+-- the path comes to this block, and the block isn't what its place requires for the key and the stamp
 pub record IsBadBlock (known : ℕ → Option (List ℕ)) (count key stamp : ℕ) (first : Place) (block : ℕ) : Type 0 where
   pub last : Place
   pub way : BlockWay known count key stamp first last

@@ -8,7 +8,7 @@ use Rattle.version_model.specs.Versions.{Version}
 use Rattle.version_model.specs.Blocks.{BlockNode, PlaceStands}
 use Rattle.tsb_node.specs.Views.{BlockSays}
 
--- what is seen of the reader's disk follows the disk's model, and each block that the reader keeps is one that is known
+-- what is seen of the reader's disk follows the disk's model, and each block that the reader caches is known
 pub record ReadsWell {O Pen Seen : Type 0} (device : Ghosts O Pen Seen) (reader : ShelfReader O Pen Seen device) (seen : Seen) : Type 0 where
   pub honest : device.honest_seen (reader_disk reader) seen
   pub kept : KnowsKept device reader seen
@@ -18,11 +18,11 @@ pub record IsKnown (known : ℕ → Option (List ℕ)) (count n : ℕ) (octets :
   pub inside : n < count
   pub at : known n ≡ Some octets
 
--- each block that says something is known, and its octets say that
+-- each block that represents a node is known, and its octets represent that node
 pub record AreKnown (known : ℕ → Option (List ℕ)) (count : ℕ) (blocks : ℕ → Option BlockNode) : Type 0 where
   pub says : (n : ℕ) (node : BlockNode) → blocks n ≡ Some node → (octets : List ℕ) × IsKnown known count n octets × BlockSays octets node
 
--- the place stands for these versions by blocks that are known to a reader
+-- the place represents these versions by blocks that are known to a reader
 pub record StandsKnown {O Pen Seen : Type 0} (device : Ghosts O Pen Seen) (reader : ShelfReader O Pen Seen device) (seen : Seen) (all : List Version) (place : Place) : Type 0 where
   pub well : ReadsWell device reader seen
   pub blocks : ℕ → Option BlockNode

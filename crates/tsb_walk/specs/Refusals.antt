@@ -1,4 +1,4 @@
--- What looks leave of the pages that they read, and why they refuse.
+-- What lookups leave of the pages that they read, and why they are refused.
 use Rattle.std.specs.Prelude.{◌≡◌, ⊤, ℕ, Bool, true, false, List}
 use Rattle.once_store.specs.declared.error.BlockError.{BlockError}
 use Rattle.once_store.specs.declared.error.BlockError.TheVariants as blocks
@@ -17,7 +17,7 @@ pub record OnlyReads {P : Type 0} (pages : Ghosts P) (old new : P) (failed : Typ
   pub down : pages.down new ≡ pages.down old
   pub device : KeepsDevice (pages.honest old) (pages.honest new) (pages.faults old) (pages.faults new) failed
 
--- a refusal of blocks, as a look reports it
+-- a refusal of blocks, as a lookup reports it
 abbrev pub of_block : BlockError → NodeError
 of_block (blocks.Damaged block) = Damaged block
 of_block blocks.Fault = OnceFault
@@ -32,7 +32,7 @@ WalkRefusal down OnceFault = ⊥
 WalkRefusal down NeedsRecovery = down ≡ true
 WalkRefusal down OutOfMemory = down ≡ false
 
--- the reasons for which a look through pages fails: the same, and out of memory for its result
+-- the reasons for which a lookup through pages fails: the same, and out of memory for its result
 abbrev pub LookRefusal : Bool → NodeError → Type 0
 LookRefusal down (BadNode page) = ⊤
 LookRefusal down (Damaged block) = ⊥

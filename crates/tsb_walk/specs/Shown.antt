@@ -1,4 +1,4 @@
--- What pages say that are shown, and the places of pages in a tree.
+-- What the pages represent that are shown, and the places of pages in a tree.
 use Rattle.std.specs.Prelude.{◌≡◌, ℕ, ◌<◌, ◌≤◌, List, Option, Some, slice_get}
 use Rattle.tsb_walk.specs.declared.page_place.PagePlace.{PagePlace}
 use Rattle.version_model.specs.Versions.{Version}
@@ -6,26 +6,26 @@ use Rattle.version_model.specs.Ranges.{high_or}
 use Rattle.version_model.specs.Pages.{Keys, PageNode, Store, StandsIn}
 use Rattle.tsb_node.specs.Views.{PageSays}
 
--- the page is one of those that are shown, and its octets say this
+-- the page is one of those that are shown, and its octets represent this
 pub record Says (shown : List (List ℕ)) (page : ℕ) (node : PageNode) : Type 0 where
   pub octets : List ℕ
   pub at : slice_get shown page ≡ Some octets
   pub says : PageSays octets node
 
--- each page that says something is shown, and its octets say that
+-- each page that represents a node is shown, and its octets represent that node
 abbrev pub AreShown : List (List ℕ) → (ℕ → Option PageNode) → Type 0
 AreShown shown nodes = (page : ℕ) (node : PageNode) → nodes page ≡ Some node → Says shown page node
 
--- the keys that a page is to have
+-- the keys that a page has to have
 abbrev pub keys_at : PagePlace → Keys
 keys_at place = record { low = place.low; high = high_or place.high }
 
--- the key is one that the page is to have
+-- the key is one that the page has to have
 pub record HasKey (place : PagePlace) (key : ℕ) : Type 0 where
   pub low : place.low ≤ key
   pub high : key < high_or place.high
 
--- the page stands for versions, by what the pages say that are shown
+-- the page represents versions, by what the pages represent that are shown
 pub record StandsShown (shown : List (List ℕ)) (s : Store) (all : List Version) (place : PagePlace) : Type 0 where
   pub are_shown : AreShown shown s.nodes
   pub stands : StandsIn s all place.level (keys_at place) place.page

@@ -30,6 +30,6 @@ pub record LeadsTo (place : Place) (octets : List ℕ) (key stamp : ℕ) (next :
   pub lower : next.part.block < place.part.block
   pub point : IsPoint (range_of next.bounds) key stamp
 
--- the octets are what the place asks for the key and the stamp: such a leaf; or such a column that leads on to another place
+-- the octets are what the place requires for the key and the stamp: such a leaf; or such a column that leads on to another place
 abbrev pub IsFit : Place → List ℕ → ℕ → ℕ → Type 0
 IsFit place octets key stamp = ((versions : List Version) × IsLeafFor place octets versions) ⊎ ((next : Place) × LeadsTo place octets key stamp next)

@@ -1,4 +1,4 @@
-//! What one block is to a place: the leaf, or a column with the part where to go on.
+//! What one block is for a place: the leaf, or a column with the part where the lookup goes on.
 
 ghost use Rattle.std.specs.Prelude.{◌≡◌, ◌<◌, ◌≤◌, ◌↔◌, ℕ, length, IsTrue, IfSome, IfNone, IsSome, Some};
 ghost use Rattle.version_model.specs.Ranges.{IsPoint, range_of, high_or, end_or};
@@ -14,12 +14,12 @@ use route_model::Key;
 use tsb_node::{PartAt, column_head, key_fits, leaf_head, part_for, stamp_fits};
 use version_model::{Bounds, PartKind, Place, Stamp};
 
-/// What a block is to a place.
+/// What a block is for a place.
 #[derive(Clone, Copy, Debug)]
 pub enum Step {
     /// It is the leaf that has the place's versions.
     InLeaf,
-    /// It is a column; the look goes on in one of its parts.
+    /// It is a column; the lookup goes on in one of its parts.
     Further(Place),
 }
 
@@ -124,7 +124,7 @@ fn place_of(place: &Place, found: &PartAt) -> Place
     }
 }
 
-// Where a look goes on from a column.
+// Where a lookup goes on from a column.
 fn part_step(octets: &[u8], place: &Place, key: Key, stamp: Stamp) -> Option<Step>
     requires size { length octets.now ≡ 16384 }
     requires kind { place.now.part.kind ≡ ColumnBlock }
@@ -151,8 +151,8 @@ fn part_step(octets: &[u8], place: &Place, key: Key, stamp: Stamp) -> Option<Ste
     Some(Step::Further(place_of(place, &found)))
 }
 
-/// What a block with these octets is to a place, for a key and a stamp, by their header and the part that has the stamp. None only if they
-/// aren't what the place asks, and not always then: neither a leaf nor a column for it, or the part that is next isn't in a block of a
+/// What a block with these octets is for a place, a key and a stamp, by their header and the part that has the stamp. None only if they
+/// aren't what the place requires, and not always then: neither a leaf nor a column for it, or the part that is next isn't in a block of a
 /// lower number.
 pub fn step_in(octets: &[u8], place: &Place, key: Key, stamp: Stamp) -> Option<Step>
     requires size { length octets.now ≡ 16384 }

@@ -1,4 +1,4 @@
-//! Why a look fails.
+//! Why a lookup fails.
 ghost use Rattle.std.specs.Prelude.{◌≡◌};
 ghost use Rattle.tsb_walk.specs.declared.error.NodeError.TheVariants as nodes;
 
@@ -6,13 +6,13 @@ use once_store::BlockError;
 use std::alloc::AllocError;
 use thiserror::Error;
 
-/// Why a look into a tree fails.
+/// Why a lookup in a tree fails.
 #[derive(Clone, Copy, Debug, PartialEq, Eq, Error)]
 pub enum NodeError {
-    /// The page with this number isn't what the page above it says of it.
+    /// The page with this number isn't what the page above it requires.
     #[error("page {0} is damaged")]
     BadNode(u64),
-    /// The block with this number isn't what the place that is looked into asks of it.
+    /// The block with this number isn't what its place requires.
     #[error("block {0} of the write-once disk is damaged")]
     Damaged(u64),
     /// The disk of the pages failed.
@@ -24,7 +24,7 @@ pub enum NodeError {
     /// An earlier write or sync of pages failed, and the journal hasn't been opened again since.
     #[error("the journal must be opened again")]
     NeedsRecovery,
-    /// A growth was refused.
+    /// An allocation failed.
     #[error("out of memory")]
     OutOfMemory,
 }

@@ -1,4 +1,4 @@
-//! Looks into the past: from a place that stands in settled blocks.
+//! Lookups in the past: from a place in settled blocks.
 
 ghost use Rattle.std.specs.Prelude.{◌≡◌, ◌↔◌, ◌⊎◌, ℕ, List, IfOk, IsErrOf, Err, min, ◌+◌};
 ghost use Rattle.version_model.specs.Versions.{Version, Answers, IsRising};
@@ -21,7 +21,7 @@ use std::alloc::Global;
 use tsb_node::ReadFault;
 use version_model::{Place, Stamp};
 
-// Why a leaf in a block isn't looked into.
+// Why no lookup is made in a leaf in a block.
 fn fault_of(fault: ReadFault, block: u64) -> BlockError
     ensures damaged { (m : ℕ) → result ≡ BlockError.Damaged m → (m ≡ block) × (fault ≡ ReadFault.NotANode) }
     ensures never { result ≡ BlockError.Fault → ⊥ }
@@ -34,9 +34,9 @@ fn fault_of(fault: ReadFault, block: u64) -> BlockError
 
 /// The next key from `from` on, itself included, that has a value as of the stamp, among the keys of a place in the past.
 ///
-/// It takes no lock, and waits for nothing but the disk. If the place stands, no block is called damaged. A block that is called damaged
-/// lies on the way on which the blocks lead the key, and isn't what its place asks; not each such block is called damaged, since of a block
-/// only its digest, its header and what the key needs are read. A failure of the disk and a lack of memory refuse it too.
+/// It takes no lock, and waits for nothing but the disk. If the place is valid, no block is reported as damaged. A block that is reported
+/// is on the path of the key, and isn't what its place requires; not each such block is reported, since of a block
+/// only its digest, its header and what the key needs are read. A failure of the disk and out of memory are returned too.
 pub fn hist_next<O: OnceDisk + Drop>(
     reader: &mut ShelfReader<O>,
     seen: &mut O::Seen,

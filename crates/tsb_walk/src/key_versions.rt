@@ -1,4 +1,4 @@
-//! All versions of a key, by way of parts that follow one another.
+//! All versions of a key, from parts that follow one another.
 
 ghost use Rattle.std.specs.Prelude.{◌≡◌, ◌↔◌, ◌+◌, ◌≤◌, ℕ, List, None, IfOk, IfErr, Err, IsErrOf, min};
 ghost use Rattle.once_store.specs.Readers.{capacity_of, reader_disk};
@@ -74,7 +74,7 @@ fn next_part<P: Pages, O: OnceDisk + Drop>(
 /// current leaf.
 ///
 /// It is refused, and leaves the pages, as `next` does, and as `hist_next` is. Each part goes on from where the one before it ended, so
-/// the look ends.
+/// the lookup ends.
 pub fn versions<P: Pages, O: OnceDisk + Drop>(
     pages: &mut P,
     reader: &mut ShelfReader<O>,

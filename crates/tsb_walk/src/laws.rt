@@ -7,7 +7,7 @@ ghost use Rattle.tsb_walk.specs.declared.page_place.PagePlace.{PagePlace as Page
 ghost use Rattle.tsb_walk.specs.Shown.{StandsShown};
 ghost use Rattle.tsb_walk.specs.PageLooks.{IsBadLook};
 
-/// If the root stands, no page to which the way of a key comes is bad.
+/// If the root is valid, no page to which the path of a key comes is bad.
 pub fn no_page_is_bad_where_the_root_stands()
     ensures good { (shown : List (List ℕ)) (s : Store) (all : List Version) (root : PagePlaceValue) (key stamp page : ℕ) → StandsShown shown s all root
         → IsBadLook shown root key stamp page → ⊥ }

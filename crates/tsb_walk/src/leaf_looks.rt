@@ -1,4 +1,4 @@
-//! What looks find in the page of a current leaf.
+//! Lookups in the page of a current leaf.
 
 ghost use Rattle.std.specs.Prelude.{◌≡◌, ℕ, List, None, IfOk, Err, filter};
 ghost use Rattle.version_model.specs.Versions.{Version, Answers};
@@ -21,7 +21,7 @@ use std::alloc::Global;
 use tsb_node::{ReadFault, stamp_fits};
 use version_model::Stamp;
 
-/// How far a look for the next key comes in the current leaf of a column, which starts there. Refused as no node only if the
+/// How far a lookup of the next key comes in the current leaf of a column, which starts there. Refused as no node only if the
 /// page isn't that leaf, and not always then.
 pub fn reached_on(
     alloc: Global,

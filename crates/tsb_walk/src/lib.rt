@@ -1,4 +1,4 @@
-//! Looks into the tree of versions: for the version of a key as of a stamp, for the next key that has a value, and for the
+//! Lookups in the tree of versions: of the version of a key as of a stamp, of the next key that has a value, and of the
 //! versions of a key. They begin at current pages, and go on in settled blocks.
 //!
 //!     key node, level l     header, child that has the key         one level below, a page
@@ -6,22 +6,22 @@
 //!     block: a column       digest, header, part of the stamp      a place in a block of a lower number
 //!     leaf                  header, entries; of a block, digest    the result
 //!
-//! That is all that a look reads of a page; the child and the part are found by binary search. Reading pages whole took more
-//! than half of a load. So damage may go unnoticed where a look doesn't need the octet: a valid page gives its node's result, a
-//! page that is reported bad isn't a valid one, and of others only termination is proved. `tsb_check` reads everything.
+//! That is all that a lookup reads of a page; the child and the part are found by binary search. Reading pages whole took more
+//! than half of a load. So damage may go unnoticed if a lookup doesn't need the octet: a valid page gives its node's result, a
+//! page that is reported as bad isn't valid, and of others only termination is proved. `tsb_check` reads everything.
 //!
 //! Results are stated twice: assuming a valid tree below the root (`next`, `part`, `descended`, `blames`), and for arbitrary
-//! octets (`bad`, `led`, `point`). Without the second, a look that skips a level or loses its key could be proved, since it
-//! does so on damaged trees alone. Blocks too: at a valid place no block is reported damaged (`never`); and for arbitrary
-//! blocks one that is reported damaged isn't what its place asks (`damaged`).
+//! octets (`bad`, `led`, `point`). Without the second, a lookup that skips a level or loses its key could be proved, since it
+//! does so on damaged trees alone. Blocks too: at a valid place no block is reported as damaged (`never`); and for arbitrary
+//! blocks one that is reported as damaged isn't what its place requires (`damaged`).
 //!
 //! The page that is reported is the faulty page itself, never its parent. A page that doesn't exist is bad. The current leaf
 //! is read only if the stamp is in its range. Levels fall from page to page, and numbers fall from block to block, so each
-//! look ends, whatever the octets are.
+//! lookup ends, whatever the octets are.
 //!
-//! A look keeps nothing of the pool, so writers may go on at once; a place in the past stays true, since blocks don't
-//! change. A place is valid by any map of blocks that the reader knows (`StandsKnown`), so what a tree states of its
-//! settled blocks serves each reader that knows those, or more.
+//! A lookup keeps nothing of the pool, so writers may go on at once; a place in the past stays valid, since blocks don't
+//! change. A place is valid by any map of blocks that the reader knows (`StandsKnown`), so what is true of a tree's
+//! settled blocks is true for each reader that knows those, or more.
 #![tactic(auto)]
 
 mod block;

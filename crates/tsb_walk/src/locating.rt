@@ -1,4 +1,4 @@
-//! The way of a key through the pages of a tree, down to the column that has it.
+//! The path of a key through the pages of a tree, down to the column that has it.
 
 ghost use Rattle.std.specs.Prelude.{◌≡◌, ◌<◌, ◌≤◌, ℕ, suc, Bool, List, IfOk, OnOk, IfErr, Err};
 ghost use Rattle.page_tx.specs.Refusals.{FetchRefusal};
@@ -48,8 +48,8 @@ pub fn bring<P: Pages>(pages: &mut P, n: u64) -> Result<(), NodeError>
 }
 
 /// Goes down from a key node to its child that has the key: one level below, of exactly the keys that the key node gives it. Of the page
-/// only its header and that child are read: a page that is called bad isn't a key node of exactly the place's level and keys, but not
-/// each page that isn't one is called bad. Pages are only read.
+/// only its header and that child are read: a page that is reported as bad isn't a key node of exactly the place's level and keys, but not
+/// each page that isn't one is reported. Pages are only read.
 pub fn down<P: Pages>(pages: &mut P, place: &PagePlace, key: Key) -> Result<PagePlace, NodeError>
     requires has { HasKey place.now key }
     ensures has { IfOk result (λ next. HasKey next key) }
@@ -69,9 +69,9 @@ pub fn down<P: Pages>(pages: &mut P, place: &PagePlace, key: Key) -> Result<Page
     }
 }
 
-/// The place of the column that has a key, by the way on which the pages lead from the root of a tree.
+/// The place of the column that has a key, by the path on which the pages lead from the root of a tree.
 ///
-/// A page that is called bad isn't the key node that it is to be. Pages are only read.
+/// A page that is reported as bad isn't the key node that it has to be. Pages are only read.
 pub fn locate<P: Pages>(pages: &mut P, root: &PagePlace, key: Key) -> Result<PagePlace, NodeError>
     requires has { HasKey root.now key }
     requires level { 1 ≤ root.now.level }

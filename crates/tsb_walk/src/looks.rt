@@ -1,4 +1,4 @@
-//! What looks return, and what they find in the octets of a leaf.
+//! What lookups return, and what they find in the octets of a leaf.
 
 ghost use Rattle.std.specs.Prelude.{◌≡◌, ◌<◌, ◌↔◌, length, filter, IsTrue, IfOk, Err, ℕ, List};
 ghost use Rattle.version_model.specs.Versions.{Version, Answers, IsRising};
@@ -23,7 +23,7 @@ pub struct Found {
     pub value: Vec<u8>,
 }
 
-/// How far a look for the next key has come.
+/// How far a lookup of the next key has come.
 #[derive(Debug, Drop)]
 pub enum Reached {
     /// The next key that has a value, and what it has.
@@ -42,7 +42,7 @@ pub struct KeyVersions {
     pub reported: Option<Stamp>,
 }
 
-/// What a look for the next key returns if it begins at current pages: how far it has come, or the place in the past where
+/// What a lookup of the next key returns if it begins at current pages: how far it has come, or the place in the past where
 /// it goes on, for the same key and stamp.
 #[derive(Debug, Drop)]
 pub enum Looked {
@@ -50,7 +50,7 @@ pub enum Looked {
     InBlock(Place),
 }
 
-/// What a look for the versions of a key returns if it begins at current pages: the versions, or the place in the past where
+/// What a lookup of the versions of a key returns if it begins at current pages: the versions, or the place in the past where
 /// it goes on, for the same key and stamp.
 #[derive(Debug, Drop)]
 pub enum Parted {
@@ -58,7 +58,7 @@ pub enum Parted {
     InBlock(Place),
 }
 
-/// What a look for a key returns if it begins at current pages: what the key has, None if it has no value; or the place in
+/// What a lookup of a key returns if it begins at current pages: what the key has, None if it has no value; or the place in
 /// the past where it goes on, for the same key and stamp.
 #[derive(Debug, Drop)]
 pub enum Descended {
@@ -111,7 +111,7 @@ fn is_before(key: Key, from: Key) -> bool
     key < from
 }
 
-// How far a look has come that found no value below the high key.
+// How far a lookup has come that found no value below the high key.
 fn past(high: Option<Key>) -> Reached
     ensures border { ReachesTo (high_or high) result }
     ensures onward { (from : ℕ) → from < high_or high → GoesOnFrom from result }
@@ -123,7 +123,7 @@ fn past(high: Option<Key>) -> Reached
     }
 }
 
-/// How far a look for the next key from `from` on comes in the leaf that begins these octets, of keys below `high`. It never goes
+/// How far a lookup of the next key from `from` on comes in the leaf that begins these octets, of keys below `high`. It never goes
 /// back, whatever the octets are.
 pub fn reached_in(
     alloc: Global,

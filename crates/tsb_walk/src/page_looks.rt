@@ -1,4 +1,4 @@
-//! Looks that begin at current pages. Those into the past return the place in settled blocks where they go on.
+//! Lookups that begin at current pages. Those in the past return the place in settled blocks where they go on.
 
 ghost use Rattle.std.specs.Prelude.{◌≡◌, ◌<◌, ◌≤◌, ℕ, Bool, List, None, IfOk, IfErr, Err, filter};
 ghost use Rattle.page_tx.specs.Start.{Start};
@@ -29,7 +29,7 @@ use std::alloc::Global;
 use tsb_node::{Current, ReadFault, stamp_fits};
 use version_model::Stamp;
 
-/// The column to which the way of a key comes, and where it has the key at a stamp.
+/// The column to which the path of a key comes, and where it has the key at a stamp.
 #[derive(Clone, Copy, Debug)]
 pub struct ColumnAt {
     pub column: PagePlace,
@@ -81,7 +81,7 @@ fn column_at<P: Pages>(
     Ok(ColumnAt { column, spot })
 }
 
-// Why a current leaf isn't looked into.
+// Why no lookup is made in a current leaf.
 fn leaf_refusal(fault: ReadFault, page: u64) -> NodeError
     ensures bad { (n : ℕ) → result ≡ NodeError.BadNode n → (page ≡ n) × (fault ≡ ReadFault.NotANode) }
     ensures refused { (down : Bool) → LookRefusal down result }
@@ -93,7 +93,7 @@ fn leaf_refusal(fault: ReadFault, page: u64) -> NodeError
     }
 }
 
-// How far a look for the next key comes in the current leaf of a column.
+// How far a lookup of the next key comes in the current leaf of a column.
 fn next_here<P: Pages>(
     pages: &mut P,
     alloc: Global,
@@ -174,10 +174,10 @@ fn found_here<P: Pages>(
 /// The next key from `from` on, itself included, that has a value as of the stamp, among the keys of the column that has `from`;
 /// or the place in the past where it is looked for.
 ///
-/// If the root stands, that is what its versions have, and no page is called bad. A page that is called bad lies on the way on which
-/// the pages lead the key, and isn't what it is to be there: a key node, the column, or its current leaf if the stamp lies in it. Not
-/// each such page is called bad, since of a page only its header and what the key needs are read; `tsb_check` reads all. A failure of the
-/// disk, a journal that must be opened again and a lack of memory refuse it too. Pages are only read, whatever is returned.
+/// If the root is valid, that is what its versions have, and no page is reported as bad. A page that is reported is on the path on which
+/// the pages lead the key, and isn't what it has to be there: a key node, the column, or its current leaf if the stamp lies in it. Not
+/// each such page is reported, since of a page only its header and what the key needs are read; `tsb_check` reads all. A failure of the
+/// disk, a journal that must be opened again and out of memory are returned too. Pages are only read, whatever is returned.
 pub fn next<P: Pages>(
     pages: &mut P,
     alloc: Global,
@@ -210,7 +210,7 @@ pub fn next<P: Pages>(
 /// The versions of the key from the stamp on, ends included: all that there are, if the current leaf has them; or the place in
 /// the past where the first of them are looked for.
 ///
-/// It is refused, and leaves the pages, as `next` does.
+/// It is refused and leaves the pages as `next` does.
 pub fn part<P: Pages>(
     pages: &mut P,
     alloc: Global,
@@ -242,7 +242,7 @@ pub fn part<P: Pages>(
 
 /// What the key has as of the stamp, None if it has no value then or has ended; or the place in the past where it is looked for.
 ///
-/// It is refused, and leaves the pages, as `next` does.
+/// It is refused and leaves the pages as `next` does.
 pub fn descend<P: Pages>(
     pages: &mut P,
     alloc: Global,

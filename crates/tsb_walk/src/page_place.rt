@@ -1,4 +1,4 @@
-//! Pages of a tree, and what the pages above say of them, known before they are read.
+//! Pages of a tree, and what the pages above require of them, known before they are read.
 
 ghost use Rattle.std.specs.Prelude.{◌≡◌, ◌↔◌, IsTrue};
 ghost use Rattle.version_model.specs.Ranges.{high_or};
@@ -9,7 +9,7 @@ use route_model::Key;
 use tsb_node::key_fits;
 use version_model::Bounds;
 
-/// A page of a tree, and what the page above it says of it: at level 1 it is a column, above it a key node of exactly that level, in
+/// A page of a tree, and what the page above it requires: at level 1 it is a column, above it a key node of exactly that level, in
 /// either case of the keys from `low` on and below `high`, or of all keys from `low` on if there is none.
 #[derive(Clone, Copy, Debug)]
 pub struct PagePlace {
@@ -38,7 +38,7 @@ impl PagePlace {
         }
     }
 
-    /// Whether a key is one of the keys that the page is to have.
+    /// Whether a key is one of the keys that the page has to have.
     pub fn has(&self, key: Key) -> bool
         ensures { IsTrue result ↔ HasKey self.now key }
     {

@@ -1,5 +1,5 @@
-//! Where one page of a tree leads for a key and a stamp: to which page next, or where the column has them. Of each page that is read which
-//! a walk needs to go on: its header, and the entry that has the key or the stamp. If the page is the node that it is to be, the answer
+//! Where one page of a tree leads for a key and a stamp: to which page next, or where the column has them. Of each page only what
+//! a walk needs is read: its header, and the entry that has the key or the stamp. If the page is the node that it has to be, the answer
 //! is that node's; for other pages the only promise is that the walk goes down and keeps to the key and the stamp.
 
 ghost use Rattle.std.specs.Prelude.{◌≡◌, ◌↔◌, ◌<◌, ◌≤◌, ℕ, suc, List, Some, IsTrue, IfSome, IfNone};
@@ -140,7 +140,7 @@ pub fn spot_in(page: &Page, place: &PagePlace, key: Key, stamp: Stamp) -> Option
     column_spot(place, &spot, key, stamp)
 }
 
-/// Whether a page may be the current leaf of a column's keys from a start on: it is none if this returns false, and not always one if it
+/// Whether a page may be the current leaf of a column's keys from a start on: it isn't if this returns false, but not always if it
 /// returns true.
 pub fn is_current_leaf(page: &Page, column: &PagePlace, start: Stamp) -> bool
     ensures { (versions : List Version) → PageSays page.now (CurrentLeaf (keys_at column.now) start versions) → IsTrue result }

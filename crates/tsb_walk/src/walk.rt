@@ -51,7 +51,7 @@ fn take_step<O: OnceDisk + Drop>(
     }
 }
 
-/// The place whose block is the leaf that has the key as of the stamp. The reader keeps that block then.
+/// The place whose block is the leaf that has the key as of the stamp. That block is cached then.
 pub fn leaf_place<O: OnceDisk + Drop>(
     reader: &mut ShelfReader<O>,
     seen: &mut O::Seen,

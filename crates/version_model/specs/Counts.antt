@@ -1,4 +1,4 @@
--- How versions are counted where every node of a tree is read, so that each counts once.
+-- How versions are counted when every node of a tree is read, so that each counts once.
 use Rattle.std.specs.Prelude.{◌≡◌, ℕ, suc, ◌+◌, ◌<◌, ◌≤◌, ◌⊎◌, ◌&&◌, Bool, List, [], ◌∷◌, length, filter, Option, Some, slice_get, nat_le, nat_lt}
 use Rattle.version_model.specs.declared.part.Part.{Part}
 use Rattle.version_model.specs.declared.part.PartKind.TheVariants.{LeafBlock, ColumnBlock}

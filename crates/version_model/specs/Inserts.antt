@@ -18,7 +18,7 @@ level_of (CurrentLeaf keys start versions) = 0
 level_of (ColumnNode keys parts start current) = 1
 level_of (KeyNode level keys children) = level
 
--- what a page says is of this level at most, and of keys among these alone
+-- what a page represents is of this level at most, and of keys among these alone
 pub record LocatedUnder (level : ℕ) (keys : Keys) (node : PageNode) : Type 0 where
   pub no_higher : level_of node ≤ level
   pub low : keys.low ≤ (keys_of node).low

@@ -11,7 +11,7 @@ NoneWithin versions s from to = (key : ℕ) → from ≤ key → key < to → An
 abbrev pub IsLive : List Version → ℕ → ℕ → Type 0
 IsLive versions s key = (found : Found) × Answers versions key s (Some found)
 
--- the least key from `from` on, itself included, that has a value as of the stamp; none where no key has
+-- the least key from `from` on, itself included, that has a value as of the stamp; none if no key has
 abbrev pub IsLeastLive : List Version → ℕ → ℕ → Option ℕ → Type 0
 IsLeastLive versions s from None = (key : ℕ) → from ≤ key → Answers versions key s None
 IsLeastLive versions s from (Some least) = (from ≤ least) × IsLive versions s least × NoneWithin versions s from least
@@ -39,7 +39,7 @@ reached_to End = key_end
 abbrev pub is_of : ℕ → ℕ → ℕ → Version → Bool
 is_of key from to v = nat_eq v.key key && (nat_le from v.stamp && nat_lt v.stamp to)
 
--- exactly the versions of the key from a stamp on and before the greater one that is returned, in their order; where none is returned, all from that stamp on
+-- exactly the versions of the key from a stamp on and before the greater one that is returned, in their order; if none is returned, all from that stamp on
 pub record IsPart (all : List Version) (key from : ℕ) (versions : List Version) (reported : Option ℕ) : Type 0 where
   pub above : from < end_or reported
   pub are : versions ≡ filter (is_of key from (end_or reported)) all

@@ -1,4 +1,4 @@
--- What pages say, and how the nodes of a tree stand for versions.
+-- What pages represent, and how the nodes of a tree stand for versions.
 use Rattle.std.specs.Prelude.{◌≡◌, ℕ, suc, ◌<◌, ◌≤◌, ◌⊎◌, List, [], Option, Some, None, slice_get}
 use Rattle.version_model.specs.declared.part.Part.{Part}
 use Rattle.version_model.specs.declared.child.Child.{Child}
@@ -12,7 +12,7 @@ pub record Keys : Type 0 where
   pub low : ℕ
   pub high : ℕ
 
--- what a page says: the current leaf of a column; a column's parts, with start and page of its current leaf; or the children of a key node
+-- what a page represents: the current leaf of a column; a column's parts, with start and page of its current leaf; or the children of a key node
 pub data PageNode : Type 0 where
   CurrentLeaf : (keys : Keys) (start : ℕ) (versions : List Version) → PageNode
   ColumnNode : (keys : Keys) (parts : List Part) (start current : ℕ) → PageNode
@@ -76,7 +76,7 @@ pub data Stands (nodes : ℕ → Option PageNode) (limit : ℕ) (blocks : ℕ �
       → ((inner : Keys) (child : Child) → IsChildOf keys children inner child → Stands nodes limit blocks next all level inner child.page)
       → Stands nodes limit blocks next all (suc level) keys page
 
--- what the pages and the settled blocks say, and up to where each are in use
+-- what the pages and the settled blocks represent, and up to where each are in use
 pub record Store : Type 0 where
   pub nodes : ℕ → Option PageNode
   pub limit : ℕ

@@ -32,7 +32,7 @@ octets_below key vs = total (entry_octets_below key) vs
 pub record FewBelow (vs : List Version) (least key : ℕ) : Type 0 where
   pub few : (v : Version) → Has vs v → v.key < key → octets_below v.key vs < least
 
--- where a leaf is split by key: the least key of a version that has `least` octets below it; none where no version has
+-- where a leaf is split by key: the least key of a version that has `least` octets below it; none if no version has
 abbrev pub IsSplitPoint : List Version → ℕ → Option ℕ → Type 0
 IsSplitPoint vs least None = (key : ℕ) → FewBelow vs least key
 IsSplitPoint vs least (Some key) = (least ≤ octets_below key vs) × FewBelow vs least key × ((v : Version) × Has vs v × (v.key ≡ key))

@@ -32,7 +32,7 @@ found_at stamp value = record { stamp = stamp; value = value }
 abbrev pub found_version : ℕ → Found → Version
 found_version key found = record { key = key; stamp = found.stamp; value = Some found.value }
 
--- what a lookup of the key as of s returns: stamp and value of the version as of s, or none where that is an end or there is none
+-- what a lookup of the key as of s returns: stamp and value of the version as of s, or none if that is an end or there is none
 abbrev pub Answers : List Version → ℕ → ℕ → Option Found → Type 0
 Answers versions key s None = (v : Version) → AsOf versions key s v → v.value ≡ None
 Answers versions key s (Some found) = AsOf versions key s (found_version key found)

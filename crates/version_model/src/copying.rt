@@ -21,7 +21,7 @@ pub fn copies(alloc: Global, entries: &[Entry]) -> Result<Vec<Entry>, AllocError
     Ok(kept)
 }
 
-// Is the stamp before the end, where there is one?
+// Is the stamp before the end, if there is one?
 fn is_before_end(stamp: Stamp, end: Option<Stamp>) -> bool
     ensures { IsTrue result ↔ (stamp < end_or end) }
 {

@@ -114,7 +114,7 @@ pub fn nodes_stand_on()
         → StandsIn s all level keys page → StandsIn t new level keys page }
 {}
 
-/// A key node takes a version as its child of the version's key does: where the child stays one, and where it becomes two and
+/// A key node takes a version as its child of the version's key does: if the child stays one, and if it becomes two and
 /// the new one is written after it.
 pub fn key_nodes_take_as_their_children_do()
     ensures one { (s t : Store) (v : Version) (level page : ℕ) (keys : Keys) (children : List Child) (i : ℕ) (child : Child)
@@ -128,7 +128,7 @@ pub fn key_nodes_take_as_their_children_do()
         → Splits s u v (suc level) page None }
 {}
 
-/// Where a leaf that has one version of each key is split by key at the least key with `least` octets below it, both sides fit
+/// If a leaf that has one version of each key is split by key at the least key with `least` octets below it, both sides fit
 /// a room, and neither is empty; and a leaf that doesn't fit has such a key.
 pub fn key_splits_fit()
     ensures there { (vs : List Version) (room most least high : ℕ) → IsSingle vs → AreSmall vs most → 0 < least → least + most ≤ room + 1

@@ -42,7 +42,7 @@ impl Leaf {
         }
     }
 
-    /// The leaf of entries whose stamps rise and that take at most `room` octets; none where they don't.
+    /// The leaf of entries whose stamps rise and that take at most `room` octets; none if they don't.
     pub fn of(entries: Vec<Entry>, room: u64) -> Option<Leaf>
         ensures leaf { IfSome result (λ leaf. leaf ≡ versions_of entries.items) }
         ensures exactly { IsSome result ↔ (IsRising (versions_of entries.items) × (octets (versions_of entries.items) ≤ room)) }
@@ -53,7 +53,7 @@ impl Leaf {
         Some(Leaf { entries })
     }
 
-    /// The value that the key has as of the stamp, and the stamp of its version; none where it has none, or has ended.
+    /// The value that the key has as of the stamp, and the stamp of its version; none if it has none, or has ended.
     pub fn find(&self, key: Key, stamp: Stamp) -> Option<(Stamp, &Vec<u8>)>
         ensures answers { Answers self.now key stamp (option_map (λ found. found_at found.0 found.1.now.items) result) }
     {

@@ -1,5 +1,5 @@
-//! Versions of values by key and stamp, and what stands for them: leaves, the parts of a column, the nodes of a tree.
-//! None of it knows how a node is encoded in octets.
+//! Versions of values by key and stamp, and what represents them: leaves, the parts of a column, the nodes of a tree.
+//! How a node is encoded in octets isn't known here.
 //!
 //! A leaf that is split by time at stamp 8, of which the older node ends there and the newer one begins there:
 //!
@@ -9,12 +9,12 @@
 //!     c     8: x            8: x, no use         8: x
 //!
 //! Keys and stamps are numbers in every definition; a missing high key or end is the end of all keys or stamps. A
-//! time split copies values alone into the newer leaf, never an end: an ended key has nothing to answer there. The
+//! time split copies values alone into the newer leaf, never an end: an ended key needs no version there. The
 //! law of key splits holds for any number of octets below the split, so that it can be chosen by measurement.
 //!
 //! A leaf's stamps aren't bounded by its own start and end: before the start there are copies, and a version from a
-//! block's end on is allowed too. What a node has is cut to the node's range wherever it is looked at, and every look
-//! names a stamp below the end: such a version counts for nothing. So a page is sealed with any end above its start
+//! block's end on is allowed too. What a node has is cut to the node's range in every lookup, and every lookup
+//! names a stamp below the end: such a version is ignored. So a page is sealed with any end above its start
 //! as it is.
 #![tactic(auto)]
 

@@ -36,7 +36,7 @@ impl Buffer {
         self.len -= count;
     }
 
-    /// Reads some octets: how many, or 0 at the end, or where there is no room.
+    /// Reads some octets: how many, or 0 at the end, or if there is no room.
     pub(crate) fn read_from<R: Read>(&mut self, reader: &mut R) -> io::Result<usize> {
         let len = self.len;
         let count = read_through(reader, &mut self.octets[len..])?;

@@ -18,7 +18,7 @@ pub(crate) enum Fault {
     NoPath,
     /// A parameter is unknown, missing, given twice, or isn't a text of its kind.
     BadQuery,
-    /// A growth of memory was refused.
+    /// An allocation failed.
     OutOfMemory,
 }
 

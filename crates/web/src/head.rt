@@ -77,7 +77,7 @@ fn fields_of(octets: &[u8], spans: &[HeaderSpan], count: usize) -> Fields {
     fields
 }
 
-/// Whether the answer to the request at the front of the octets has a body: one to HEAD has none, also where its head is refused. Empty lines
+/// Whether the answer to the request at the front of the octets has a body: one to HEAD has none, also if its head is refused. Empty lines
 /// before a request are passed over.
 pub(crate) fn lacks_body(octets: &[u8]) -> bool {
     for (place, octet) in octets.iter().enumerate() {

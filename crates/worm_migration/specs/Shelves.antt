@@ -17,7 +17,7 @@ reported number (Err refusal) = Err refusal
 
 -- The disk, of `count` blocks, where the shelf's next number has gone from one to another. The returned number was that of the first blank
 -- block (blank). At most one block is spent, nothing else is burnt (spends), what was settled stays so (grows), and tried blocks stay
--- below the next number (below). It is full only where no blank block is left (full), where none is left the call is refused (none_left),
+-- below the next number (below). It is full only if no blank block is left (full), if none is left the call is refused (none_left),
 -- and then the disk is as it was (same). After a failure of the device the next number has passed over tried blocks alone, or is the one
 -- right after the first blank block (failed). In every outcome, whatever a crash leaves of the disk then, it leaves all that was settled
 -- before (earlier).

@@ -16,7 +16,7 @@ pub enum MigrationError {
     /// No blank block is left at the shelf's next number or above it.
     #[error("the write-once disk is full")]
     OnceFull,
-    /// A growth was refused, before any block was tried.
+    /// An allocation failed, before any block was tried.
     #[error("out of memory")]
     OutOfMemory,
 }

@@ -26,7 +26,7 @@ no_table = record { words = 0; slots = 0; views_name = 0; atom = 0; block = 0; o
 abbrev pub nothing : Known
 nothing = record { past = None; numbers = [] }
 
--- a past that nobody has, where none is known
+-- a past that nobody has, if none is known
 abbrev pub no_past : Past
 no_past = record { history = record { intakes = []; whole = 0; some = 0 }; blocks = [] }
 

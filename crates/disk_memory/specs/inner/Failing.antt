@@ -11,12 +11,12 @@ pub record KeepsScript (old new : MemErase) : Type 0 where
   pub plan : KeepsPlan old new
   pub next : IsAtCall new old.reads old.writes old.syncs
 
--- what comes to stand from the range's start on, where the write of `new` failed, if it did
+-- what comes to stand from the range's start on, if the write of `new` failed, if it did
 abbrev pub octets_kept : Option Torn → List ℕ → List ℕ
 octets_kept None new = new
 octets_kept (Some torn) new = torn_octets torn new
 
--- the burn of a block, where it failed, if it did
+-- the burn of a block, if it failed, if it did
 abbrev pub burning_kept : Option Torn → ℕ → List ℕ → Burning
 burning_kept None n block = record { number = n; block = block; whole = true }
 burning_kept (Some torn) n block = record { number = n; block = torn_block torn block; whole = false }

@@ -23,7 +23,7 @@ pub record AreFrom (low count begun : ℕ) (ns : List ℕ) : Type 0 where
 abbrev pub Covers : Ring → ℕ → ℕ → ℕ → Type 0
 Covers ring begun n octets = (k : ℕ) → k < octets → image_of ring.count begun (wrapped (size_of ring) (ring.first + (ring.used + k)) / 16384) < n
 
--- Where octets are in a ring with the old images laid over its pages, these follow them with the new ones.
+-- If octets are in a ring with the old images laid over its pages, these follow them with the new ones.
 abbrev pub Writes : Ring → List ℕ → List Image → List Image → Type 0
 Writes ring octets old new = (pages : List (List ℕ)) (stood : List ℕ) → ring.low + ring.count ≤ length pages → length stood ≡ ring.used
     → StandsIn (laid old pages) ring stood → StandsIn (laid new pages) ring (stood ++ octets)

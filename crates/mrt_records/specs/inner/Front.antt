@@ -1,10 +1,10 @@
--- What stands at the front of octets.
+-- What is at the front of octets.
 use Rattle.std.specs.Prelude.{◌≡◌, ℕ, ◌+◌, ◌<◌, ◌≤◌, List, length, ◌⊎◌, ◌++◌, take}
 use Rattle.mrt_records.specs.Records.{IsRecord, Over, BeginsWithRecord, body_length}
 use Rattle.mrt_records.specs.declared.front.Front.{Front}
 use Rattle.mrt_records.specs.declared.front.Front.TheVariants as fronts
 
--- fewer octets than a header, or than its Length says
+-- fewer octets than a header, or than its Length
 abbrev pub IsPart : List ℕ → Type 0
 IsPart bytes = (length bytes < 12) ⊎ ((12 ≤ length bytes) × (body_length bytes ≤ 131072) × (length bytes < 12 + body_length bytes))
 

@@ -1,4 +1,4 @@
--- That no number stands twice is one fact.
+-- That no number occurs twice is one fact.
 use Rattle.std.specs.Prelude.{ℕ, List, [], ◌∷◌, ◌≢◌}
 use Rattle.std.specs.List.{AllByRecursion-prop}
 use Rattle.std.proofs.Props.{props}

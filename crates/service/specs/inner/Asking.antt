@@ -11,7 +11,7 @@ use Rattle.service.specs.declared.faults.Unanswered.TheVariants as whys
 use Rattle.service.specs.declared.request.Request.{Request}
 use Rattle.service.specs.declared.request.Request.TheVariants.{Question, Watermark, Durable}
 
--- why a question isn't answered, as its line says it
+-- why a question isn't answered, as its line has it
 abbrev pub of_ask : AskError → Unanswered
 of_ask (asks.AboveWatermark settled) = whys.AboveWatermark settled
 of_ask (asks.Trouble trouble) = whys.Trouble trouble

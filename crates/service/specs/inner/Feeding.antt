@@ -47,7 +47,7 @@ pub record HasDone (c : ℕ) (h : History) (turns : List Turn) (counts : FeedCou
   pub refused : counts.refused ≡ capped (refusals turns)
   pub there : (offered turns ≡ [] → ⊥) → IsCollector h c
 
--- The next record means something, of which this is taken where this many admissions are dropped, and this many are still dropped after it.
+-- The next record means something, of which this is taken if this many admissions are dropped, and this many are still dropped after it.
 pub record TakesNext (rule : WithoutHop) (was now : Feed) (dropping left : ℕ) (r : Reported) (taken : Result (Option Admitted) ResolveFault) : Type 0 where
   pub meaning : Result (Option Admitted) ResolveFault
   pub gives : Gives rule was.collector was.table r meaning
@@ -57,7 +57,7 @@ pub record TakesNext (rule : WithoutHop) (was now : Feed) (dropping left : ℕ) 
   pub lost : now.left_out ≡ counted was.left_out (left_out r meaning)
   pub table : (meaning ≡ Err faults.OutOfMemory → ⊥) → (before : List Reported) → LastTable before was.table → LastTable (before ++ r ∷ []) now.table
 
--- of a feed under way all is the same but for what waits and what was done
+-- of a feed in progress all is the same but for the pending batch and what was done
 pub record IsSameFeed (old new : Feeding) : Type 0 where
   pub collector : new.collector ≡ old.collector
   pub limit : new.limit ≡ old.limit
@@ -67,7 +67,7 @@ pub record IsSameFeed (old new : Feeding) : Type 0 where
   pub records : new.counts.records ≡ old.counts.records
   pub skipped : new.counts.skipped ≡ old.counts.skipped
 
--- the octets of what waits are counted, and fit a batch, as each admission does
+-- the octets of the pending batch are counted, and fit a batch, as each admission does
 pub record IsCounted (feeding : Feeding) : Type 0 where
   pub octets : feeding.octets ≡ batch_octets feeding.gathered.items
   pub fit : feeding.octets ≤ feeding.limit.octets

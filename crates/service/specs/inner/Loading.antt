@@ -36,7 +36,7 @@ HasNotSettled c mark h archive stops.NoCollector = (IsCollector h c → ⊥) × 
 HasNotSettled c mark h archive stops.MarkBack = (lower : ℕ) × (mark ≡ Some lower) × IsMarkAbove h c lower × HasIntakes h.intakes archive
 HasNotSettled c mark h archive (stops.Trouble trouble) = (set : Option ℕ) × ((set ≡ mark) ⊎ (set ≡ None)) × HasIntakes (marked_if c set h).intakes archive
 
--- the status where a write to standard output failed, or one to standard error
+-- the status if a write to standard output failed, or one to standard error
 abbrev pub reported_as : Bool → Bool → Status → Status
 reported_as true err status = statuses.Failed
 reported_as false true status = statuses.Failed

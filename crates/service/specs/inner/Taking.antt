@@ -9,7 +9,7 @@ use Rattle.archive_calls.specs.declared.refusal.AdmitError.{AdmitError}
 use Rattle.archive_calls.specs.declared.refusal.AdmitError.TheVariants as admits
 use Rattle.service.specs.Represented.{Represented}
 
--- The batch was offered where some more of the history may have been applied; the ring is reported full only where nothing more could be.
+-- The batch was offered after some more of the history may have been applied; the ring is reported full only if nothing more could be.
 pub record IsTaken (archive : Represented) (c : ℕ) (batch : List Admitted) (result : Result BatchReply AdmitError) (h : History) : Type 0 where
   pub at : History
   pub intakes : at.intakes ≡ h.intakes

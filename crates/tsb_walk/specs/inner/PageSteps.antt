@@ -1,4 +1,4 @@
--- What one page says to a key and a stamp.
+-- Where one page leads for a key and a stamp.
 use Rattle.std.specs.Prelude.{◌≡◌, ℕ, ◌≤◌, List}
 use Rattle.tsb_walk.specs.declared.page_place.PagePlace.{PagePlace}
 use Rattle.tsb_walk.specs.declared.page_steps.ColumnSpot.{ColumnSpot}

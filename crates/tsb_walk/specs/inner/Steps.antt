@@ -1,4 +1,4 @@
--- What one block says to a place.
+-- Where one block leads from a place.
 use Rattle.std.specs.Prelude.{◌≡◌, ℕ, ◌<◌, List, Some, IsSome}
 use Rattle.version_model.specs.declared.bounds.Bounds.{Bounds}
 use Rattle.version_model.specs.declared.part.PartKind.TheVariants.{LeafBlock}
