@@ -1,7 +1,7 @@
-/* Refuses one allocation of a program: preloaded by tools/refuse-memory, which says more.
+/* Refuses one allocation of a program: preloaded by tools/refuse-memory, which has more on it.
 
-   Allocations are counted after one of FIRST octets and up to one of LAST octets. Only the one whose number stands in REFUSED is refused. At the
-   end their count is written to the descriptor whose number stands in COUNTED. */
+   Allocations are counted after one of FIRST octets and up to one of LAST octets. Only the one whose number is in REFUSED is refused. At the
+   end their count is written to the descriptor whose number is in COUNTED. */
 #include <stdio.h>
 #include <stdlib.h>
 
