@@ -15,7 +15,7 @@ use disk_models::{EraseDisk, Fault, OnceDisk};
 use intake::Encoded;
 use interleaving_core::Resume;
 use once_store::Shelf;
-use page_tx::Tx;
+use page_tx::{Pages, Tx};
 use route_model::Mark;
 use sequencer::Sequencer;
 use std::alloc::Global;
@@ -45,7 +45,7 @@ pub struct Archive<E: EraseDisk + Drop, O: OnceDisk + Drop> {
 }
 
 impl<E: EraseDisk + Drop, O: OnceDisk + Drop> Archive<E, O> {
-    ghost use Rattle.disk_archive.specs.Archives.{Holds, IsHonest, erase_of, is_down, once_of, once_state, pen_in, settings_of};
+    ghost use Rattle.disk_archive.specs.Archives.{Holds, IsHonest, erase_of, is_down, once_of, once_state, pen_in, settings_of, site_of};
     ghost use Rattle.disk_archive.specs.Checks.{applied_in};
 
     /// How many collectors there are, 1 to 16. Their numbers begin with 0.
@@ -93,6 +93,28 @@ impl<E: EraseDisk + Drop, O: OnceDisk + Drop> Archive<E, O> {
         ensures counted { IsHonest self.now → (h : History) → Holds self.now h → result ≡ sum_by (λ p. length p.item.changes) (applied h) }
     {
         self.head.applied
+    }
+
+    /// What it keeps of itself on its first home page: how much of the pages, of the blocks and of each ring is used, and what each
+    /// collector gave. An archive that must be opened again returns what it was before the call that failed.
+    pub fn head(&self) -> &Head
+        ensures applied { result.now.applied ≡ applied_in self.now }
+        ensures lanes { length result.now.lanes ≡ (settings_of self.now).collectors }
+    {
+        &self.head
+    }
+
+    /// How many home pages there are.
+    pub fn pages(&self) -> u64
+        ensures pages { result ≡ (site_of self.now).homes }
+    {
+        self.tx.home_pages()
+    }
+
+    /// How many blocks the write-once disk has, as the journal's note has it.
+    pub fn blocks(&self) -> u64 {
+        let [a, b, c, d, e, f, g, h, _, _, _] = self.tx.pool().note();
+        u64::from_be_bytes([a, b, c, d, e, f, g, h])
     }
 
     /// What a reader of blocks may know from now on: those that are settled.

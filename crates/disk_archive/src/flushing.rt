@@ -39,6 +39,7 @@ fn write_home<E: EraseDisk + Drop>(tx: &mut Tx<E>) -> Result<Flush, UseError>
     ensures flushed { IfOk result (λ step. step ≡ Flush.Flushed → IsHomed (unhomed_pages (journal_of (pool_of tx.old))) (unhomed_pages (journal_of (pool_of tx.new)))) }
     ensures clean { IfOk result (λ step. step ≡ Flush.Clean → IsIdle E.EraseDisk (journal_of (pool_of tx.new))) }
     ensures only { IfOk result (λ step. (step ≡ Flush.Clean) ↔ (unhomed_pages (journal_of (pool_of tx.old)) ≡ [])) }
+    ensures waits { OnErr result (unhomed_pages (journal_of (pool_of tx.new)) ≡ unhomed_pages (journal_of (pool_of tx.old))) }
     ensures refused { IfErr result (UseRefusal (needs_recovery (journal_of (pool_of tx.old)))) }
     ensures journal { SameJournal E.EraseDisk (journal_of (pool_of tx.old)) (journal_of (pool_of tx.new)) (IsErrOf result UseError.Fault) }
 {
@@ -73,6 +74,7 @@ impl<E: EraseDisk + Drop, O: OnceDisk + Drop> Archive<E, O> {
         ensures flushed { IfOk result (λ step. step ≡ Flush.Flushed → IsHomed (dirty_pages self.old) (dirty_pages self.new)) }
         ensures clean { IfOk result (λ step. step ≡ Flush.Clean → (dirty_pages self.new ≡ []) × (closed_in self.new ≡ 8)) }
         ensures only { IfOk result (λ step. (step ≡ Flush.Clean) ↔ (dirty_pages self.old ≡ [])) }
+        ensures waits { OnErr result (dirty_pages self.new ≡ dirty_pages self.old) }
     {
         begin(&mut self.tx)?;
         Ok(write_home(&mut self.tx)?)
@@ -81,8 +83,8 @@ impl<E: EraseDisk + Drop, O: OnceDisk + Drop> Archive<E, O> {
     /// A step of flushing: the page that has waited longest is written home, or, if none waits, the journal is made free. So calls
     /// until it is `Clean` write each page home that was committed.
     ///
-    /// The archive represents the same history, and so does what any crash leaves. After a write or a sync that failed it must be opened
-    /// again.
+    /// The archive represents the same history, and so does what any crash leaves. After a refusal the same pages wait; after a write or a
+    /// sync that failed the archive must be opened again.
     pub fn flush_step(&mut self) -> Result<Flush, FlushError>
         ensures holds { (h : History) → Holds self.old h → Holds self.new h }
         ensures crash { (h : History) → Represents self.old h → Crashes self.old self.new (LeftRepresents (site_of self.old) h) }
@@ -96,6 +98,7 @@ impl<E: EraseDisk + Drop, O: OnceDisk + Drop> Archive<E, O> {
         ensures flushed { IfOk result (λ step. step ≡ Flush.Flushed → IsHomed (dirty_pages self.old) (dirty_pages self.new)) }
         ensures clean { IfOk result (λ step. step ≡ Flush.Clean → (dirty_pages self.new ≡ []) × (closed_in self.new ≡ 8)) }
         ensures only { IfOk result (λ step. (step ≡ Flush.Clean) ↔ (dirty_pages self.old ≡ [])) }
+        ensures waits { OnErr result (dirty_pages self.new ≡ dirty_pages self.old) }
         ensures honest { IsHonest self.old ↔ IsHonest self.new }
         ensures settings { settings_of self.new ≡ settings_of self.old }
         ensures disk { once_of self.new ≡ once_of self.old }

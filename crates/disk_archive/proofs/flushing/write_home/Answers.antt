@@ -1,12 +1,13 @@
-use Rattle.std.proofs.Common.{refl, subst}
+use Rattle.std.proofs.Common.{refl, subst, ap, ℕ, List, length}
 use Rattle.disk_models.specs.Erase.{Leaves}
 use Rattle.disk_models.proofs.api.Moments.{leaves_then}
-use Rattle.page_journal.specs.Journal.{disk_of, home_pages}
-use Rattle.page_journal.specs.Recovers.{Recovers}
+use Rattle.page_journal.specs.Journal.{disk_of, home_pages, unhomed_pages}
+use Rattle.page_journal.specs.Recovers.{IsListed, Recovers}
 use Rattle.buffer_pool.specs.Pool.{journal_of}
 use Rattle.page_tx.specs.Start.{Start}
 use Rattle.page_tx.specs.Tx.{pool_of}
-use Rattle.disk_archive.proofs.Homecoming.{homed, none_left, some_left}
+use Rattle.disk_archive.proofs.Outcomes.{on_each_err}
+use Rattle.disk_archive.proofs.Homecoming.{homed, none_left, some_left, still_none}
 use Rattle.disk_archive.proofs.flushing.write_home.Goals as goal
 
 pub returns-then-written-clause-flushed : goal.returns-then-written-clause-flushed
@@ -55,3 +56,9 @@ returns-clause-shown g c start shown s usable =
 
 pub returns-clause-only : goal.returns-clause-only
 returns-clause-only g c = (λ e. none_left _ c.in_ok-written.written c.if-written.false c.in_ok-written.ensures.wrote, λ none. refl)
+
+pub returns-in_err-checkpoint-clause-waits : goal.returns-in_err-checkpoint-clause-waits
+returns-in_err-checkpoint-clause-waits g c =
+    let none = none_left _ c.in_ok-written.written c.if-written.false c.in_ok-written.ensures.wrote in
+    let same = c.flush_one.ensures.none (ap (λ (l : List ℕ). length l) none) in
+    on_each_err c.from_residual-in_err-checkpoint.result _ (still_none _ _ none (λ n listed. subst (λ p. IsListed n (unhomed_pages (journal_of p))) same (c.checkpoint.ensures.as_dirty n listed)))
