@@ -5,4 +5,5 @@ pub mod Looks
 pub mod Seeing
 pub mod Sharing
 pub mod Asking
+pub mod Usages
 pub mod inner

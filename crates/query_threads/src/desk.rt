@@ -11,10 +11,12 @@ ghost use Rattle.query_threads.specs.Looks.{IsErrandOn};
 ghost use Rattle.query_threads.specs.Turns.{HoldsOnward, TurnGives, IsReported};
 ghost use Rattle.query_threads.specs.Seeing.{Sees, ComesOf};
 ghost use Rattle.query_threads.specs.Troubles.{OnAdmitTrouble, OnMarkTrouble, OnAskTrouble};
+ghost use Rattle.query_threads.specs.Usages.{AreLanes};
 ghost use Rattle.query_threads.specs.inner.Unpromised.{ReachesAll};
 
 use crate::refusal::{AdmitError, AskError, Flush, MarkError, Step, Trouble, Turn};
 use crate::store::{OnDisk, Store};
+use crate::usage::Usage;
 use board::{Board, Named, Pass, Target, Word, Writer};
 use interleaving_core::BatchReply;
 use route_model::{Admission, Mark};
@@ -215,6 +217,15 @@ impl<A: Store, N: Named + OnDisk<A::Disk>> Desk<A, N> {
     /// Which call on a device failed, and why, in words for a person; none if the archive has none.
     pub fn failure(&self, alloc: Global) -> Option<String> {
         self.archive.failure(alloc)
+    }
+
+    /// How much of the archive is used. The pass then knows the history of which that is reported.
+    pub fn usage(&mut self, board: &Board<N>, pass: &mut Pass<N>, alloc: Global) -> Option<Usage>
+        ensures begins { BeginsView pass.old pass.new }
+        ensures lanes { IsSome N.disk → IfSome result (λ usage. AreLanes usage.lanes.items pass.new.past.history) }
+    {
+        self.greet(board, pass);
+        self.archive.usage(alloc)
     }
 
     /// A turn of a question. The pass then knows the history over which it was made.

@@ -30,8 +30,10 @@ pub mod laws;
 mod refusal;
 mod shared;
 mod store;
+mod usage;
 
 pub use gate::{Gate, NoGate};
 pub use refusal::{AdmitError, AskError, Flush, MarkError, Step, Trouble, Turn};
 pub use shared::{Reader, Shared};
 pub use store::{OnDisk, Store, Unpromised};
+pub use usage::{Lane, Room, Usage};

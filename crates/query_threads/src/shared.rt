@@ -12,11 +12,13 @@ ghost use Rattle.query_threads.specs.Looks.{IsErrandOn};
 ghost use Rattle.query_threads.specs.Turns.{HoldsOnward, TurnGives, IsReported, IsAbove};
 ghost use Rattle.query_threads.specs.Seeing.{Sees, ComesOf, IsMissed};
 ghost use Rattle.query_threads.specs.Troubles.{IsOutside, OnAdmitTrouble, OnMarkTrouble, OnAskTrouble};
+ghost use Rattle.query_threads.specs.Usages.{AreLanes};
 
 use crate::desk::{Desk, catch_up};
 use crate::gate::Gate;
 use crate::refusal::{AdmitError, AskError, Flush, MarkError, Step, Trouble, Turn};
 use crate::store::{OnDisk, Store};
+use crate::usage::Usage;
 use board::{Board, Named, Opened, Pass};
 use interleaving_core::{Answer, BatchReply, Query};
 use route_model::{Admission, Mark};
@@ -239,6 +241,15 @@ impl<A: Store, N: Named + OnDisk<A::Disk>, G: Gate + Drop> Shared<A, N, G> {
     /// Which call on a device of the archive failed, and why, in words for a person, once the lock is taken; none if it has none.
     pub fn failure(&self, rt: &impl Wait, alloc: Global) -> Option<String> {
         self.desk.lock(rt).failure(alloc)
+    }
+
+    /// How much of the archive is used, once the lock is got: none while it isn't open, or if there is no memory for it. The pass then
+    /// knows the history of which that is reported.
+    pub fn usage(&self, rt: &impl Wait, pass: &mut Pass<N>, alloc: Global) -> Option<Usage>
+        ensures begins { BeginsView pass.old pass.new }
+        ensures lanes { IsSome N.disk → IfSome result (λ usage. AreLanes usage.lanes.items pass.new.past.history) }
+    {
+        self.desk.lock(rt).usage(&self.board, pass, alloc)
     }
 
     // Reports to the gate once that a request has descended.

@@ -1,5 +1,5 @@
 //! What threads ask of an archive.
-ghost use Rattle.std.specs.Prelude.{◌≡◌, ◌<◌, ◌≤◌, ℕ, List, [], length, Option, Result, OnOk, IfOk, IfErr, Err, ⊤};
+ghost use Rattle.std.specs.Prelude.{◌≡◌, ◌<◌, ◌≤◌, ℕ, List, [], length, Option, Result, OnOk, IfOk, IfErr, IfSome, Err, ⊤};
 ghost use Rattle.route_model.specs.Admission.{Admitted};
 ghost use Rattle.route_meaning.specs.History.{History, IsHistory, Begins, applied, settled};
 ghost use Rattle.interleaving_core.specs.declared.query.Query.{Query};
@@ -13,8 +13,10 @@ ghost use Rattle.query_threads.specs.Steps.{IsCrowded, DoesAdmit, DoesMark, Does
 ghost use Rattle.query_threads.specs.Turns.{TurnGives, IsReported};
 ghost use Rattle.query_threads.specs.Looks.{AreSettled, AreTheSettled, IsErrandOn};
 ghost use Rattle.query_threads.specs.Troubles.{IsOutside, OnAdmitTrouble, OnMarkTrouble, OnAskTrouble};
+ghost use Rattle.query_threads.specs.Usages.{AreLanes};
 
 use crate::refusal::{AdmitError, AskError, Flush, MarkError, Step, Trouble, Turn};
+use crate::usage::Usage;
 use board::Named;
 use interleaving_core::{BatchReply, Query};
 use route_model::{Admission, Mark};
@@ -179,6 +181,13 @@ pub trait Store {
 
     /// Which call on a device failed first since the archive was opened, and why, in words for a person. By itself an archive has none.
     fn failure(&self, _alloc: Global) -> Option<String> {
+        None
+    }
+
+    /// How much of it is used, if it is open and memory is left for the report. By itself an archive reports nothing.
+    fn usage(&self, _alloc: Global) -> Option<Usage>
+        ensures lanes { (p : Past) → represents self.now p → IfSome result (λ usage. AreLanes usage.lanes.items p.history) }
+    {
         None
     }
 

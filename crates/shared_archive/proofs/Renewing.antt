@@ -5,7 +5,7 @@ use Rattle.disk_models.specs.declared.erase.EraseDisk.{Ghosts as EraseGhosts}
 use Rattle.disk_models.specs.declared.once.OnceDisk.{Ghosts as OnceGhosts}
 use Rattle.disk_models.specs.Erase.{DiskState, Lingers}
 use Rattle.disk_models.specs.Once.{OnceState, settled_in}
-use Rattle.disk_models.specs.Left.{LeftNow, present}
+use Rattle.disk_models.specs.Left.{present}
 use Rattle.disk_models.proofs.api.Pairs.{present_now}
 use Rattle.page_journal.proofs.api.Kept.{kept_recovers}
 use Rattle.buffer_pool.specs.Pool.{journal_of}
@@ -23,7 +23,7 @@ use Rattle.disk_archive.specs.Creations.{CountsOne}
 use Rattle.disk_archive.specs.declared.open_error.OpenError.{OpenError}
 use Rattle.disk_archive.specs.declared.open_error.OpenError.TheVariants as openings
 use Rattle.disk_archive.specs.Openings.{ReadsAs}
-use Rattle.disk_archive.specs.Sites.{IsNoted, LeftRepresents, Rests, Site}
+use Rattle.disk_archive.specs.Sites.{IsNoted, Rests, Site}
 use Rattle.disk_archive.specs.Trees.{TreeLocated}
 use Rattle.disk_archive.proofs.api.Trees.{tree_grows}
 use Rattle.shared_archive.specs.Represented.{RepresentsPast, ring_pages}

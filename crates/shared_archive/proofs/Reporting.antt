@@ -1,5 +1,5 @@
 -- Which trouble a call returns, by the refusal of the archive.
-use Rattle.std.proofs.Common.{◌≡◌, ◌∙◌, ◌⊎◌, ◌↔◌, ◌<◌, ◌+◌, ℕ, Bool, true, false, List, length, sum_by, Err, Result, inl, inr, refl, sym, arith, min, ⊎_elim}
+use Rattle.std.proofs.Common.{◌≡◌, ◌∙◌, ◌⊎◌, ◌↔◌, ◌<◌, ◌+◌, ℕ, Bool, true, false, List, length, sum_by, Err, Result, inl, inr, refl, sym, min, ⊎_elim}
 use Rattle.disk_models.specs.declared.erase.EraseDisk.{Ghosts as EraseGhosts}
 use Rattle.disk_models.specs.declared.once.OnceDisk.{Ghosts as OnceGhosts}
 use Rattle.route_meaning.specs.History.{History, applied}

@@ -16,7 +16,7 @@ use disk_files::{Failures, FileErase, FileOnce, FileSeen};
 use disk_models::{EraseDisk, Fault, OnceDisk};
 use interleaving_core::{BatchReply, Query};
 use once_store::ShelfReader;
-use query_threads::{AdmitError, AskError, Flush, MarkError, Step, Store, Trouble, Turn};
+use query_threads::{AdmitError, AskError, Flush, MarkError, Step, Store, Trouble, Turn, Usage};
 use route_model::{Admission, Mark};
 use std::alloc::{AllocError, Global};
 use std::sync::Arc;
@@ -195,6 +195,10 @@ impl Store for FileStore {
 
     fn failure(&self, alloc: Global) -> Option<String> {
         self.failures.text(alloc)
+    }
+
+    fn usage(&self, alloc: Global) -> Option<Usage> {
+        self.archive.usage(alloc)
     }
 
     fn start(alloc: Global, query: &Query) -> Cursor {

@@ -1,6 +1,6 @@
 //! Calls on a held archive. While it isn't open, each one that needs its disks is refused, and nothing changes.
 
-ghost use Rattle.std.specs.Prelude.{◌≡◌, ◌<◌, ◌≤◌, ℕ, [], length, Err, IfErr, IfOk, OnOk, ⊤};
+ghost use Rattle.std.specs.Prelude.{◌≡◌, ◌<◌, ◌≤◌, ℕ, [], length, Err, IfErr, IfOk, IfSome, OnOk, ⊤};
 ghost use Rattle.route_meaning.specs.History.{applied, settled};
 ghost use Rattle.interleaving_core.specs.Does.{last_moment};
 ghost use Rattle.interleaving_core.specs.Headline.{IsAnswered};
@@ -9,19 +9,22 @@ ghost use Rattle.query_threads.specs.Looks.{AreTheSettled};
 ghost use Rattle.query_threads.specs.Steps.{IsCrowded, DoesAdmit, DoesMark, DoesApply, DoesFlush};
 ghost use Rattle.query_threads.specs.Troubles.{IsOutside, OnAdmitTrouble, OnAskTrouble, OnMarkTrouble};
 ghost use Rattle.query_threads.specs.Turns.{TurnGives, IsReported};
+ghost use Rattle.query_threads.specs.Usages.{AreLanes};
 ghost use Rattle.once_store.specs.Readers.{kept_blocks, reader_disk};
 ghost use Rattle.disk_archive.specs.Cursors.{IsGathered, asks};
 ghost use Rattle.disk_archive.specs.Descents.{IsErrandFor};
 ghost use Rattle.shared_archive.specs.Represented.{LocatedInPast};
 
 use crate::held::Held;
+use crate::usage::usage_of;
 use crate::{calls, turns};
 use disk_archive::{Cursor, Errand};
 use disk_models::{EraseDisk, OnceDisk};
 use interleaving_core::BatchReply;
 use once_store::ShelfReader;
-use query_threads::{AdmitError, AskError, Flush, MarkError, Step, Trouble, Turn};
+use query_threads::{AdmitError, AskError, Flush, MarkError, Step, Trouble, Turn, Usage};
 use route_model::{Admission, Mark};
+use std::alloc::Global;
 
 impl<E: EraseDisk + Drop, O: OnceDisk + Drop> Held<E, O> {
     ghost use Rattle.shared_archive.specs.Held.{HeldFlushes, HeldReports, HoldsPast, disk_in, pages_in};
@@ -66,6 +69,16 @@ impl<E: EraseDisk + Drop, O: OnceDisk + Drop> Held<E, O> {
                 Some(count) => *count,
                 None => 0,
             },
+        }
+    }
+
+    /// How much of it is used, if it is open and memory is left for the report.
+    pub fn usage(&self, alloc: Global) -> Option<Usage>
+        ensures lanes { (p : Past) → HoldsPast self.now p → IfSome result (λ usage. AreLanes usage.lanes.items p.history) }
+    {
+        match self {
+            Held::Open(archive) => usage_of(alloc, archive),
+            Held::Shut(_) => None,
         }
     }
 

@@ -25,6 +25,7 @@ mod opening;
 mod refusals;
 mod reopening;
 mod turns;
+mod usage;
 
 pub use files::FileStore;
 pub use held::{Disks, Held, Shut};

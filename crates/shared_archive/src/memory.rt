@@ -16,7 +16,7 @@ use disk_memory::{MemErase, MemOnce, MemSeen};
 use disk_models::OnceDisk;
 use interleaving_core::{BatchReply, Query};
 use once_store::ShelfReader;
-use query_threads::{AdmitError, AskError, Flush, MarkError, Step, Store, Trouble, Turn};
+use query_threads::{AdmitError, AskError, Flush, MarkError, Step, Store, Trouble, Turn, Usage};
 use route_model::{Admission, Mark};
 use std::alloc::Global;
 
@@ -119,6 +119,10 @@ impl Store for MemStore {
 
     fn reopen(&mut self, alloc: Global) -> Result<(), Trouble> {
         self.archive.reopen(alloc)
+    }
+
+    fn usage(&self, alloc: Global) -> Option<Usage> {
+        self.archive.usage(alloc)
     }
 
     fn start(alloc: Global, query: &Query) -> Cursor {

@@ -1,4 +1,3 @@
-use Rattle.std.proofs.Common.{inl, sym, subst}
 use Rattle.shared_archive.proofs.Renewing.{rest_synced}
 use Rattle.shared_archive.proofs.opening.open.Goals as goal
 
