@@ -26,13 +26,14 @@ fn answer_with(form: Form, body: Option<String>) -> Answer {
 
 /// How far the archive has come.
 fn answer_info<A: Store, N: Named + OnDisk<A::Disk>, G: Gate + Drop>(
+    rt: &impl Wait,
     alloc: Global,
     shared: &Shared<A, N, G>,
     pass: &mut Pass<N>,
 ) -> Answer
     ensures same { pass.new ≡ pass.old }
 {
-    match standing_of(alloc, shared, pass) {
+    match standing_of(rt, alloc, shared, pass) {
         Ok(standing) => answer_with(Form::Json, standing.json(alloc)),
         Err(AllocError) => Answer::out_of_memory(),
     }
@@ -40,6 +41,7 @@ fn answer_info<A: Store, N: Named + OnDisk<A::Disk>, G: Gate + Drop>(
 
 /// The same in Prometheus' form, and how many questions were asked.
 fn answer_metrics<A: Store, N: Named + OnDisk<A::Disk>, G: Gate + Drop>(
+    rt: &impl Wait,
     alloc: Global,
     shared: &Shared<A, N, G>,
     pass: &mut Pass<N>,
@@ -48,7 +50,7 @@ fn answer_metrics<A: Store, N: Named + OnDisk<A::Disk>, G: Gate + Drop>(
     ensures same { pass.new ≡ pass.old }
 {
     let questions = numbers.load(Ordering::SeqCst);
-    match standing_of(alloc, shared, pass) {
+    match standing_of(rt, alloc, shared, pass) {
         Ok(standing) => answer_with(Form::Metrics, standing.metrics(alloc, questions).ok()),
         Err(AllocError) => Answer::out_of_memory(),
     }
@@ -93,8 +95,8 @@ fn answer_asked<A: Store, N: Named + OnDisk<A::Disk>, G: Gate + Drop>(
     ensures since { Since pass.old pass.new }
 {
     match asked_by(alloc, target) {
-        Ok(Asked::Info) => answer_info(alloc, shared, pass),
-        Ok(Asked::Metrics) => answer_metrics(alloc, shared, pass, numbers),
+        Ok(Asked::Info) => answer_info(rt, alloc, shared, pass),
+        Ok(Asked::Metrics) => answer_metrics(rt, alloc, shared, pass, numbers),
         Ok(Asked::Question(question)) => {
             answer_question(rt, alloc, shared, pass, reader, numbers, &question)
         }

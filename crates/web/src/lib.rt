@@ -25,6 +25,7 @@ mod dates;
 mod events;
 mod fault;
 mod head;
+mod metrics;
 mod page;
 mod parameters;
 mod refusals;

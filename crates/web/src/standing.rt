@@ -1,31 +1,116 @@
-//! How far an archive has come: the numbers of its board, which wait for nobody.
+//! How far an archive has come, and how much of it is used.
+//!
+//! The settled watermark and the counts of records are the board's, which wait for nobody. The rest is asked of the archive under its
+//! lock, and is missing while the archive isn't open.
 
 ghost use Rattle.std.specs.Prelude.{◌≡◌};
 
 use crate::dates::date_of;
 use board::{Named, Pass};
-use query_threads::{Gate, OnDisk, Shared, Store};
+use interleaving_core::Resume;
+use query_threads::{Gate, Lane as UsedLane, OnDisk, Room as UsedRoom, Shared, Store, Usage};
 use serde::Serialize;
 use std::alloc::{AllocError, Global};
+use std::sync::Wait;
 
-/// How many records of a collector are admitted.
+/// How much of something is used, and how much there is.
 #[derive(Clone, Copy, Debug, Serialize)]
-struct Lane {
-    collector: u8,
-    admitted: u64,
+pub(crate) struct Room {
+    pub(crate) used: u64,
+    pub(crate) of: u64,
 }
 
-/// How far an archive has come.
+/// What is known of a collector. Its ring is in octets.
+#[derive(Clone, Copy, Debug, Serialize)]
+pub(crate) struct Lane {
+    pub(crate) collector: u8,
+    pub(crate) mark: Option<u64>,
+    pub(crate) offered: Option<u64>,
+    pub(crate) admitted: u64,
+    pub(crate) ring: Option<Room>,
+}
+
+/// How far an archive has come: how many changes are applied, the time of the last of them, and how much is used.
 #[derive(Debug, Drop, Serialize)]
 pub(crate) struct Standing {
     /// The settled watermark, and its date.
-    settled: u64,
-    date: String,
-    collectors: Vec<Lane>,
+    pub(crate) settled: u64,
+    pub(crate) date: String,
+    pub(crate) changes: Option<u64>,
+    pub(crate) last: Option<u64>,
+    pub(crate) pages: Option<Room>,
+    pub(crate) blocks: Option<Room>,
+    pub(crate) collectors: Vec<Lane>,
 }
 
-/// How far the archive has come. The numbers are loaded by another pass of the same view, so this one stays.
+fn room_of(room: UsedRoom) -> Room {
+    Room {
+        used: room.used,
+        of: room.of,
+    }
+}
+
+/// What is known of a collector, of which this many records are admitted.
+fn lane_of(collector: u8, admitted: u64, known: Option<UsedLane>) -> Lane {
+    let Some(UsedLane { resume, ring }) = known else {
+        return Lane {
+            collector,
+            mark: None,
+            offered: None,
+            admitted,
+            ring: None,
+        };
+    };
+    let Resume { offered, mark, .. } = resume;
+    Lane {
+        collector,
+        mark: Some(mark.seconds()),
+        offered: Some(offered),
+        admitted,
+        ring: Some(room_of(ring)),
+    }
+}
+
+/// What the archive reported of a collector.
+fn known_of(usage: &Option<Usage>, collector: u8) -> Option<UsedLane> {
+    let Some(usage) = usage else {
+        return None;
+    };
+    usage.lanes.get(usize::from(collector)).copied()
+}
+
+/// The same with what the archive reported of itself.
+fn standing_with(
+    settled: u64,
+    date: String,
+    usage: Option<Usage>,
+    collectors: Vec<Lane>,
+) -> Standing {
+    match usage {
+        Some(usage) => Standing {
+            settled,
+            date,
+            changes: Some(usage.changes),
+            last: Some(usage.last.seconds()),
+            pages: Some(room_of(usage.pages)),
+            blocks: Some(room_of(usage.blocks)),
+            collectors,
+        },
+        None => Standing {
+            settled,
+            date,
+            changes: None,
+            last: None,
+            pages: None,
+            blocks: None,
+            collectors,
+        },
+    }
+}
+
+/// How far the archive has come. All is asked with another pass of the same view, so this one stays.
 pub(crate) fn standing_of<A: Store, N: Named + OnDisk<A::Disk>, G: Gate + Drop>(
+    rt: &impl Wait,
     alloc: Global,
     shared: &Shared<A, N, G>,
     pass: &mut Pass<N>,
@@ -33,72 +118,22 @@ pub(crate) fn standing_of<A: Store, N: Named + OnDisk<A::Disk>, G: Gate + Drop>(
     ensures same { pass.new ≡ pass.old }
 {
     let mut own = shared.split(pass);
+    let usage = shared.usage(rt, &mut own, alloc);
     let settled = shared.watermark(&mut own);
     let date = date_of(alloc, settled)?;
     let mut collectors = Vec::new(alloc);
     let count = shared.collectors();
     for collector in 0..count {
         let admitted = shared.durable(&mut own, collector);
-        collectors.push(Lane {
-            collector,
-            admitted,
-        })?;
+        let known = known_of(&usage, collector);
+        collectors.push(lane_of(collector, admitted, known))?;
     }
-    Ok(Standing {
-        settled,
-        date,
-        collectors,
-    })
-}
-
-/// Writes the lines of a metric that stand before its values.
-fn write_heading(out: &mut String, name: &str, kind: &str, help: &str) -> Result<(), AllocError> {
-    writeln!(out, "# HELP {name} {help}")?;
-    writeln!(out, "# TYPE {name} {kind}")
-}
-
-/// Writes how many records of a collector are admitted.
-fn write_lane(out: &mut String, lane: &Lane) -> Result<(), AllocError> {
-    let (collector, admitted) = (lane.collector, lane.admitted);
-    out.push_str("rha_admitted_records_total{collector=\"")?;
-    write!(out, "{collector}")?;
-    out.push_str("\"} ")?;
-    writeln!(out, "{admitted}")
+    Ok(standing_with(settled, date, usage, collectors))
 }
 
 impl Standing {
     /// It as an object of JSON. Memory alone refuses it.
     pub(crate) fn json(&self, alloc: Global) -> Option<String> {
         serde_json::to_string(alloc, self).ok()
-    }
-
-    /// It and how many questions were asked, in Prometheus' text form.
-    pub(crate) fn metrics(&self, alloc: Global, questions: u64) -> Result<String, AllocError> {
-        let mut text = String::new(alloc);
-        let settled = self.settled;
-        write_heading(
-            &mut text,
-            "rha_settled_seconds",
-            "gauge",
-            "The settled watermark, in seconds since 1970.",
-        )?;
-        writeln!(text, "rha_settled_seconds {settled}")?;
-        write_heading(
-            &mut text,
-            "rha_admitted_records_total",
-            "counter",
-            "Records of a collector that are admitted.",
-        )?;
-        for lane in &self.collectors {
-            write_lane(&mut text, lane)?;
-        }
-        write_heading(
-            &mut text,
-            "rha_questions_total",
-            "counter",
-            "Questions that were asked since the server began.",
-        )?;
-        writeln!(text, "rha_questions_total {questions}")?;
-        Ok(text)
     }
 }

@@ -16,7 +16,7 @@ pub(crate) const CONVERSATIONS: [Conversation; 33] = [
         answers: 1,
         each: "HTTP/1.1 ",
         parts: [
-            "HTTP/1.1 200 OK\r\nContent-Type: application/json\r\nContent-Length: 96\r\nCache-Control: no-store\r\nX-Content-Type-Options: nosniff\r\n\r\n{\"settled\":1704067202,\"date\":\"2024-01-01T00:00:02Z\",\"collectors\":[{\"collector\":0,\"admitted\":4}]}",
+            "HTTP/1.1 200 OK\r\nContent-Type: application/json\r\nContent-Length: 244\r\nCache-Control: no-store\r\nX-Content-Type-Options: nosniff\r\n\r\n{\"settled\":1704067202,\"date\":\"2024-01-01T00:00:02Z\",\"changes\":260,\"last\":1704067201,\"pages\":{\"used\":22,\"of\":81},\"blocks\":{\"used\":0,\"of\":64},\"collectors\":[{\"collector\":0,\"mark\":1704067202,\"offered\":4,\"admitted\":4,\"ring\":{\"used\":0,\"of\":262144}}]}",
             "",
             "",
         ],
@@ -26,7 +26,7 @@ pub(crate) const CONVERSATIONS: [Conversation; 33] = [
         answers: 1,
         each: "HTTP/1.1 ",
         parts: [
-            "HTTP/1.1 200 OK\r\nContent-Type: application/json\r\nContent-Length: 96\r\nCache-Control: no-store\r\nX-Content-Type-Options: nosniff\r\nConnection: close\r\n\r\n",
+            "HTTP/1.1 200 OK\r\nContent-Type: application/json\r\nContent-Length: 244\r\nCache-Control: no-store\r\nX-Content-Type-Options: nosniff\r\nConnection: close\r\n\r\n",
             "",
             "",
         ],
@@ -36,7 +36,7 @@ pub(crate) const CONVERSATIONS: [Conversation; 33] = [
         answers: 2,
         each: "HTTP/1.1 ",
         parts: [
-            "HTTP/1.1 200 OK\r\nContent-Type: application/json\r\nContent-Length: 96\r\nCache-Control: no-store\r\nX-Content-Type-Options: nosniff\r\n\r\nHTTP/1.1 200 OK\r\nContent-Type: application/json\r\nContent-Length: 96\r\nCache-Control: no-store\r\nX-Content-Type-Options: nosniff\r\n\r\n{\"settled\":1704067202,\"date\":\"2024-01-01T00:00:02Z\",\"collectors\":[{\"collector\":0,\"admitted\":4}]}",
+            "HTTP/1.1 200 OK\r\nContent-Type: application/json\r\nContent-Length: 244\r\nCache-Control: no-store\r\nX-Content-Type-Options: nosniff\r\n\r\nHTTP/1.1 200 OK\r\nContent-Type: application/json\r\nContent-Length: 244\r\nCache-Control: no-store\r\nX-Content-Type-Options: nosniff\r\n\r\n{\"settled\":1704067202,\"date\":\"2024-01-01T00:00:02Z\",\"changes\":260,\"last\":1704067201,\"pages\":{\"used\":22,\"of\":81},\"blocks\":{\"used\":0,\"of\":64},\"collectors\":[{\"collector\":0,\"mark\":1704067202,\"offered\":4,\"admitted\":4,\"ring\":{\"used\":0,\"of\":262144}}]}",
             "",
             "",
         ],
@@ -47,7 +47,7 @@ pub(crate) const CONVERSATIONS: [Conversation; 33] = [
         each: "HTTP/1.1 ",
         parts: [
             "HTTP/1.1 200 OK\r\nContent-Type: application/json\r\nContent-Length: 353\r\nCache-Control: no-store\r\nX-Content-Type-Options: nosniff\r\n\r\n{\"rows\":[{\"time\":1704067200,\"date\":\"2024-01-01T00:00:00Z\",\"collector\":0,\"peer\":\"192.0.2.1\",\"as_number\":65001,\"prefix\":\"10.0.0.0/8\",\"path\":\"65001 65002\",\"origin\":\"IGP\",\"next_hop\":\"192.0.2.1\",\"med\":null,\"local_pref\":null,\"atomic_aggregate\":false,\"aggregator\":\"\",\"communities\":[],\"extended_communities\":[],\"large_communities\":[],\"others\":\"\"}],\"more\":false}",
-            "HTTP/1.1 200 OK\r\nContent-Type: text/plain; version=0.0.4; charset=utf-8\r\nContent-Length: 433\r\nCache-Control: no-store\r\nX-Content-Type-Options: nosniff\r\n\r\n# HELP rha_settled_seconds The settled watermark, in seconds since 1970.\n# TYPE rha_settled_seconds gauge\nrha_settled_seconds 1704067202\n# HELP rha_admitted_records_total Records of a collector that are admitted.\n# TYPE rha_admitted_records_total counter\nrha_admitted_records_total{collector=\"0\"} 4\n# HELP rha_questions_total Questions that were asked since the server began.\n# TYPE rha_questions_total counter\nrha_questions_total 1\n",
+            "HTTP/1.1 200 OK\r\nContent-Type: text/plain; version=0.0.4; charset=utf-8\r\nContent-Length: 1694\r\nCache-Control: no-store\r\nX-Content-Type-Options: nosniff\r\n\r\n# HELP rha_settled_seconds The settled watermark, in seconds since 1970.\n# TYPE rha_settled_seconds gauge\nrha_settled_seconds 1704067202\n# HELP rha_applied_changes_total Changes that are applied.\n# TYPE rha_applied_changes_total counter\nrha_applied_changes_total 260\n# HELP rha_last_change_seconds The time of the last change that is applied, in seconds since 1970.\n# TYPE rha_last_change_seconds gauge\nrha_last_change_seconds 1704067201\n# HELP rha_pages_used Home pages that were ever used.\n# TYPE rha_pages_used gauge\nrha_pages_used 22\n# HELP rha_pages Home pages.\n# TYPE rha_pages gauge\nrha_pages 81\n# HELP rha_blocks_used Blocks of the write-once disk that were ever tried.\n# TYPE rha_blocks_used gauge\nrha_blocks_used 0\n# HELP rha_blocks Blocks of the write-once disk.\n# TYPE rha_blocks gauge\nrha_blocks 64\n# HELP rha_admitted_records_total Records of a collector that are admitted.\n# TYPE rha_admitted_records_total counter\nrha_admitted_records_total{collector=\"0\"} 4\n# HELP rha_offered_records_total Records of a collector that were offered, late ones too.\n# TYPE rha_offered_records_total counter\nrha_offered_records_total{collector=\"0\"} 4\n# HELP rha_mark_seconds The mark of a collector, in seconds since 1970.\n# TYPE rha_mark_seconds gauge\nrha_mark_seconds{collector=\"0\"} 1704067202\n# HELP rha_ring_used_bytes What pending admissions use of a collector's ring.\n# TYPE rha_ring_used_bytes gauge\nrha_ring_used_bytes{collector=\"0\"} 0\n# HELP rha_ring_bytes The size of a collector's ring.\n# TYPE rha_ring_bytes gauge\nrha_ring_bytes{collector=\"0\"} 262144\n# HELP rha_questions_total Questions that were asked since the server began.\n# TYPE rha_questions_total counter\nrha_questions_total 1\n",
             "",
         ],
     },
@@ -151,7 +151,7 @@ pub(crate) const CONVERSATIONS: [Conversation; 33] = [
         each: "HTTP/1.1 ",
         parts: [
             "HTTP/1.1 409 Conflict\r\nContent-Type: application/json\r\nContent-Length: 93\r\nCache-Control: no-store\r\nX-Content-Type-Options: nosniff\r\n\r\n{\"error\":{\"number\":24,\"name\":\"AboveWatermark\",\"settled\":1704067202,\"message\":\"ask below it\"}}",
-            "{\"settled\":1704067202,\"date\":\"2024-01-01T00:00:02Z\",\"collectors\":[{\"collector\":0,\"admitted\":4}]}",
+            "{\"settled\":1704067202,\"date\":\"2024-01-01T00:00:02Z\",\"changes\":260,\"last\":1704067201,\"pages\":{\"used\":22,\"of\":81},\"blocks\":{\"used\":0,\"of\":64},\"collectors\":[{\"collector\":0,\"mark\":1704067202,\"offered\":4,\"admitted\":4,\"ring\":{\"used\":0,\"of\":262144}}]}",
             "",
         ],
     },
@@ -190,7 +190,7 @@ pub(crate) const CONVERSATIONS: [Conversation; 33] = [
         answers: 1,
         each: "HTTP/1.1 ",
         parts: [
-            "{\"settled\":1704067202,\"date\":\"2024-01-01T00:00:02Z\",\"collectors\":[{\"collector\":0,\"admitted\":4}]}",
+            "{\"settled\":1704067202,\"date\":\"2024-01-01T00:00:02Z\",\"changes\":260,\"last\":1704067201,\"pages\":{\"used\":22,\"of\":81},\"blocks\":{\"used\":0,\"of\":64},\"collectors\":[{\"collector\":0,\"mark\":1704067202,\"offered\":4,\"admitted\":4,\"ring\":{\"used\":0,\"of\":262144}}]}",
             "",
             "",
         ],
@@ -236,7 +236,7 @@ pub(crate) const CONVERSATIONS: [Conversation; 33] = [
         answers: 2,
         each: "HTTP/1.1 ",
         parts: [
-            "{\"settled\":1704067202,\"date\":\"2024-01-01T00:00:02Z\",\"collectors\":[{\"collector\":0,\"admitted\":4}]}",
+            "{\"settled\":1704067202,\"date\":\"2024-01-01T00:00:02Z\",\"changes\":260,\"last\":1704067201,\"pages\":{\"used\":22,\"of\":81},\"blocks\":{\"used\":0,\"of\":64},\"collectors\":[{\"collector\":0,\"mark\":1704067202,\"offered\":4,\"admitted\":4,\"ring\":{\"used\":0,\"of\":262144}}]}",
             "",
             "",
         ],
@@ -246,7 +246,7 @@ pub(crate) const CONVERSATIONS: [Conversation; 33] = [
         answers: 1,
         each: "HTTP/1.1 ",
         parts: [
-            "Connection: close\r\n\r\n{\"settled\":1704067202,\"date\":\"2024-01-01T00:00:02Z\",\"collectors\":[{\"collector\":0,\"admitted\":4}]}",
+            "Connection: close\r\n\r\n{\"settled\":1704067202,\"date\":\"2024-01-01T00:00:02Z\",\"changes\":260,\"last\":1704067201,\"pages\":{\"used\":22,\"of\":81},\"blocks\":{\"used\":0,\"of\":64},\"collectors\":[{\"collector\":0,\"mark\":1704067202,\"offered\":4,\"admitted\":4,\"ring\":{\"used\":0,\"of\":262144}}]}",
             "",
             "",
         ],
@@ -256,7 +256,7 @@ pub(crate) const CONVERSATIONS: [Conversation; 33] = [
         answers: 2,
         each: "HTTP/1.1 ",
         parts: [
-            "{\"settled\":1704067202,\"date\":\"2024-01-01T00:00:02Z\",\"collectors\":[{\"collector\":0,\"admitted\":4}]}HTTP/1.1 400 Bad Request\r\nContent-Type: application/json\r\nContent-Length: 86\r\nCache-Control: no-store\r\nX-Content-Type-Options: nosniff\r\nConnection: close\r\n\r\n{\"error\":{\"number\":28,\"name\":\"BadRequest\",\"message\":\"this is no request of HTTP/1.x\"}}",
+            "{\"settled\":1704067202,\"date\":\"2024-01-01T00:00:02Z\",\"changes\":260,\"last\":1704067201,\"pages\":{\"used\":22,\"of\":81},\"blocks\":{\"used\":0,\"of\":64},\"collectors\":[{\"collector\":0,\"mark\":1704067202,\"offered\":4,\"admitted\":4,\"ring\":{\"used\":0,\"of\":262144}}]}HTTP/1.1 400 Bad Request\r\nContent-Type: application/json\r\nContent-Length: 86\r\nCache-Control: no-store\r\nX-Content-Type-Options: nosniff\r\nConnection: close\r\n\r\n{\"error\":{\"number\":28,\"name\":\"BadRequest\",\"message\":\"this is no request of HTTP/1.x\"}}",
             "",
             "",
         ],
@@ -272,7 +272,7 @@ pub(crate) const CONVERSATIONS: [Conversation; 33] = [
         answers: 1,
         each: "HTTP/1.1 ",
         parts: [
-            "{\"settled\":1704067202,\"date\":\"2024-01-01T00:00:02Z\",\"collectors\":[{\"collector\":0,\"admitted\":4}]}",
+            "{\"settled\":1704067202,\"date\":\"2024-01-01T00:00:02Z\",\"changes\":260,\"last\":1704067201,\"pages\":{\"used\":22,\"of\":81},\"blocks\":{\"used\":0,\"of\":64},\"collectors\":[{\"collector\":0,\"mark\":1704067202,\"offered\":4,\"admitted\":4,\"ring\":{\"used\":0,\"of\":262144}}]}",
             "",
             "",
         ],
@@ -304,7 +304,7 @@ pub(crate) const CONVERSATIONS: [Conversation; 33] = [
         answers: 1,
         each: "HTTP/1.1 ",
         parts: [
-            "{\"settled\":1704067202,\"date\":\"2024-01-01T00:00:02Z\",\"collectors\":[{\"collector\":0,\"admitted\":4}]}",
+            "{\"settled\":1704067202,\"date\":\"2024-01-01T00:00:02Z\",\"changes\":260,\"last\":1704067201,\"pages\":{\"used\":22,\"of\":81},\"blocks\":{\"used\":0,\"of\":64},\"collectors\":[{\"collector\":0,\"mark\":1704067202,\"offered\":4,\"admitted\":4,\"ring\":{\"used\":0,\"of\":262144}}]}",
             "",
             "",
         ],

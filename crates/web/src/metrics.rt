@@ -1,0 +1,165 @@
+//! How far an archive has come, in Prometheus' text form 0.0.4.
+
+use crate::standing::{Lane, Room, Standing};
+use std::alloc::{AllocError, Global};
+
+/// A metric: its name, its type, and what it is.
+#[derive(Clone, Copy)]
+struct Metric {
+    name: &'static str,
+    kind: &'static str,
+    help: &'static str,
+}
+
+/// What of a collector a metric has.
+#[derive(Clone, Copy)]
+enum Field {
+    Admitted,
+    Offered,
+    Mark,
+    RingUsed,
+    Ring,
+}
+
+fn gauge(name: &'static str, help: &'static str) -> Metric {
+    Metric {
+        name,
+        kind: "gauge",
+        help,
+    }
+}
+
+fn counter(name: &'static str, help: &'static str) -> Metric {
+    Metric {
+        name,
+        kind: "counter",
+        help,
+    }
+}
+
+/// Writes the lines before the values of a metric.
+fn write_heading(out: &mut String, metric: Metric) -> Result<(), AllocError> {
+    let Metric { name, kind, help } = metric;
+    writeln!(out, "# HELP {name} {help}")?;
+    writeln!(out, "# TYPE {name} {kind}")
+}
+
+/// Writes a metric of the whole archive, if its value is known.
+fn write_value(out: &mut String, metric: Metric, value: Option<u64>) -> Result<(), AllocError> {
+    let Some(value) = value else {
+        return Ok(());
+    };
+    write_heading(out, metric)?;
+    let name = metric.name;
+    writeln!(out, "{name} {value}")
+}
+
+impl Lane {
+    fn value(&self, field: Field) -> Option<u64> {
+        match field {
+            Field::Admitted => Some(self.admitted),
+            Field::Offered => self.offered,
+            Field::Mark => self.mark,
+            Field::RingUsed => used_in(self.ring),
+            Field::Ring => size_in(self.ring),
+        }
+    }
+}
+
+fn used_in(room: Option<Room>) -> Option<u64> {
+    room.map(|it| it.used)
+}
+
+fn size_in(room: Option<Room>) -> Option<u64> {
+    room.map(|it| it.of)
+}
+
+/// Writes a metric of each collector whose value is known.
+fn write_lanes(
+    out: &mut String,
+    metric: Metric,
+    lanes: &[Lane],
+    field: Field,
+) -> Result<(), AllocError> {
+    write_heading(out, metric)?;
+    let name = metric.name;
+    for lane in lanes {
+        if let Some(value) = lane.value(field) {
+            let collector = lane.collector;
+            out.push_str(name)?;
+            out.push_str("{collector=\"")?;
+            write!(out, "{collector}")?;
+            out.push_str("\"} ")?;
+            writeln!(out, "{value}")?;
+        }
+    }
+    Ok(())
+}
+
+/// Writes what is known of the collectors.
+fn write_collectors(out: &mut String, lanes: &[Lane]) -> Result<(), AllocError> {
+    let metric = counter(
+        "rha_admitted_records_total",
+        "Records of a collector that are admitted.",
+    );
+    write_lanes(out, metric, lanes, Field::Admitted)?;
+    let metric = counter(
+        "rha_offered_records_total",
+        "Records of a collector that were offered, late ones too.",
+    );
+    write_lanes(out, metric, lanes, Field::Offered)?;
+    let metric = gauge(
+        "rha_mark_seconds",
+        "The mark of a collector, in seconds since 1970.",
+    );
+    write_lanes(out, metric, lanes, Field::Mark)?;
+    let metric = gauge(
+        "rha_ring_used_bytes",
+        "What pending admissions use of a collector's ring.",
+    );
+    write_lanes(out, metric, lanes, Field::RingUsed)?;
+    let metric = gauge("rha_ring_bytes", "The size of a collector's ring.");
+    write_lanes(out, metric, lanes, Field::Ring)
+}
+
+/// Writes how much of both disks is used.
+fn write_rooms(out: &mut String, standing: &Standing) -> Result<(), AllocError> {
+    let metric = gauge("rha_pages_used", "Home pages that were ever used.");
+    write_value(out, metric, used_in(standing.pages))?;
+    let metric = gauge("rha_pages", "Home pages.");
+    write_value(out, metric, size_in(standing.pages))?;
+    let metric = gauge(
+        "rha_blocks_used",
+        "Blocks of the write-once disk that were ever tried.",
+    );
+    write_value(out, metric, used_in(standing.blocks))?;
+    let metric = gauge("rha_blocks", "Blocks of the write-once disk.");
+    write_value(out, metric, size_in(standing.blocks))
+}
+
+impl Standing {
+    /// It and how many questions were asked. What isn't known while the archive isn't open is left out. Memory alone refuses it.
+    pub(crate) fn metrics(&self, alloc: Global, questions: u64) -> Result<String, AllocError> {
+        let mut text = String::new(alloc);
+        let metric = gauge(
+            "rha_settled_seconds",
+            "The settled watermark, in seconds since 1970.",
+        );
+        write_value(&mut text, metric, Some(self.settled))?;
+        let metric = counter("rha_applied_changes_total", "Changes that are applied.");
+        write_value(&mut text, metric, self.changes)?;
+        let metric = gauge(
+            "rha_last_change_seconds",
+            "The time of the last change that is applied, in seconds since 1970.",
+        );
+        write_value(&mut text, metric, self.last)?;
+        write_rooms(&mut text, self)?;
+        write_collectors(&mut text, &self.collectors)?;
+        let metric = counter(
+            "rha_questions_total",
+            "Questions that were asked since the server began.",
+        );
+        write_value(&mut text, metric, Some(questions))?;
+        Ok(text)
+    }
+}
