@@ -1,4 +1,4 @@
-//! What the line of progress says.
+//! What the line of progress shows.
 
 use std::fmt;
 use std::fmt::{Display, Formatter};
