@@ -1,7 +1,7 @@
 //! Messages for people on standard error, after the first lines, which programs read: what is wrong with a file or a text, and what helps.
 //!
 //!     after                            what is printed                                              module
-//!     a file was loaded                it is packed or text; late, refused or skipped records       files, loads
+//!     a file was loaded                it is compressed or text; late, refused or skipped records   files, loads
 //!     a load that was refused          which size of the archive is used up, and what helps         loads, limits
 //!     a creation that was refused      how many pages are needed, or that files are too large       limits
 //!     a mark, a collector, an option   the present mark, how many there are, what a text must be    marks
@@ -13,9 +13,9 @@
 //! Each piece of advice is a value with a `Display`, and `advise` prints it as one line, `rha: WORDS`. It has no other effect: it changes no
 //! exit status and no line that programs read. If there is no memory for the words, nothing is printed.
 //!
-//! Which counts of a feed are in doubt is decided in service (`doubts_of`, `is_far`), so advice is printed of the doubts by which a strict
-//! load is held back. Where a line stops being a request is found here by a grammar of its own, word by word (`first_misread`): service
-//! returns only that a line is none. A test compares the two readings.
+//! Which counts of a feed are in doubt is decided in service (`doubts_of`, `is_far`), so the doubts that are printed here are those
+//! that stop a strict load. Where a line stops being a request is found here by a grammar of its own, word by word (`first_misread`), since
+//! service reports only that the line isn't one. A test compares the two readings.
 //!
 //! A file is recognized by its first 16 octets, which `NotedReader` keeps while a load reads through it: gzip, bzip2, xz and zstd by their
 //! signatures, and text by at least 8 octets of ASCII, since the type of a record that is read has an octet of zero. That is printed only

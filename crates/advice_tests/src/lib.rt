@@ -1,7 +1,7 @@
-//! Tests of the words for people: which words of a line aren't understood, what octets are that aren't MRT, what is said of a load.
+//! Tests of the messages for people: which word of a line isn't understood, what a file is that isn't MRT, what is printed after a load.
 //!
 //! Each module has tables: a case, and the words that are printed of it, written by hand. For lines a table is read by service's
-//! `read_request` too: nothing may be said exactly of the lines that are requests.
+//! `read_request` too: exactly the lines that are requests have no message.
 #![tactic(auto)]
 
 #[cfg(test)]

@@ -1,7 +1,8 @@
 //! Tests of questions that are asked turn by turn of an archive on two disks in memory.
 //!
-//! `examples` is a table of records, request lines and the lines that answer them. `generated` makes histories from seeds, gives and applies
-//! more between any two turns, and compares each answer with that of the pure machine. `past` asks of blocks, by readers that keep few.
+//! `examples` is a table of records, request lines and the lines that answer them. `generated` makes histories from seeds, admits and applies
+//! more between any two turns, and compares each answer with that of the pure machine. `past` asks
+//! of moments that are in blocks, by readers that cache few.
 #![tactic(auto)]
 
 #[cfg(test)]

@@ -1,5 +1,5 @@
-//! Tests of archives on two disks in memory: how they are created and opened, and what their calls answer one after another, beside
-//! the pure machine.
+//! Tests of archives on two disks in memory: how they are created and opened, and what their calls return one after another, compared
+//! with the pure machine.
 #![tactic(auto)]
 
 #[cfg(test)]

@@ -8,8 +8,8 @@
 //!
 //! What pages represent is defined for a head as a value (`HeadRepresents`), apart from page 0: a transaction changes the head in
 //! memory and the pages of rings and tree in any order, keeps this relation throughout, and writes page 0 last
-//! (`PagesRepresent`). So a transaction of one step and one of many are the same argument. Of the tree it asks only that it stays
-//! the tree where its own pages stay the same, and where more blocks are settled.
+//! (`PagesRepresent`). So a transaction of one step and one of many are the same argument. Of the tree it assumes only that it stays
+//! the same as long as its own pages do, also if more blocks are settled.
 #![tactic(auto)]
 
 mod giving;

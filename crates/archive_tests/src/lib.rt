@@ -1,8 +1,8 @@
-//! Tests of service and tables: worked examples from outside, over an archive on disks in memory that is opened anew for each command line;
-//! and over the pure machine what is done where a reader or a writer fails.
+//! Tests of service and tables as a user sees them: worked examples, over an archive on disks in memory that is opened anew for each
+//! command line; and, over the pure machine, what happens if a reader or a writer fails.
 //!
 //! `scripts` has tables of command lines and of all that they write, worked out by hand; `playing` is their interpreter, and `files` has the
-//! records that they name. `commands` and `usage` are tables of words and of what clap makes of them.
+//! records that they name. `commands` and `usage` are tables of command lines and of what clap reads in them.
 #![tactic(auto)]
 
 #[cfg(test)]

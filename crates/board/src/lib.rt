@@ -1,8 +1,8 @@
 //! A board of words that threads read without waiting: the settled watermark, and for each collector how many of its
 //! admissions are durable.
 //!
-//! What a pass has seen stays true for it. There is one past of the archive, all of which the writing seat knows, and
-//! of which each pass knows a prefix.
+//! What a pass has seen stays true for it. There is one past of the archive. The writing seat, the one handle by
+//! which words are raised, knows all of it, and each pass a prefix.
 //!
 //!     word   0          1                                c + 1
 //!            watermark  durable admissions of 0   ..     durable admissions of collector c

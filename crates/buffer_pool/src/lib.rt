@@ -5,7 +5,7 @@
 //!                 or written home
 //!     spare       one page: a dirty page that isn't in memory is read from its image here, to go home
 //!
-//! No fetch, commit or flush of another page drops a committed page. That a commit puts it there is tested alone:
+//! No fetch, commit or flush of another page drops a committed page. That a commit puts it there is only tested:
 //! memory may run out after the post, nothing may be reported then, and no clause distinguishes that from a body
 //! that didn't try. A page for which there was no memory at its commit is read from its image, and is then cached as
 //! pages are that were read: so the cache may have a dirty page.

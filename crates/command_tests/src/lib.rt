@@ -1,7 +1,7 @@
 //! The commands on disks in memory, one after another: an archive is created, files are loaded, and a line is asked.
 //!
-//! `play` makes both disks, and its contract has no premise on them: the load is one into the history to which nothing was given, and the
-//! line is answered by the history that the load left. So the premises of the commands are met. A table has the lines that are printed.
+//! `play` makes both disks, and its contract has no premise on them: the files are loaded into an empty history, and the line is
+//! answered by the history that the load left. So the premises of the commands can be met. A table has the lines that are printed.
 #![tactic(auto)]
 
 #[cfg(test)]

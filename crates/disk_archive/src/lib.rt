@@ -1,4 +1,4 @@
-//! An archive on two disks, pages that are overwritten and blocks that are written once: it keeps what collectors gave, through crashes.
+//! An archive on two disks, pages that are overwritten and blocks that are written once: it keeps what collectors sent, through crashes.
 //!
 //!     a call                              write-once disk   erasable disk             a crash then leaves
 //!     begin, read pages, plan in memory                     reads                     the history of before

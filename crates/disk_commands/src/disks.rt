@@ -19,7 +19,7 @@ pub struct Disks<E, O: OnceDisk + Drop> {
 pub struct Ended<E, O: OnceDisk + Drop, X> {
     /// The exit status; or why there is no archive on the disks for the command. Then it did nothing.
     pub outcome: Result<u8, X>,
-    /// Both disks.
+    /// Both disks. That they are the disks that were given is a clause of `create_on` alone.
     pub disks: Disks<E, O>,
     /// Whether both disks read as the history that they keep. If not, a call on them failed, and they may read as one that it begins.
     pub is_read: bool,

@@ -12,8 +12,8 @@
 //! this one. After a failed write a device may read as the history before the call or after it, so a command says what is kept, and the next
 //! one finds what is read.
 //!
-//! If the disks aren't opened or the archive isn't made, nothing is written, and the reason is returned: a caller knows words for it, and these
-//! disks have none.
+//! If the disks aren't opened or the archive isn't made, nothing is written, and the reason is returned: the caller prints it, since
+//! only it knows what the disks are.
 #![tactic(auto)]
 
 mod asking;

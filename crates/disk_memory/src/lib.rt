@@ -16,8 +16,8 @@
 //!     calls     .. write  sync  write    write            since the last sync nothing is sure
 //!     choice                    old      half      ..     of each unsynced write in turn, one entry; beyond its end old octets
 //!
-//! After a crash a burn that waited and came through whole is settled; of another the octets are there and nobody
-//! knows them. So tests see an orphan block that is known, and one that is torn. A `Seen` has the numbers of its
+//! After a crash a burn that waited and came through whole is settled; the octets of another one are there, but no
+//! reader knows them. So tests see an orphan block that is known, and one that is torn. A `Seen` has the numbers of its
 //! reads that fail, from the pen's script, since tests can't reach the reads that an engine makes inside.
 #![tactic(auto)]
 

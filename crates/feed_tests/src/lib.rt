@@ -1,5 +1,5 @@
-//! Tests of mrt_records, bgp_update and resolve: what a feed's records and messages say, by octets from outside and tables worked
-//! out by hand.
+//! Tests of mrt_records, bgp_update and resolve: what a feed's records and messages mean, by octets from other sources and tables
+//! worked out by hand.
 //!
 //! A case is a text of hexadecimal digits and what it reads as: values, or the encoding of a route or an admission. Octets with a fault
 //! have one fault each. Streams are cut at each place, and fed octet by octet.

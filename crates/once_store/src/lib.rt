@@ -7,8 +7,8 @@
 //! `append` burns and settles, and then returns the number; it doesn't look at the digest, which `seal` puts there. A
 //! block whose burn or settle failed is spent: its state is unknown, so the next one gets a higher number.
 //! An opening asks about each block from the given number up to the first blank one: a number that is too low costs
-//! time, one that is too high costs blocks, and neither costs data. So a block is passed over that a crash left burnt
-//! without a commit.
+//! time, one that is too high costs blocks, and neither costs data. So a block that a crash left burnt without a
+//! commit is passed over.
 //!
 //! A reader fetches, and then lends: `fetch` may refuse and needs the reader for itself, `block` lends what is kept
 //! to any number of callers. A full reader drops the least recently used block, also if the new one is then

@@ -1,5 +1,5 @@
-//! The program `rha`: a route history archive for BGP. It keeps what route collectors gave in the files of a folder, and
-//! answers for any past moment that is settled.
+//! The program `rha`: a route history archive for BGP. It keeps what route collectors sent in the files of a folder, and
+//! answers which routes there were at any settled past moment.
 //!
 //! Standard streams that are closed are opened on `/dev/null` before all else (`streams`). Signals keep their defaults,
 //! since the toolchain's library sets none; so a write beyond the limit on the size of files would end the program
@@ -14,8 +14,8 @@
 //!              print `listening`   take connections   remove the socket
 //!
 //! The program starts threads and makes that socket through a second handle (`host`), since the compiler gives a runtime's
-//! threads and sockets only to `main`. What a file that isn't MRT is, is printed after the load, by its first 16 octets, and only if nothing of it was
-//! admitted.
+//! threads and sockets only to `main`. What a file is that isn't MRT is found by its first 16 octets, and printed after the load, only
+//! if nothing of it was admitted.
 //!
 //! `main` has no contract: there is no model of what a process is given, nor of its exit status. That it opens the folder's
 //! files and then the files to load, and calls `file_archive` and `service` in this order, can only be read in it.

@@ -12,8 +12,8 @@
 //! Which route holds is a split of the list of changes: what comes before, the announcement, and what comes after,
 //! none of which concerns the prefix of the peer. There is no newest stamp, and no comparison of times but in
 //! `until`; so the order within a second is the order of the list. Peers and prefixes are compared by value, and not
-//! by their keys, so the meaning doesn't depend on keys. An answer is the first 256 of some list that is all the
-//! rows, which says `more` exactly.
+//! by their keys, so the meaning doesn't depend on keys. An answer is the first 256 of a list of all the rows,
+//! so `more` is exact.
 //!
 //! The place applied has one form: with all changes of an admission applied it is after that admission, not at its
 //! last change. Else a step that moves the place could go on for ever without applying anything. What may follow in

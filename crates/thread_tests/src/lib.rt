@@ -1,8 +1,8 @@
 //! Tests of an archive on disks in memory that threads share.
 //!
-//! A scene is data: what is done before, and the parts of each thread. What all threads gave and were answered is logged, and compared at the
-//! end with the plain program over the lists of all that was given. Signals hold a thread between two turns, or in a read of a block, so
-//! that what must meet does meet. Calls of two threads are data, too (`works`), and what their replies mean is proved.
+//! A scene is data: what is done first, and what each thread does. What all threads admitted and were answered is logged, and compared at
+//! the end with the plain program over the lists of all that was admitted. Signals hold a thread between two turns, or in a read of a block, so
+//! that calls overlap as the scene needs it. Calls of two threads are data, too (`works`), and what their replies mean is proved.
 #![tactic(auto)]
 
 #[cfg(test)]

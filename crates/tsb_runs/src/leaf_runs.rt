@@ -80,7 +80,8 @@ fn run_here<P: Pages>(
 }
 
 /// The keys from `from` on, itself included, that have a value as of the stamp, up to the end of the current leaf in which `from` is
-/// looked for; if that is in the past none, and only up to `from`.
+/// looked for; if that is in the past none, and only up to `from`. How far a run goes is in no clause: one without rows, up to `from`, would
+/// meet them too.
 ///
 /// If the root is valid, those are what its versions have, and no page is reported as bad. A failure of the disk, a journal that must be
 /// opened again and a lack of memory refuse it too. Pages are only read, whatever is returned.

@@ -1,4 +1,4 @@
-//! Lives of an archive on disks in memory, from its creation on, which a crash may cut off: scripts of moves, with failing writes and crashes,
+//! Lives of an archive on disks in memory, from its creation on, which a crash may cut off: scripts of calls, with failing writes and crashes,
 //! which are uses of an archive, and so a run of the pure machine.
 #![tactic(auto)]
 

@@ -1,7 +1,7 @@
 //! Tests of route_model, route_text and line_reader: values, their octets, keys and texts, and lines of a connection, by values from
-//! outside and tables worked out by hand.
+//! other sources and tables worked out by hand.
 //!
-//! A row of a table has a value and its octets or text, and is read and written. Others have octets or texts of no value, by kind of fault.
+//! A row of a table has a value and its octets or text, and is read and written. Others have octets or texts that no value has, by kind of fault.
 //! Lines are read at once and octet by octet, of readers that are interrupted or fail.
 #![tactic(auto)]
 

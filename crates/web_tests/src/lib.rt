@@ -1,6 +1,6 @@
 //! Tests of web: what requests of HTTP are answered, by connections whose octets lie in memory.
 //!
-//! A table has what a client sends, how each answer begins, and texts that stand in it (`asked`). Each connection is played with all octets at
+//! A table has what a client sends, how each answer begins, and texts that occur in it (`asked`). Each connection is played with all octets at
 //! once and with one at a time, over one archive on disks in memory. `pages` makes requests of given sizes and follows long answers.
 #![tactic(auto)]
 
