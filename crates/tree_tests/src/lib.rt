@@ -3,11 +3,19 @@
 #![tactic(auto)]
 
 #[cfg(test)]
+mod answers;
+#[cfg(test)]
+mod blocks;
+#[cfg(test)]
 mod check;
 #[cfg(test)]
 mod history;
 #[cfg(test)]
+mod laid;
+#[cfg(test)]
 mod look;
+#[cfg(test)]
+mod lookups;
 #[cfg(test)]
 mod memory;
 #[cfg(test)]
@@ -16,6 +24,12 @@ mod migration;
 mod octets;
 #[cfg(test)]
 mod past;
+#[cfg(test)]
+mod playing;
+#[cfg(test)]
+mod script;
+#[cfg(test)]
+mod sweeps;
 #[cfg(test)]
 mod tree;
 

@@ -1,6 +1,6 @@
 //! Looks that begin at current pages of a tree built by hand, and go on in its blocks.
 
-mod answers;
-mod damaged;
-mod encoding;
+mod blocks;
+mod borders;
+mod pages;
 mod tree;

@@ -3,6 +3,7 @@
 ghost use Rattle.std.specs.Prelude.{IsTrue};
 ghost use Rattle.version_model.specs.Ranges.{IsPoint, range_of};
 
+use crate::answers::key_with;
 use buffer_pool::Pool;
 use disk_memory::{Failure, MemErase, MemOnce, OnceFailure};
 use disk_models::{Block, Page};
@@ -86,9 +87,7 @@ pub(crate) fn burn(alloc: Global, shelf: &mut Shelf<MemOnce>, octets: &[u8]) -> 
 
 /// The key whose last octet is this.
 pub(crate) fn key_of(last: u8) -> Key {
-    let mut octets = [0u8; 40];
-    octets[39] = last;
-    Key::from_octets(&octets)
+    key_with(u64::from(last))
 }
 
 /// Whether a key and a stamp lie between bounds that both have an end.

@@ -19,7 +19,7 @@ pub(crate) const COLUMN: u8 = 2;
 pub(crate) const CHILDREN: u16 = 338;
 
 /// The place of the octets in which the keys of versions differ.
-pub(crate) const PLACE: usize = 16;
+pub(crate) const PLACE: usize = 38;
 
 /// The keys of a node: from a number on, and below another one where there is one, each in two octets at a place.
 #[derive(Clone, Copy)]
@@ -63,7 +63,7 @@ pub(crate) fn add_all(octets: &mut Vec<u8>, more: &[u8]) -> Option<()> {
 }
 
 /// A number in eight octets.
-fn add_number(octets: &mut Vec<u8>, number: u64) -> Option<()> {
+pub(crate) fn add_number(octets: &mut Vec<u8>, number: u64) -> Option<()> {
     add_all(octets, &number.to_be_bytes())
 }
 
@@ -82,7 +82,7 @@ fn add_end(octets: &mut Vec<u8>, end: Option<u8>) -> Option<()> {
 }
 
 /// The lowest key whose number of two octets stands at this place; 0 is the lowest of all.
-fn add_key(octets: &mut Vec<u8>, number: u16, at: usize) -> Option<()> {
+pub(crate) fn add_key(octets: &mut Vec<u8>, number: u16, at: usize) -> Option<()> {
     add(octets, 0, at)?;
     add_all(octets, &number.to_be_bytes())?;
     add(octets, 0, 38usize.saturating_sub(at))

@@ -14,14 +14,17 @@ mod older;
 mod one_key;
 mod opened;
 mod plain;
+mod playing;
 mod refused;
 mod three_levels;
 mod too_high;
 
+use crate::answers::key_with;
+use crate::blocks::Blocks;
 use crate::memory::{begun, shelf_of};
-use disk_memory::{Failure, MemErase, MemOnce, MemSeen, OnceFailure};
-use once_store::{Shelf, ShelfReader};
-use page_tx::{Pages, Tx};
+use disk_memory::{Failure, MemErase, MemOnce, OnceFailure};
+use once_store::{AppendError, Shelf};
+use page_tx::{PageError, Pages, Tx};
 use route_model::Key;
 use std::alloc::Global;
 use tsb_tree::{TreeError, TreePlace, create, insert};
@@ -35,16 +38,16 @@ type Row = (Stamp, Option<Octets>);
 
 /// The disks below a tree: how many home pages and blocks, how many pages that are home a pool keeps, and the calls that fail.
 #[derive(Drop)]
-struct Disks {
-    homes: u64,
-    blocks: u64,
-    kept: usize,
+pub(crate) struct Disks {
+    pub(crate) homes: u64,
+    pub(crate) blocks: u64,
+    pub(crate) kept: usize,
     erase: Vec<Failure>,
     once: Vec<OnceFailure>,
 }
 
 /// Disks of which no call fails.
-fn disks_of(alloc: Global, homes: u64, blocks: u64) -> Disks {
+pub(crate) fn disks_of(alloc: Global, homes: u64, blocks: u64) -> Disks {
     Disks {
         homes,
         blocks,
@@ -54,76 +57,47 @@ fn disks_of(alloc: Global, homes: u64, blocks: u64) -> Disks {
     }
 }
 
-/// A tree, with the transaction and the shelf in which it lies, a reader of its blocks, and what it last saw of them.
+/// A tree, with the transaction and the shelf in which it lies, and its blocks as it last saw them.
 #[derive(Drop)]
-struct Tree {
-    alloc: Global,
-    tx: Tx<MemErase>,
-    shelf: Shelf<MemOnce>,
-    place: TreePlace,
-    reader: ShelfReader<MemOnce>,
-    seen: MemSeen,
+pub(crate) struct Tree {
+    pub(crate) alloc: Global,
+    pub(crate) tx: Tx<MemErase>,
+    pub(crate) shelf: Shelf<MemOnce>,
+    pub(crate) place: TreePlace,
+    pub(crate) blocks: Blocks,
 }
 
-/// A tree at this place in a transaction and on a shelf.
-fn tree_in(
+/// A tree whose pages are to be set by hand: home pages from one on were never used, and its root, of a level, is in this page.
+pub(crate) fn tree_at(
     alloc: Global,
-    tx: Tx<MemErase>,
-    mut shelf: Shelf<MemOnce>,
-    place: TreePlace,
+    disks: Disks,
+    unused: u64,
+    root: u64,
+    level: u8,
 ) -> Option<Tree> {
-    let reader = shelf.reader(alloc, 1_024).ok()?;
-    let seen = shelf.seen().ok()?;
+    let mut shelf = shelf_of(alloc, disks.blocks, disks.once)?;
+    let blocks = Blocks::of(alloc, &mut shelf, 1_024)?;
+    let tx = begun(alloc, disks.homes, disks.kept, disks.erase, unused)?;
+    let least = Stamp::new(0, 0);
     Some(Tree {
         alloc,
         tx,
         shelf,
-        place,
-        reader,
-        seen,
+        place: TreePlace { root, level, least },
+        blocks,
     })
 }
 
-/// A tree whose pages are to be set by hand: home pages from one on were never used, and its root, of a level, is in this page.
-fn tree_at(alloc: Global, disks: Disks, unused: u64, root: u64, level: u8) -> Option<Tree> {
-    let tx = begun(alloc, disks.homes, disks.kept, disks.erase, unused)?;
-    let shelf = shelf_of(alloc, disks.blocks, disks.once)?;
-    let least = Stamp::new(0, 0);
-    tree_in(alloc, tx, shelf, TreePlace { root, level, least })
-}
-
-/// Creates the tree of no version.
-fn create_in(tree: &mut Tree) -> Option<()> {
-    tree.place = create(&mut tree.tx, tree.alloc).ok()?;
-    Some(())
-}
-
-/// A tree of no version.
-fn tree_on(alloc: Global, disks: Disks) -> Option<Tree> {
-    let mut tree = tree_at(alloc, disks, 0, 0, 1)?;
-    create_in(&mut tree)?;
-    Some(tree)
-}
-
 /// Sees all blocks that are settled by now.
-fn look(tree: &mut Tree) -> Option<()> {
-    tree.seen = tree.shelf.seen().ok()?;
-    Some(())
+pub(crate) fn look(tree: &mut Tree) {
+    if let Ok(seen) = tree.shelf.seen() {
+        tree.blocks.seen = seen;
+    }
 }
 
 /// The key with this number.
 fn key_of(number: u16) -> Key {
-    let [high, low] = number.to_be_bytes();
-    let mut octets = [0u8; 40];
-    octets[16] = high;
-    octets[17] = low;
-    Key::from_octets(&octets)
-}
-
-/// The number of a key.
-fn number_of(key: Key) -> u16 {
-    let octets = key.to_octets();
-    u16::from_be_bytes([octets[16], octets[17]])
+    key_with(u64::from(number))
 }
 
 /// Whether a tree takes this entry at some place.
@@ -140,7 +114,7 @@ fn can_be_put(entry: &Entry) -> bool
 }
 
 /// The entry of a version.
-fn entry_of(alloc: Global, key: u16, row: Row) -> Option<Entry> {
+fn entry_of(alloc: Global, key: u16, row: &Row) -> Option<Entry> {
     let value = match row.1 {
         Some((count, octet)) => Some(vec![in alloc; octet; count].ok()?),
         None => None,
@@ -152,36 +126,84 @@ fn entry_of(alloc: Global, key: u16, row: Row) -> Option<Entry> {
     })
 }
 
-/// Puts an entry into the tree. None where it is no entry of a tree.
-fn put_entry(tree: &mut Tree, entry: &Entry) -> Option<Result<(), TreeError>> {
-    let place = tree.place;
-    if !can_be_put(entry) || place.level < 1 || place.level > 7 {
-        return None;
-    }
-    match insert(&mut tree.tx, &mut tree.shelf, tree.alloc, place, entry) {
-        Ok(now) => {
-            tree.place = now;
-            Some(Ok(()))
-        }
-        Err(refusal) => Some(Err(refusal)),
+/// What an insert or a creation returned, as a number: it was done, or why it was refused.
+const DONE: u64 = 0;
+
+const STAMP_BACK: u64 = 1;
+
+const ONCE_FULL: u64 = 2;
+
+const PAGES_FULL: u64 = 3;
+
+const TOO_MANY_IMAGES: u64 = 4;
+
+const TOO_HIGH: u64 = 5;
+
+const PAGES_FAULT: u64 = 6;
+
+const ONCE_FAULT: u64 = 7;
+
+const OTHER: u64 = 8;
+
+/// The number of a refusal.
+fn number_of(refusal: &TreeError) -> u64 {
+    match refusal {
+        TreeError::StampBack => STAMP_BACK,
+        TreeError::TooHigh => TOO_HIGH,
+        TreeError::Once(AppendError::OnceFull) => ONCE_FULL,
+        TreeError::Once(AppendError::Fault) => ONCE_FAULT,
+        TreeError::Pages(PageError::PagesFull) => PAGES_FULL,
+        TreeError::Pages(PageError::TooManyImages) => TOO_MANY_IMAGES,
+        TreeError::Pages(PageError::Fault) => PAGES_FAULT,
+        _ => OTHER,
     }
 }
 
+/// Leaves the tree at a place, where it isn't refused.
+fn leave_at(tree: &mut Tree, place: Result<TreePlace, TreeError>) -> u64 {
+    match place {
+        Ok(place) => {
+            tree.place = place;
+            DONE
+        }
+        Err(refusal) => number_of(&refusal),
+    }
+}
+
+/// Creates the tree of no version.
+fn create_in(tree: &mut Tree) -> u64 {
+    let place = create(&mut tree.tx, tree.alloc);
+    leave_at(tree, place)
+}
+
+/// Puts an entry into the tree.
+fn put_entry(tree: &mut Tree, entry: &Entry) -> u64 {
+    let place = tree.place;
+    if !can_be_put(entry) || place.level < 1 || place.level > 7 {
+        return OTHER;
+    }
+    let place = insert(&mut tree.tx, &mut tree.shelf, tree.alloc, place, entry);
+    leave_at(tree, place)
+}
+
 /// Puts a version of a key into the tree.
-fn put(tree: &mut Tree, key: u16, row: Row) -> Option<Result<(), TreeError>> {
-    let entry = entry_of(tree.alloc, key, row)?;
-    put_entry(tree, &entry)
+fn put(tree: &mut Tree, key: u16, row: &Row) -> u64 {
+    match entry_of(tree.alloc, key, row) {
+        Some(entry) => put_entry(tree, &entry),
+        None => OTHER,
+    }
 }
 
 /// Whether a tree takes a version of a key.
 fn takes(tree: &mut Tree, key: u16, row: &Row) -> bool {
-    put(tree, key, *row) == Some(Ok(()))
+    put(tree, key, row) == DONE
 }
 
-/// Whether a tree refuses a version for a reason, and it, its pages and its shelf stay as they were.
-fn refuses(tree: &mut Tree, key: u16, row: &Row, reason: TreeError) -> bool {
+/// Whether a tree refuses a version for a reason, and it, its pages and its shelf stay as they were, but for blocks up to one that are
+/// spent.
+fn refuses(tree: &mut Tree, key: u16, row: &Row, reason: u64, next_block: u64) -> bool {
     let before = state_of(tree);
-    put(tree, key, *row) == Some(Err(reason)) && state_of(tree) == before
+    put(tree, key, row) == reason && state_of(tree) == before.spending(next_block)
 }
 
 /// Sets a page of a node that is made by hand.
@@ -225,13 +247,4 @@ fn state_of(tree: &Tree) -> State {
         images: tree.tx.images(),
         next_block: tree.shelf.next(),
     }
-}
-
-/// Whether a tree's root is in this page and of this level, and `next_page` pages were used and `next_block` blocks burnt.
-fn is_at(tree: &Tree, root: u64, level: u8, next_page: u64, next_block: u64) -> bool {
-    let state = state_of(tree);
-    state.root == root
-        && state.level == level
-        && state.next_page == next_page
-        && state.next_block == next_block
 }

@@ -1,51 +1,13 @@
 //! What is found through blocks of a shelf.
 
 use super::rows::{Row, scan, stamp_of};
+use crate::answers::NONE;
+use crate::blocks::Blocks;
 use crate::memory::{key_of, located_in};
-use disk_memory::{MemOnce, MemSeen};
-use once_store::{Shelf, ShelfReader};
+use disk_memory::MemOnce;
+use once_store::Shelf;
 use std::alloc::Global;
-use tsb_walk::hist_find;
-use version_model::{Bounds, Part, Place, Stamp};
-
-/// Who asks: a reader, and what is seen of the shelf's disk.
-#[derive(Drop)]
-struct Asker {
-    alloc: Global,
-    reader: ShelfReader<MemOnce>,
-    seen: MemSeen,
-}
-
-fn asker_of(alloc: Global, shelf: &mut Shelf<MemOnce>) -> Option<Asker> {
-    let seen = shelf.seen().ok()?;
-    let reader = shelf.reader(alloc, 2).ok()?;
-    Some(Asker {
-        alloc,
-        reader,
-        seen,
-    })
-}
-
-/// Since when a key has which value at a stamp, by a place.
-fn found(asker: &mut Asker, place: &Place, key: u8, stamp: u64) -> Option<Option<(Stamp, u8)>> {
-    let key = key_of(key);
-    let stamp = stamp_of(stamp);
-    if !located_in(&place.bounds, key, stamp) {
-        return None;
-    }
-    let found = hist_find(
-        &mut asker.reader,
-        &mut asker.seen,
-        asker.alloc,
-        place,
-        key,
-        stamp,
-    );
-    Some(match found.ok()? {
-        Some(found) => Some((found.stamp, found.value.first().copied().unwrap_or(0))),
-        None => None,
-    })
-}
+use version_model::{Bounds, Part, Place};
 
 /// Keys below this one are asked for.
 pub(super) const KEYS: u8 = 8;
@@ -72,9 +34,36 @@ fn place_of(span: &Span) -> Place {
 }
 
 /// Whether each key has at a stamp what the rows say.
-fn is_found(asker: &mut Asker, place: &Place, rows: &[Row], stamp: u64) -> bool {
+fn is_found(blocks: &mut Blocks, place: &Place, rows: &[Row], stamp: u64) -> bool {
     for key in 0..KEYS {
-        if found(asker, place, key, stamp) != Some(scan(rows, key, stamp)) {
+        if value_in(blocks, place, key, stamp) != scan(rows, key, stamp) {
+            return false;
+        }
+    }
+    true
+}
+
+/// What a key has at a stamp by a place, as a row's numbers; no row's where that is refused.
+fn value_in(blocks: &mut Blocks, place: &Place, key: u8, stamp: u64) -> [u64; 3] {
+    let key = key_of(key);
+    let stamp = stamp_of(stamp);
+    if !located_in(&place.bounds, key, stamp) {
+        return [0; 3];
+    }
+    let answer = blocks.value(place, key, stamp);
+    if answer[0] == NONE {
+        [answer[10], answer[11], answer[12]]
+    } else {
+        [0; 3]
+    }
+}
+
+/// Whether blocks say it at each n-th stamp of all, and at the last one.
+fn says(blocks: &mut Blocks, rows: &[Row], span: &Span, n: u64) -> bool {
+    let place = place_of(span);
+    for stamp in span.from..span.to {
+        let is_asked = stamp.checked_rem(n) == Some(0) || stamp.saturating_add(1) == span.to;
+        if is_asked && !is_found(blocks, &place, rows, stamp) {
             return false;
         }
     }
@@ -88,14 +77,9 @@ pub(super) fn is_part(
     rows: &[Row],
     span: Span,
     n: u64,
-) -> Option<bool> {
-    let mut asker = asker_of(alloc, shelf)?;
-    let place = place_of(&span);
-    for stamp in span.from..span.to {
-        let is_asked = stamp.checked_rem(n) == Some(0) || stamp.saturating_add(1) == span.to;
-        if is_asked && !is_found(&mut asker, &place, rows, stamp) {
-            return Some(false);
-        }
+) -> bool {
+    match Blocks::of(alloc, shelf, 2) {
+        Some(mut blocks) => says(&mut blocks, rows, &span, n),
+        None => false,
     }
-    Some(true)
 }

@@ -169,7 +169,7 @@ fn a_full_column_becomes_one_block_and_so_once_more(rt: HostRuntime) {
         "the block after 648 leaves",
     );
     let says = is_part(alloc, &mut shelf, &rows, until(full, 648), 1);
-    be(&rt, says == Some(true), "what it says");
+    be(&rt, says, "what it says");
     // The block is the first part of a column that becomes a block.
     let later = later_part(alloc, &mut shelf, &rows, full).expect(&rt, "a later column");
     be(
@@ -178,7 +178,7 @@ fn a_full_column_becomes_one_block_and_so_once_more(rt: HostRuntime) {
         "the block after three leaves more",
     );
     let says = is_part(alloc, &mut shelf, &rows, until(later, 651), 25);
-    be(&rt, says == Some(true), "what it says");
+    be(&rt, says, "what it says");
 }
 
 /// Whether a column in a page isn't migrated since the disk of two blocks is full.
@@ -201,8 +201,8 @@ fn a_column_of_one_part_becomes_a_block(rt: HostRuntime) {
     let part = migrated(alloc, &mut shelf, &page).expect(&rt, "a column");
     let part = part.expect(&rt, "a block");
     let says = is_part(alloc, &mut shelf, &rows, until(part, 8), 1);
-    be(&rt, says == Some(true), "what the column says");
+    be(&rt, says, "what the column says");
     let says = is_part(alloc, &mut shelf, &rows, until(leaf_part(0, block), 8), 1);
-    be(&rt, says == Some(true), "what the leaf says");
+    be(&rt, says, "what the leaf says");
     be(&rt, is_full(alloc, &mut shelf, &page), "a full disk");
 }

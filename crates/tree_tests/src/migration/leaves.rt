@@ -6,6 +6,7 @@ ghost use Rattle.tsb_node.specs.Leaves.{CanBeLeaf};
 
 use super::asking::{KEYS, Span, is_part};
 use super::rows::{Row, TABLE, page_of, rows_since, scan, stamp_of};
+use crate::answers::{NONE, value_at, value_in, value_of};
 use crate::be_at;
 use crate::memory::{key_of, shelf_of};
 use disk_memory::MemOnce;
@@ -74,31 +75,37 @@ pub(super) fn leaf_part(start: u64, block: u64) -> Part {
 
 /// Whether an entry is this row.
 fn is_row(entry: &Entry, row: &Row) -> bool {
-    let value = match &entry.value {
-        Some(value) => value.first().copied(),
-        None => None,
+    let value = match row.2 {
+        Some(octet) => value_of(1, octet),
+        None => NONE,
     };
-    entry.key == key_of(row.0) && entry.stamp == stamp_of(row.1) && value == row.2
+    entry.key == key_of(row.0) && entry.stamp == stamp_of(row.1) && value_at(entry) == value
 }
 
 /// Whether the leaf which stays has exactly these rows.
 fn has_rows(leaf: &Leaf, rows: &[Row]) -> bool {
-    leaf.len() == rows.len()
-        && leaf
-            .entries()
-            .iter()
-            .zip(rows.iter())
-            .all(|(entry, row)| is_row(entry, row))
+    let mut n = 0usize;
+    for entry in leaf.entries() {
+        match rows.get(n) {
+            Some(row) if is_row(entry, row) => n = n.saturating_add(1),
+            _ => return false,
+        }
+    }
+    n == rows.len()
+}
+
+/// What a key has in a leaf at a stamp, as an answer has it.
+fn find(leaf: &Leaf, key: u8, stamp: u64) -> [u64; 3] {
+    match leaf.find(key_of(key), stamp_of(stamp)) {
+        Some((since, value)) => [since.time(), since.order(), value_in(value)],
+        None => [NONE; 3],
+    }
 }
 
 /// Whether each key has in a leaf at a stamp what the rows say.
 fn is_found(leaf: &Leaf, rows: &[Row], stamp: u64) -> bool {
     for key in 0..KEYS {
-        let found = match leaf.find(key_of(key), stamp_of(stamp)) {
-            Some((since, value)) => Some((since, value.first().copied().unwrap_or(0))),
-            None => None,
-        };
-        if found != scan(rows, key, stamp) {
+        if find(leaf, key, stamp) != scan(rows, key, stamp) {
             return false;
         }
     }
@@ -129,7 +136,7 @@ fn are_parts(
 ) -> bool {
     for block in 0..3u64 {
         let part = leaf_part(from, block);
-        if is_part(alloc, shelf, rows, Span { part, from, to }, n) != Some(true) {
+        if !is_part(alloc, shelf, rows, Span { part, from, to }, n) {
             return false;
         }
     }

@@ -2,6 +2,7 @@
 
 ghost use Rattle.std.specs.Prelude.{◌+◌, ◌<◌, ◌^◌};
 
+use crate::answers::{NONE, value_of};
 use crate::memory::key_of;
 use disk_models::Page;
 use std::alloc::Global;
@@ -34,24 +35,29 @@ pub(super) fn stamp_of(number: u64) -> Stamp
     Stamp::new(number / 2, number % 2)
 }
 
-/// What the key has at the stamp: the last row of it that is not after the stamp, where that is a value.
-pub(super) fn scan(rows: &[Row], key: u8, stamp: u64) -> Option<(Stamp, u8)> {
-    let mut last = None;
+/// What the key has at the stamp, as an answer has it, by stamp and value: the last row of it that is not after the stamp, where that is a
+/// value.
+pub(super) fn scan(rows: &[Row], key: u8, stamp: u64) -> [u64; 3] {
+    let mut last = [NONE; 3];
     for row in rows {
         if row.0 == key && row.1 <= stamp {
-            last = row.2.map(|octet| (stamp_of(row.1), octet));
+            last = held(row);
         }
     }
     last
 }
 
+/// The stamp and the value of a row, none of an end.
+fn held(row: &Row) -> [u64; 3] {
+    match row.2 {
+        Some(octet) => [row.1 / 2, row.1 % 2, value_of(1, octet)],
+        None => [NONE; 3],
+    }
+}
+
 /// Whether a row is in a leaf that starts at a stamp: it is from there on, or the value that its key has at the start.
 fn is_since(rows: &[Row], row: &Row, start: u64) -> bool {
-    row.1 >= start
-        || match scan(rows, row.0, start) {
-            Some(held) => held.0 == stamp_of(row.1),
-            None => false,
-        }
+    row.1 >= start || (row.2.is_some() && scan(rows, row.0, start) == held(row))
 }
 
 /// The rows of a leaf that starts at a stamp.

@@ -1,126 +1,95 @@
 //! A tree of no version.
 
-use crate::be;
-use crate::memory::{begun, set_page};
-use crate::octets::{add, add_all};
-use disk_memory::MemErase;
-use disk_models::Page;
-use page_tx::{PageError, Pages, Tx};
-use std::alloc::Global;
-use tsb_tree::{TreeError, create};
-use version_model::Stamp;
+use super::playing::{Place, play};
 
-/// The home pages.
-const HOMES: u64 = 40;
+/// 40 home pages, of which those from one on were never used.
+const FROM_3: Place = Place {
+    homes: 40,
+    blocks: 4,
+    kept: 4,
+    unused: 3,
+    root: 0,
+    level: 1,
+};
 
-/// A transaction over home pages of which those from one on were never used.
-fn begun_from(alloc: Global, unused: u64) -> Option<Tx<MemErase>> {
-    begun(alloc, HOMES, 4, Vec::new(alloc), unused)
-}
+const FROM_35: Place = Place {
+    homes: 40,
+    blocks: 4,
+    kept: 4,
+    unused: 35,
+    root: 0,
+    level: 1,
+};
 
-/// Whether a page's octets are these, and zeros after them.
-fn is_shown(tx: &mut Tx<MemErase>, n: u64, front: &[u8]) -> bool {
-    if n >= tx.pool().home_pages() || tx.fetch(n).is_err() {
-        return false;
-    }
-    let Some(page) = tx.page(n) else {
-        return false;
-    };
-    let rest = page.octets().get(front.len()..).unwrap_or(&[]);
-    page.octets().starts_with(front) && rest.iter().all(|octet| *octet == 0)
-}
+const FROM_38: Place = Place {
+    homes: 40,
+    blocks: 4,
+    kept: 4,
+    unused: 38,
+    root: 0,
+    level: 1,
+};
 
-/// The header of a current node of all keys: kind, level, how many entries, and their octets.
-fn header(alloc: Global, kind: u8, level: u8, count: u8, used: u8) -> Option<Vec<u8>> {
-    let mut octets = Vec::new(alloc);
-    add_all(&mut octets, &[kind, 0, level, 0, 0, count, 0, used])?;
-    add(&mut octets, 0, 40)?;
-    add(&mut octets, 255, 40)?;
-    add(&mut octets, 0, 16)?;
-    add(&mut octets, 255, 16)?;
-    Some(octets)
-}
+const FROM_39: Place = Place {
+    homes: 40,
+    blocks: 4,
+    kept: 4,
+    unused: 39,
+    root: 0,
+    level: 1,
+};
 
-/// A column of one entry: stamp 0, the kind of a current leaf, and its page.
-fn first_column(alloc: Global) -> Option<Vec<u8>> {
-    let mut column = header(alloc, 2, 1, 1, 25)?;
-    add(&mut column, 0, 24)?;
-    add(&mut column, 4, 1)?;
-    Some(column)
-}
+const FROM_40: Place = Place {
+    homes: 40,
+    blocks: 4,
+    kept: 4,
+    unused: 40,
+    root: 0,
+    level: 1,
+};
 
-/// Whether a tree is created with its root in this page, `next_page` pages are used then, and `images` images are held.
-fn creates(alloc: Global, tx: &mut Tx<MemErase>, root: u64, next_page: u64, images: usize) -> bool {
-    match create(tx, alloc) {
-        Ok(place) => {
-            place.root == root
-                && place.level == 1
-                && place.least == Stamp::new(0, 0)
-                && tx.next_page() == next_page
-                && tx.images() == images
-        }
-        Err(_) => false,
-    }
-}
+/// A column of one entry, of stamp 0, the kind of a current leaf, and its page; and that leaf. Both are current nodes of all keys.
+const CREATED: &str = "C
+S3 1 5 0 2
+Y3: 2 0 1 0 0 1 0 25, Z40 F40 Z16 F16, Z24 4
+Y4: 1 0 0 0 0 0 0 0, Z40 F40 Z16 F16
+";
 
 #[test]
 fn a_column_and_its_leaf_are_set_in_the_next_two_pages(rt: HostRuntime) {
-    let alloc = rt.alloc();
-    let mut tx = begun_from(alloc, 3).expect(&rt, "a transaction");
-    be(&rt, creates(alloc, &mut tx, 3, 5, 2), "a tree");
-    let column = first_column(alloc).expect(&rt, "octets");
-    be(&rt, is_shown(&mut tx, 3, &column), "the column");
-    let leaf = header(alloc, 1, 0, 0, 0).expect(&rt, "octets");
-    be(&rt, is_shown(&mut tx, 4, &leaf), "the leaf");
+    play(&rt, rt.alloc(), &FROM_3, CREATED);
 }
 
-/// Whether no tree is created for a reason, and pages and images stay as many.
-fn refuses(alloc: Global, tx: &mut Tx<MemErase>, reason: PageError) -> bool {
-    let next_page = tx.next_page();
-    let images = tx.images();
-    create(tx, alloc).err() == Some(TreeError::Pages(reason))
-        && tx.next_page() == next_page
-        && tx.images() == images
-}
+/// No tree is created.
+const NO_PAGES: &str = "D3
+";
+
+/// A tree is, and no other.
+const TWO_PAGES: &str = "C
+S38 1 40 0 2
+D3
+";
 
 #[test]
 fn two_pages_are_needed(rt: HostRuntime) {
-    let alloc = rt.alloc();
-    for unused in 39..HOMES + 1 {
-        let mut tx = begun_from(alloc, unused).expect(&rt, "a transaction");
-        be(
-            &rt,
-            refuses(alloc, &mut tx, PageError::PagesFull),
-            "no two pages",
-        );
-    }
-    let mut tx = begun_from(alloc, 38).expect(&rt, "a transaction");
-    be(&rt, creates(alloc, &mut tx, 38, HOMES, 2), "two pages");
-    be(
-        &rt,
-        refuses(alloc, &mut tx, PageError::PagesFull),
-        "no more pages",
-    );
+    play(&rt, rt.alloc(), &FROM_39, NO_PAGES);
+    play(&rt, rt.alloc(), &FROM_40, NO_PAGES);
+    play(&rt, rt.alloc(), &FROM_38, TWO_PAGES);
 }
 
-/// A transaction with images of zeros over `count` pages.
-fn filled(alloc: Global, count: u64) -> Option<Tx<MemErase>> {
-    let mut tx = begun_from(alloc, 35)?;
-    for n in 0..count {
-        set_page(&mut tx, n, Page::new(alloc).ok()?)?;
-    }
-    Some(tx)
-}
+/// Beside 30 images there is no room for two.
+const NO_IMAGES: &str = "F0 30
+D4
+";
+
+/// Beside 29 there is.
+const TWO_IMAGES: &str = "F0 29
+C
+S35 1 37 0 31
+";
 
 #[test]
 fn a_transaction_that_is_full_takes_neither_page(rt: HostRuntime) {
-    let alloc = rt.alloc();
-    let mut tx = filled(alloc, 30).expect(&rt, "30 images");
-    be(
-        &rt,
-        refuses(alloc, &mut tx, PageError::TooManyImages),
-        "32 images",
-    );
-    let mut tx = filled(alloc, 29).expect(&rt, "29 images");
-    be(&rt, creates(alloc, &mut tx, 35, 37, 31), "31 images");
+    play(&rt, rt.alloc(), &FROM_35, NO_IMAGES);
+    play(&rt, rt.alloc(), &FROM_35, TWO_IMAGES);
 }

@@ -1,14 +1,14 @@
 //! Each call of a device that an insert makes fails once.
 
 use super::asking::has;
-use super::one_key::{row, value};
-use super::{Disks, Row, Tree, disks_of, put, state_of, takes, tree_on, write_home};
+use super::playing::{row, value};
+use super::{
+    DONE, Disks, ONCE_FAULT, PAGES_FAULT, Row, State, Tree, create_in, disks_of, put, state_of,
+    takes, tree_at, write_home,
+};
 use crate::be;
 use disk_memory::{Failure, OnceFailure, Torn};
-use once_store::AppendError;
-use page_tx::PageError;
 use std::alloc::Global;
-use tsb_tree::TreeError;
 
 /// How many versions are put, of seven keys in turn. A leaf has room for five: the sixth version splits it by key, the tenth by time,
 /// and the twelfth by both.
@@ -27,28 +27,30 @@ enum Outcome {
     Wrong,
 }
 
+/// Puts a version once more that was refused. Whether nothing was changed by that but one block spent at most, and it is taken.
+fn is_taken_then(tree: &mut Tree, key: u16, row: &Row, before: &State) -> bool {
+    let next_block = tree.shelf.next();
+    next_block <= before.next_block.saturating_add(1)
+        && state_of(tree) == before.spending(next_block)
+        && takes(tree, key, row)
+}
+
 /// Puts a version, and once more where it is refused for this reason.
-fn put_again(tree: &mut Tree, key: u16, row: &Row, reason: TreeError) -> Outcome {
+fn put_again(tree: &mut Tree, key: u16, row: &Row, reason: u64) -> Outcome {
     let before = state_of(tree);
-    match put(tree, key, *row) {
-        Some(Ok(())) => Outcome::Taken,
-        Some(Err(refusal)) => {
-            let next_block = tree.shelf.next();
-            let is_right = refusal == reason
-                && next_block <= before.next_block.saturating_add(1)
-                && state_of(tree) == before.spending(next_block);
-            if is_right && takes(tree, key, row) {
-                Outcome::Refused
-            } else {
-                Outcome::Wrong
-            }
-        }
-        None => Outcome::Wrong,
+    let outcome = put(tree, key, row);
+    if outcome == DONE {
+        return Outcome::Taken;
+    }
+    if outcome == reason && is_taken_then(tree, key, row, &before) {
+        Outcome::Refused
+    } else {
+        Outcome::Wrong
     }
 }
 
 /// Puts the versions, each into a transaction without an image. How many of them were refused once.
-fn put_all(tree: &mut Tree, reason: TreeError) -> Option<u32> {
+fn put_all(tree: &mut Tree, reason: u64) -> Option<u32> {
     let mut refused = 0u32;
     for n in 0..COUNT {
         write_home(tree)?;
@@ -72,13 +74,35 @@ fn has_all(tree: &mut Tree) -> bool {
     tree.place.level == 2
 }
 
-/// Puts the versions on disks of which one call fails. Whether one of them was refused; none where something was wrong.
-fn is_refused(alloc: Global, disks: Disks, reason: TreeError) -> Option<bool> {
-    let mut tree = tree_on(alloc, disks)?;
-    match put_all(&mut tree, reason)? {
-        // The call that fails is still to come.
+/// Creates a tree, and puts the versions. How many of them were refused once. If none was, the call that fails is still to come, and no
+/// version is looked for.
+fn create_all(tree: &mut Tree, reason: u64) -> Option<u32> {
+    if create_in(tree) != DONE {
+        return None;
+    }
+    let refused = put_all(tree, reason)?;
+    if refused == 0 || has_all(tree) {
+        Some(refused)
+    } else {
+        None
+    }
+}
+
+/// Puts the versions on disks of which one call fails. How many versions were refused once, and how many blocks are put then; none where
+/// something was wrong.
+fn played(alloc: Global, disks: Disks, reason: u64) -> Option<(u32, u64)> {
+    let mut tree = tree_at(alloc, disks, 0, 0, 1)?;
+    match create_all(&mut tree, reason) {
+        Some(refused) => Some((refused, tree.shelf.next())),
+        None => None,
+    }
+}
+
+/// Whether a version is refused on disks of which one call fails, or that call is still to come; none where something was wrong.
+fn is_refused(alloc: Global, disks: Disks, reason: u64) -> Option<bool> {
+    match played(alloc, disks, reason)?.0 {
         0 => Some(false),
-        1 if has_all(&mut tree) => Some(true),
+        1 => Some(true),
         _ => None,
     }
 }
@@ -96,9 +120,8 @@ fn failing_at_read(alloc: Global, number: u64) -> Option<Disks> {
 
 /// How many reads there are, each of which refuses a version where it fails.
 fn count_reads(alloc: Global) -> Option<u64> {
-    let reason = TreeError::Pages(PageError::Fault);
     for number in 0..1_000u64 {
-        if !is_refused(alloc, failing_at_read(alloc, number)?, reason)? {
+        if !is_refused(alloc, failing_at_read(alloc, number)?, PAGES_FAULT)? {
             return Some(number);
         }
     }
@@ -111,9 +134,6 @@ fn each_read_that_fails_refuses_the_version(rt: HostRuntime) {
     let reads = count_reads(rt.alloc()).expect(&rt, "reads");
     be(&rt, reads >= 2 * u64::from(COUNT), "two reads a version");
 }
-
-/// Why a version is refused whose block isn't put.
-const NOT_PUT: TreeError = TreeError::Once(AppendError::Fault);
 
 /// The calls of a write-once disk by which a block is put.
 #[derive(Clone, Copy)]
@@ -138,7 +158,7 @@ fn failing_at(alloc: Global, call: Putting, n: u64) -> Option<Disks> {
 /// How many blocks are put until none is refused where this call fails.
 fn count_blocks(alloc: Global, call: Putting) -> Option<u64> {
     for n in 0..100u64 {
-        if !is_refused(alloc, failing_at(alloc, call, n)?, NOT_PUT)? {
+        if !is_refused(alloc, failing_at(alloc, call, n)?, ONCE_FAULT)? {
             return Some(n);
         }
     }
@@ -147,9 +167,7 @@ fn count_blocks(alloc: Global, call: Putting) -> Option<u64> {
 
 /// How many blocks are put where no call fails.
 fn blocks(alloc: Global) -> Option<u64> {
-    let mut tree = tree_on(alloc, disks_of(alloc, 40, 40))?;
-    put_all(&mut tree, NOT_PUT)?;
-    Some(tree.shelf.next())
+    Some(played(alloc, disks_of(alloc, 40, 40), ONCE_FAULT)?.1)
 }
 
 #[test]

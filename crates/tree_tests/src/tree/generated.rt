@@ -2,8 +2,8 @@
 
 use super::asking::has;
 use super::plain::{Plain, has_all, is_alike};
-use super::{Octets, Row, Tree, disks_of, takes, tree_on, write_home};
-use crate::be;
+use super::playing::{Place, Stage, play};
+use super::{Octets, Row, Tree, takes, write_home};
 use page_tx::Pages;
 use version_model::Stamp;
 
@@ -102,28 +102,32 @@ pub(super) fn put_both(tree: &mut Tree, plain: &mut Plain, key: u16, row: &Row) 
     plain.put(key, *row)
 }
 
-/// Puts versions into both. Whether each is found at its stamp.
-fn are_put(tree: &mut Tree, plain: &mut Plain, dice: &mut Dice, keys: Keys) -> Option<bool> {
-    for n in 0..VERSIONS {
-        let key = keys.pick(n, dice);
-        let row = (dice.next_stamp(), dice.value());
-        put_both(tree, plain, key, &row)?;
-        let expected = row.1.map(|value| (row.0, value));
-        if !has(tree, key, row.0, expected) {
-            return Some(false);
-        }
-    }
-    Some(true)
+/// Puts the n-th version into both. Whether it is found at its stamp.
+fn is_put(stage: &mut Stage, keys: Keys, n: u64) -> bool {
+    let key = keys.pick(n, &mut stage.dice);
+    let row = (stage.dice.next_stamp(), stage.dice.value());
+    let expected = row.1.map(|value| (row.0, value));
+    put_both(&mut stage.tree, &mut stage.plain, key, &row).is_some()
+        && has(&mut stage.tree, key, row.0, expected)
 }
 
-/// Asks for keys and stamps, and for all versions of some keys. Whether both answer alike.
-fn are_alike(tree: &mut Tree, plain: &Plain, dice: &mut Dice, keys: Keys) -> bool {
-    for n in 0..QUESTIONS {
-        let key = dice.key(keys.count);
-        if !is_alike(tree, plain, key, dice.stamp()) {
+/// Asks for a key and a stamp, and each tenth time for all versions of the key. Whether both answer alike.
+fn is_asked(stage: &mut Stage, keys: Keys, n: u64) -> bool {
+    let key = stage.dice.key(keys.count);
+    let stamp = stage.dice.stamp();
+    is_alike(&mut stage.tree, &stage.plain, key, stamp)
+        && (n % 10 > 0 || has_all(&mut stage.tree, &stage.plain, key))
+}
+
+/// Puts versions into both, and asks.
+fn is_round(stage: &mut Stage, keys: Keys) -> bool {
+    for n in 0..VERSIONS {
+        if !is_put(stage, keys, n) {
             return false;
         }
-        if n % 10 == 0 && !has_all(tree, plain, key) {
+    }
+    for n in 0..QUESTIONS {
+        if !is_asked(stage, keys, n) {
             return false;
         }
     }
@@ -131,58 +135,45 @@ fn are_alike(tree: &mut Tree, plain: &Plain, dice: &mut Dice, keys: Keys) -> boo
 }
 
 /// Puts versions into a tree and into plain lists and asks, in turn, `times` times.
-pub(super) fn run(
-    tree: &mut Tree,
-    plain: &mut Plain,
-    dice: &mut Dice,
-    keys: Keys,
-    times: u32,
-) -> bool {
+pub(super) fn run(stage: &mut Stage, keys: Keys, times: u64) -> bool {
     for _ in 0..times {
-        if are_put(tree, plain, dice, keys) != Some(true) || !are_alike(tree, plain, dice, keys) {
+        if !is_round(stage, keys) {
             return false;
         }
     }
     true
 }
 
-/// Puts versions of these keys into a tree of none, and asks.
-fn grows(tree: &mut Tree, keys: Keys) -> Option<bool> {
-    let mut plain = Plain::new(tree.alloc, u16::try_from(keys.count).ok()?)?;
-    let mut dice = DICE;
-    Some(run(tree, &mut plain, &mut dice, keys, 5))
-}
+/// Room for all versions.
+const LARGE: Place = Place {
+    homes: 4_096,
+    blocks: 65_536,
+    kept: 4_096,
+    unused: 0,
+    root: 0,
+    level: 1,
+};
+
+/// Twelve keys, any of which takes the next version; there is one level of key nodes then.
+const FEW_KEYS: &str = "C
+L12
+G12 12 1, 5
+SN 2 N N N
+";
 
 #[test]
 fn many_versions_of_few_keys_are_those_of_plain_lists(rt: HostRuntime) {
-    let keys = Keys {
-        count: 12,
-        near: 12,
-        step: 1,
-    };
-    let disks = disks_of(rt.alloc(), 4_096, 65_536);
-    let mut tree = tree_on(rt.alloc(), disks).expect(&rt, "a tree");
-    be(
-        &rt,
-        grows(&mut tree, keys) == Some(true),
-        "versions of few keys",
-    );
-    be(&rt, tree.place.level == 2, "one level of key nodes");
+    play(&rt, rt.alloc(), &LARGE, FEW_KEYS);
 }
+
+/// 16,384 keys, any of 64 in turn; there are key nodes then.
+const MANY_KEYS: &str = "C
+L16384
+G16384 64 1, 5
+SN M1 N N N
+";
 
 #[test]
 fn versions_of_many_keys_are_those_of_plain_lists(rt: HostRuntime) {
-    let keys = Keys {
-        count: 16_384,
-        near: 64,
-        step: 1,
-    };
-    let disks = disks_of(rt.alloc(), 4_096, 65_536);
-    let mut tree = tree_on(rt.alloc(), disks).expect(&rt, "a tree");
-    be(
-        &rt,
-        grows(&mut tree, keys) == Some(true),
-        "versions of many keys",
-    );
-    be(&rt, tree.place.level > 1, "key nodes");
+    play(&rt, rt.alloc(), &LARGE, MANY_KEYS);
 }

@@ -1,8 +1,8 @@
 //! One column is split by time so often that its page has no room for its parts.
 
 use super::asking::{count_versions, has};
-use super::{Octets, Tree, disks_of, is_at, takes, tree_on};
-use crate::be;
+use super::playing::{Place, play};
+use super::{Octets, Tree, takes};
 use version_model::Stamp;
 
 /// The key that takes versions.
@@ -42,18 +42,31 @@ fn are_found(tree: &mut Tree) -> bool {
             return false;
         }
     }
-    count_versions(tree, KEY) == Some(COUNT as usize)
+    count_versions(tree, KEY) == COUNT as usize
 }
+
+/// Whether the versions are taken and found.
+pub(super) fn is_split_often(tree: &mut Tree) -> bool {
+    are_taken(tree) && are_found(tree)
+}
+
+/// Two home pages, and more blocks than are burnt.
+const ONE_COLUMN: Place = Place {
+    homes: 2,
+    blocks: 800,
+    kept: 4_096,
+    unused: 0,
+    root: 0,
+    level: 1,
+};
+
+/// 700 splits burn 701 blocks, and use no page more.
+const SPLITS: &str = "C
+Q
+S0 1 2 701 N
+";
 
 #[test]
 fn seven_hundred_splits_of_a_column_burn_one_block_more(rt: HostRuntime) {
-    let disks = disks_of(rt.alloc(), 2, 800);
-    let mut tree = tree_on(rt.alloc(), disks).expect(&rt, "a tree");
-    be(&rt, are_taken(&mut tree), "700 splits");
-    be(
-        &rt,
-        is_at(&tree, 0, 1, 2, 701),
-        "701 blocks, and no page more",
-    );
-    be(&rt, are_found(&mut tree), "all versions");
+    play(&rt, rt.alloc(), &ONE_COLUMN, SPLITS);
 }

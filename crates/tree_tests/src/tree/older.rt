@@ -1,8 +1,8 @@
 //! A tree of the earlier form: a column has at most one part in its page, and the block of a column has two.
 
 use super::plain::{Plain, has_all, is_alike};
-use super::{Row, Tree, disks_of, is_at, lay, takes, tree_at};
-use crate::be;
+use super::playing::{Place, Stage, play};
+use super::{Row, Tree, lay, takes};
 use crate::memory::burn;
 use crate::octets::{ALL, COLUMN, CURRENT, LEAF, Part, Times, Version, column, leaf};
 use std::alloc::Global;
@@ -11,9 +11,6 @@ use version_model::Stamp;
 
 /// The time of the last version.
 const LAST: u8 = 20;
-
-/// How many blocks the past takes: six of leaves, and one of a column for each but the first.
-const BLOCKS: u64 = 11;
 
 /// How many keys are asked for: some have no version.
 const KEYS: u16 = 16;
@@ -82,47 +79,49 @@ fn lay_leaf(tree: &mut Tree) -> Option<()> {
     lay(tree, 1, &octets)
 }
 
-/// A tree of the earlier form.
-fn older(alloc: Global) -> Option<Tree> {
-    let mut tree = tree_at(alloc, disks_of(alloc, 40, 64), 2, 0, 1)?;
-    lay_column(&mut tree)?;
-    lay_leaf(&mut tree)?;
+/// Lays a tree of the earlier form, and opens it.
+fn lay_tree(tree: &mut Tree) -> Option<()> {
+    lay_column(tree)?;
+    lay_leaf(tree)?;
     tree.place = open(&mut tree.tx, 0, Stamp::new(u64::from(LAST), 1)).ok()?;
-    Some(tree)
+    Some(())
 }
 
-/// The versions of that tree.
-fn older_versions(alloc: Global) -> Option<Plain> {
-    let mut plain = Plain::new(alloc, KEYS)?;
+/// Puts the versions of that tree into plain lists.
+fn put_older(plain: &mut Plain) -> Option<()> {
     for time in 1..21u8 {
         let (key, time, value) = version_at(time);
         let row = (Stamp::new(u64::from(time), 0), Some((1, value)));
         plain.put(u16::from(key), row)?;
     }
-    Some(plain)
+    Some(())
 }
 
-/// Whether a tree answers as plain lists do, each key at each time below one.
-fn is_plain(tree: &mut Tree, plain: &Plain, times: u64) -> bool {
-    for key in 0..KEYS {
-        for time in 0..times {
-            if !is_alike(tree, plain, key, Stamp::new(time, 0)) {
-                return false;
-            }
+/// Lays that tree, and puts its versions into plain lists.
+pub(super) fn lay_older(stage: &mut Stage) -> Option<()> {
+    stage.plain = Plain::new(stage.tree.alloc, KEYS)?;
+    lay_tree(&mut stage.tree)?;
+    put_older(&mut stage.plain)
+}
+
+/// Whether a tree answers as plain lists do, a key at each time below one, and all its versions.
+fn is_key_plain(stage: &mut Stage, key: u16, times: u64) -> bool {
+    for time in 0..times {
+        if !is_alike(&mut stage.tree, &stage.plain, key, Stamp::new(time, 0)) {
+            return false;
         }
-        if !has_all(tree, plain, key) {
+    }
+    has_all(&mut stage.tree, &stage.plain, key)
+}
+
+/// Whether that is so of each key.
+pub(super) fn is_plain(stage: &mut Stage, times: u64) -> bool {
+    for key in 0..KEYS {
+        if !is_key_plain(stage, key, times) {
             return false;
         }
     }
     true
-}
-
-#[test]
-fn a_tree_of_the_earlier_form_is_asked(rt: HostRuntime) {
-    let plain = older_versions(rt.alloc()).expect(&rt, "versions");
-    let mut tree = older(rt.alloc()).expect(&rt, "a tree");
-    be(&rt, is_at(&tree, 0, 1, 2, BLOCKS), "its blocks");
-    be(&rt, is_plain(&mut tree, &plain, 23), "what it answers");
 }
 
 /// The version of a time after those of the earlier form: of the largest size, of one of `keys` keys in turn.
@@ -133,35 +132,60 @@ fn large_at(time: u64, keys: u64) -> (u16, Row) {
 }
 
 /// Puts versions of the largest size into a tree and into plain lists, of `keys` keys in turn, up to a time.
-fn put_large(tree: &mut Tree, plain: &mut Plain, keys: u64, end: u64) -> Option<()> {
-    for time in tree.place.least.time().saturating_add(1)..end {
+pub(super) fn put_large(stage: &mut Stage, keys: u64, end: u64) -> Option<()> {
+    for time in stage.tree.place.least.time().saturating_add(1)..end {
         let (key, row) = large_at(time, keys);
-        if !takes(tree, key, &row) {
+        if !takes(&mut stage.tree, key, &row) {
             return None;
         }
-        plain.put(key, row)?;
+        stage.plain.put(key, row)?;
     }
     Some(())
 }
 
-// Beside four versions of the earlier form the leaf has room for five of the largest size.
+/// Where the tree is laid: its column in page 0 and its leaf in page 1.
+const LAID: Place = Place {
+    homes: 40,
+    blocks: 64,
+    kept: 4_096,
+    unused: 2,
+    root: 0,
+    level: 1,
+};
+
+/// The past takes eleven blocks: six of leaves, and one of a column for each but the first.
+const ASKED: &str = "N
+S0 1 2 11 N
+V23
+";
+
 #[test]
-fn it_is_split_by_time_with_nothing_rewritten(rt: HostRuntime) {
-    let mut plain = older_versions(rt.alloc()).expect(&rt, "versions");
-    let mut tree = older(rt.alloc()).expect(&rt, "a tree");
-    let fit = put_large(&mut tree, &mut plain, 1, 26).is_some();
-    be(&rt, fit && is_at(&tree, 0, 1, 2, BLOCKS), "five versions");
-    let split = put_large(&mut tree, &mut plain, 1, 27).is_some();
-    be(&rt, split && is_at(&tree, 0, 1, 2, BLOCKS + 1), "the sixth");
-    be(&rt, is_plain(&mut tree, &plain, 28), "what it answers");
+fn a_tree_of_the_earlier_form_is_asked(rt: HostRuntime) {
+    play(&rt, rt.alloc(), &LAID, ASKED);
 }
 
-// Eleven keys don't fit one leaf.
+/// Beside four versions of the earlier form the leaf has room for five of the largest size; the sixth burns a block.
+const SPLIT_BY_TIME: &str = "N
+W1 26
+S0 1 2 11 N
+W1 27
+S0 1 2 12 N
+V28
+";
+
+#[test]
+fn it_is_split_by_time_with_nothing_rewritten(rt: HostRuntime) {
+    play(&rt, rt.alloc(), &LAID, SPLIT_BY_TIME);
+}
+
+/// Eleven keys don't fit one leaf.
+const SPLIT_BY_KEY: &str = "N
+W11 61
+SN 2 N N N
+V62
+";
+
 #[test]
 fn it_is_split_by_key_and_both_halves_have_its_past(rt: HostRuntime) {
-    let mut plain = older_versions(rt.alloc()).expect(&rt, "versions");
-    let mut tree = older(rt.alloc()).expect(&rt, "a tree");
-    let split = put_large(&mut tree, &mut plain, 11, 61).is_some();
-    be(&rt, split && tree.place.level == 2, "a split by key");
-    be(&rt, is_plain(&mut tree, &plain, 62), "what it answers");
+    play(&rt, rt.alloc(), &LAID, SPLIT_BY_KEY);
 }

@@ -1,129 +1,88 @@
-//! One key takes versions of the largest size, until its leaf is split by time.
+//! One key takes versions of the largest size, until its leaf is split by time. The n-th version has the stamp (n, n) and 3,072 octets n:
+//! five of 3,131 octets have room in a leaf of 16,232, so the sixth burns a block.
 
-use super::asking::{are_parts, are_versions, has};
-use super::{Octets, Row, Tree, disks_of, refuses, takes, tree_on};
-use crate::{be, be_at};
-use std::alloc::Global;
-use tsb_tree::TreeError;
-use version_model::Stamp;
+use super::playing::{NO_TREE, play};
 
-/// The key that takes versions.
-const KEY: u16 = 7;
-
-/// The value of the largest size at the stamp (n, n): octets n.
-pub(super) fn value(n: u8) -> (Stamp, Octets) {
-    (Stamp::new(u64::from(n), u64::from(n)), (3_072, n))
-}
-
-/// The version that begins it.
-pub(super) fn row(n: u8) -> Row {
-    let (stamp, octets) = value(n);
-    (stamp, Some(octets))
-}
-
-/// The first `count` of these versions.
-fn rows_to(alloc: Global, count: u8) -> Option<Vec<Row>> {
-    let mut rows = Vec::new(alloc);
-    for n in 0..count {
-        rows.push(row(n.saturating_add(1))).ok()?;
-    }
-    Some(rows)
-}
-
-/// Whether a key has the first `count` of these versions, and no other one.
-pub(super) fn has_versions(tree: &mut Tree, key: u16, count: u8) -> bool {
-    match rows_to(tree.alloc, count) {
-        Some(rows) => are_versions(tree, key, &rows),
-        None => false,
-    }
-}
-
-/// Puts the n-th version, before which no block was burnt.
-fn takes_first(tree: &mut Tree, n: u8) -> bool {
-    tree.shelf.next() == 0 && takes(tree, KEY, &row(n))
-}
-
-/// A tree whose key has six versions. Five of 3,131 octets have room in a leaf of 16,232, so the sixth burns a block.
-fn tree_of_six(alloc: Global) -> Option<Tree> {
-    let mut tree = tree_on(alloc, disks_of(alloc, 40, 16))?;
-    for n in 1..7u8 {
-        if !takes_first(&mut tree, n) {
-            return None;
-        }
-    }
-    if tree.shelf.next() == 1 {
-        Some(tree)
-    } else {
-        None
-    }
-}
+/// Six versions; each is found at its stamp, none before the first and of another key.
+const FOUND: &str = "C
+I7 1 5
+SN N N 0 N
+I7 6 6
+SN N N 1 N
+H7 1.1 1
+H7 2.2 2
+H7 3.3 3
+H7 4.4 4
+H7 5.5 5
+H7 6.6 6
+H7 0.9 0
+H8 6.6 0
+";
 
 #[test]
 fn each_version_is_found_at_its_stamp(rt: HostRuntime) {
-    let mut tree = tree_of_six(rt.alloc()).expect(&rt, "six versions");
-    for n in 1..7u8 {
-        let expected = value(n);
-        be_at(
-            &rt,
-            has(&mut tree, KEY, expected.0, Some(expected)),
-            "a value",
-            u64::from(n),
-        );
-    }
-    be(
-        &rt,
-        has(&mut tree, KEY, Stamp::new(0, 9), None),
-        "before the first",
-    );
-    be(
-        &rt,
-        has(&mut tree, 8, Stamp::new(6, 6), None),
-        "another key",
-    );
+    play(&rt, rt.alloc(), &NO_TREE, FOUND);
 }
+
+/// Six versions, and all of them.
+const ALL: &str = "C
+I7 1 5
+SN N N 0 N
+I7 6 6
+SN N N 1 N
+A7 1 6
+";
 
 #[test]
 fn all_versions_are_reported(rt: HostRuntime) {
-    let mut tree = tree_of_six(rt.alloc()).expect(&rt, "six versions");
-    be(&rt, has_versions(&mut tree, KEY, 6), "all versions");
+    play(&rt, rt.alloc(), &NO_TREE, ALL);
 }
 
-// The first part has the five versions of the block, and both have six.
+/// Six versions: the first part has the five of the block, and the second the sixth.
+const PARTS: &str = "C
+I7 1 5
+SN N N 0 N
+I7 6 6
+SN N N 1 N
+P7 0.9 1 5 6.6
+P7 6.6 6 6
+";
+
 #[test]
 fn all_versions_are_reported_part_by_part(rt: HostRuntime) {
-    let mut tree = tree_of_six(rt.alloc()).expect(&rt, "six versions");
-    let rows = rows_to(rt.alloc(), 6).expect(&rt, "rows");
-    let early = Stamp::new(0, 9);
-    let are_parts = are_parts(&mut tree, KEY, early, &rows, Stamp::new(6, 6));
-    be(&rt, are_parts == Some(true), "both parts");
+    play(&rt, rt.alloc(), &NO_TREE, PARTS);
 }
 
-// No stamp up to the sixth is taken, and the next one is.
+/// Six versions: no stamp up to the sixth is taken, and the next one is.
+const GIVEN: &str = "C
+I7 1 5
+SN N N 0 N
+I7 6 6
+SN N N 1 N
+R1 7 6.6 1 9 1
+R1 7 6.5 1 9 1
+R1 7 0.0 1 9 1
+A7 1 6
+T7 6.7 1 9
+";
+
 #[test]
 fn a_stamp_that_was_given_is_refused_and_changes_nothing(rt: HostRuntime) {
-    let mut tree = tree_of_six(rt.alloc()).expect(&rt, "six versions");
-    let octets = Some((1, 9));
-    for stamp in [Stamp::new(6, 6), Stamp::new(6, 5), Stamp::new(0, 0)] {
-        let is_refused = refuses(&mut tree, KEY, &(stamp, octets), TreeError::StampBack);
-        be_at(&rt, is_refused, "a stamp that goes back", stamp.order());
-    }
-    be(&rt, has_versions(&mut tree, KEY, 6), "the versions");
-    be(
-        &rt,
-        takes(&mut tree, KEY, &(Stamp::new(6, 7), octets)),
-        "the next stamp",
-    );
+    play(&rt, rt.alloc(), &NO_TREE, GIVEN);
 }
+
+/// Six versions and an end, at and before which the key is asked for.
+const ENDED: &str = "C
+I7 1 5
+SN N N 0 N
+I7 6 6
+SN N N 1 N
+E7 7.7
+H7 7.7 0
+H7 6.9 6
+";
 
 #[test]
 fn a_key_that_ended_has_no_value(rt: HostRuntime) {
-    let mut tree = tree_of_six(rt.alloc()).expect(&rt, "six versions");
-    let end = Stamp::new(7, 7);
-    be(&rt, takes(&mut tree, KEY, &(end, None)), "an end");
-    be(&rt, has(&mut tree, KEY, end, None), "no value");
-    be(
-        &rt,
-        has(&mut tree, KEY, Stamp::new(6, 9), Some(value(6))),
-        "the value before",
-    );
+    play(&rt, rt.alloc(), &NO_TREE, ENDED);
 }

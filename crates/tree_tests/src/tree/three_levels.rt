@@ -1,9 +1,8 @@
 //! A tree of two levels of key nodes becomes one of three, and takes many versions.
 
-use super::generated::{DICE, Dice, Keys, put_both, run};
-use super::plain::Plain;
-use super::{Tree, disks_of, lay, tree_at, write_home};
-use crate::be;
+use super::generated::put_both;
+use super::playing::{Place, Stage, play};
+use super::{Tree, lay, write_home};
 use crate::octets::{ALL, CHILDREN, CURRENT, PLACE, Span, Times, column, key_node, leaf};
 use page_tx::Pages;
 
@@ -12,9 +11,6 @@ const NARROW: u16 = 16;
 
 /// How many keys each other child of the root has, in one column.
 const BROAD: u16 = 32;
-
-/// How many keys there are below the last column's end, which is that of all keys.
-const KEYS: u16 = 16_192;
 
 /// The root is in page 0, its children are after it, and columns from this page on.
 const COLUMNS: u64 = 339;
@@ -122,7 +118,7 @@ fn child_of_root(child: u16) -> Lowest {
 }
 
 /// Sets the pages of a tree of no version whose root, of level 3, is full, and so is its first child.
-fn lay_nodes(tree: &mut Tree) -> Option<()> {
+pub(super) fn lay_nodes(tree: &mut Tree) -> Option<()> {
     let mut children = Vec::new(tree.alloc);
     for child in 0..CHILDREN {
         let node = child_of_root(child);
@@ -135,46 +131,35 @@ fn lay_nodes(tree: &mut Tree) -> Option<()> {
 }
 
 /// Puts six versions of the largest size, for which one leaf hasn't room: a column becomes two, and so do all key nodes above it.
-fn put_six(tree: &mut Tree, plain: &mut Plain, dice: &mut Dice) -> Option<()> {
+pub(super) fn put_six(stage: &mut Stage) -> Option<()> {
     for key in 0..6u16 {
-        let row = (dice.next_stamp(), Some((3_072, 1)));
-        put_both(tree, plain, key, &row)?;
+        let row = (stage.dice.next_stamp(), Some((3_072, 1)));
+        put_both(&mut stage.tree, &mut stage.plain, key, &row)?;
     }
     Some(())
 }
 
-/// Which keys take versions.
-const NEAR: Keys = Keys {
-    count: KEYS as u64,
-    near: 64,
-    step: 2,
+/// The pages of the key nodes, and two for each column, are used, and the root is of level 3.
+const THREE_LEVELS: Place = Place {
+    homes: 4_096,
+    blocks: 65_536,
+    kept: 4_096,
+    unused: USED,
+    root: 0,
+    level: 3,
 };
+
+/// Six versions make a level more, of five pages. Then any of 64 of 16,192 keys take versions in turn: as many keys lie below the last
+/// column's end, which is that of all keys.
+const LEVELS: &str = "M
+L16192
+B
+SN 4 1694 N N
+G16192 64 2, 4
+SN N N M0 N
+";
 
 #[test]
 fn versions_below_three_levels_of_key_nodes_are_those_of_plain_lists(rt: HostRuntime) {
-    let disks = disks_of(rt.alloc(), 4_096, 65_536);
-    let mut tree = tree_at(rt.alloc(), disks, USED, 0, 3).expect(&rt, "a tree");
-    let mut plain = Plain::new(rt.alloc(), KEYS).expect(&rt, "lists");
-    let mut dice = DICE;
-    be(
-        &rt,
-        lay_nodes(&mut tree).is_some(),
-        "two levels of key nodes",
-    );
-    be(
-        &rt,
-        put_six(&mut tree, &mut plain, &mut dice).is_some(),
-        "six versions",
-    );
-    be(
-        &rt,
-        tree.place.level == 4 && tree.tx.next_page() == USED + 5,
-        "a level more",
-    );
-    be(
-        &rt,
-        run(&mut tree, &mut plain, &mut dice, NEAR, 4),
-        "many versions",
-    );
-    be(&rt, tree.shelf.next() > 0, "blocks");
+    play(&rt, rt.alloc(), &THREE_LEVELS, LEVELS);
 }

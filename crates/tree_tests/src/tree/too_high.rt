@@ -1,13 +1,9 @@
 //! A tree of the greatest height, whose key nodes are full.
 
-use super::asking::has;
-use super::one_key::{row, value};
-use super::{Tree, disks_of, is_at, lay, refuses, takes, tree_at};
-use crate::be;
+use super::playing::{Place, play};
+use super::{Tree, lay};
 use crate::octets::{ALL, CHILDREN, CURRENT, Span, Times, column, key_node, leaf};
 use std::alloc::Global;
-use tsb_tree::TreeError;
-use version_model::Stamp;
 
 /// Where the octets are in which the children of a key node of this level differ: the higher the level, the further ahead.
 fn place_of(level: u8) -> usize {
@@ -51,53 +47,65 @@ fn lay_key_node(tree: &mut Tree, level: u8, span: Span) -> Option<()> {
     lay(tree, u64::from(level), &octets)
 }
 
-/// A tree whose root is of this level: the node of each level is the first child of the one above it, and all key nodes are full.
-fn tree_of_nodes(alloc: Global, root: u8) -> Option<Tree> {
-    let mut tree = tree_at(alloc, disks_of(alloc, 40, 4), 8, u64::from(root), root)?;
-    lay_column(&mut tree, span_of(1, root))?;
+/// Lays the nodes of a tree whose root is of this level: the node of each level is the first child of the one above it, and all key nodes
+/// are full.
+pub(super) fn lay_full_nodes(tree: &mut Tree, root: u8) -> Option<()> {
+    lay_column(tree, span_of(1, root))?;
     for level in 2..root.saturating_add(1) {
-        lay_key_node(&mut tree, level, span_of(level, root))?;
+        lay_key_node(tree, level, span_of(level, root))?;
     }
-    Some(tree)
+    Some(())
 }
 
-/// That tree with a version for each of the keys 1 to 5, so that the leaf is full.
-fn full_tree(alloc: Global, root: u8) -> Option<Tree> {
-    let mut tree = tree_of_nodes(alloc, root)?;
-    for n in 1..6u8 {
-        if !takes(&mut tree, u16::from(n), &row(n)) {
-            return None;
-        }
-    }
-    Some(tree)
-}
+/// Roots of level 7 and 6, in the pages with these numbers.
+const HIGHEST: Place = Place {
+    homes: 40,
+    blocks: 4,
+    kept: 4_096,
+    unused: 8,
+    root: 7,
+    level: 7,
+};
 
-/// Whether the keys from 1 to below one have their versions.
-fn has_keys(tree: &mut Tree, end: u8) -> bool {
-    for n in 1..end {
-        if !has(tree, u16::from(n), Stamp::new(9, 9), Some(value(n))) {
-            return false;
-        }
-    }
-    true
-}
+const LOWER: Place = Place {
+    homes: 40,
+    blocks: 4,
+    kept: 4_096,
+    unused: 8,
+    root: 6,
+    level: 6,
+};
+
+/// A version for each of the keys 1 to 5, so that the leaf is full; the sixth key is refused.
+const HIGHEST_TREE: &str = "U7
+J1 5
+R5 6 6.6 3072 6 0
+H1 9.9 1
+H2 9.9 2
+H3 9.9 3
+H4 9.9 4
+H5 9.9 5
+";
 
 #[test]
 fn a_seventh_level_of_key_nodes_is_refused(rt: HostRuntime) {
-    let mut tree = full_tree(rt.alloc(), 7).expect(&rt, "a full tree");
-    be(
-        &rt,
-        refuses(&mut tree, 6, &row(6), TreeError::TooHigh),
-        "a sixth key",
-    );
-    be(&rt, has_keys(&mut tree, 6), "the five keys");
+    play(&rt, rt.alloc(), &HIGHEST, HIGHEST_TREE);
 }
 
-// The sixth key makes a level more: two pages are the column's other half, one is each key node's, and one the root's.
+/// The sixth key makes a level more: two pages are the column's other half, one is each key node's, and one the root's.
+const LOWER_TREE: &str = "U6
+J1 5
+J6 6
+S15 7 16 0 N
+H1 9.9 1
+H2 9.9 2
+H3 9.9 3
+H4 9.9 4
+H5 9.9 5
+H6 9.9 6
+";
+
 #[test]
 fn a_sixth_level_of_key_nodes_is_not(rt: HostRuntime) {
-    let mut tree = full_tree(rt.alloc(), 6).expect(&rt, "a full tree");
-    be(&rt, takes(&mut tree, 6, &row(6)), "a sixth key");
-    be(&rt, is_at(&tree, 15, 7, 16, 0), "a root of level 7");
-    be(&rt, has_keys(&mut tree, 7), "six keys");
+    play(&rt, rt.alloc(), &LOWER, LOWER_TREE);
 }
