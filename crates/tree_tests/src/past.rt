@@ -95,36 +95,36 @@ fn a_version_from_after_the_end_of_its_block_counts_for_nothing(rt: HostRuntime)
 
 /// Places that ask for something else, by each lookup, and the block that is reported as damaged.
 const DAMAGED: &str = "# another kind, and more keys than the block has
-E1 4 9 300, 3 2.0: D4
-N1 4 9 300, 3 2.0: D4
-P1 4 9 300, 3 2.0: D4
-E2 0 9 300, 3 2.0: D0
-N2 0 9 300, 3 2.0: D0
-P2 0 9 300, 3 2.0: D0
-E2 4 10 300, 3 2.0: D4
-N2 4 10 300, 3 2.0: D4
-P2 4 10 300, 3 2.0: D4
+E1 4 9 300, 3 2.0: D 4
+N1 4 9 300, 3 2.0: D 4
+P1 4 9 300, 3 2.0: D 4
+E2 0 9 300, 3 2.0: D 0
+N2 0 9 300, 3 2.0: D 0
+P2 0 9 300, 3 2.0: D 0
+E2 4 10 300, 3 2.0: D 4
+N2 4 10 300, 3 2.0: D 4
+P2 4 10 300, 3 2.0: D 4
 # another start, and another end
-E1 0 9 300, 3 2.0: D0
-N1 0 9 300, 3 2.0: D0
-P1 0 9 300, 3 2.0: D0
-E1 1 9 300, 3 2.0: D1
-N1 1 9 300, 3 2.0: D1
-P1 1 9 300, 3 2.0: D1
+E1 0 9 300, 3 2.0: D 0
+N1 0 9 300, 3 2.0: D 0
+P1 0 9 300, 3 2.0: D 0
+E1 1 9 300, 3 2.0: D 1
+N1 1 9 300, 3 2.0: D 1
+P1 1 9 300, 3 2.0: D 1
 # a column in its own block, and one in a block of a higher number
-E2 5 9 300, 3 2.0: D5
-N2 5 9 300, 3 2.0: D5
-P2 5 9 300, 3 2.0: D5
-E2 6 9 300, 3 2.0: D6
-N2 6 9 300, 3 2.0: D6
-P2 6 9 300, 3 2.0: D6
+E2 5 9 300, 3 2.0: D 5
+N2 5 9 300, 3 2.0: D 5
+P2 5 9 300, 3 2.0: D 5
+E2 6 9 300, 3 2.0: D 6
+N2 6 9 300, 3 2.0: D 6
+P2 6 9 300, 3 2.0: D 6
 # a leaf without a digest, by way of a column; a block that the disk hasn't
-E2 8 9 300, 3 2.0: D7
-N2 8 9 300, 3 2.0: D7
-P2 8 9 300, 3 2.0: D7
-E2 99 9 300, 3 2.0: D99
-N2 99 9 300, 3 2.0: D99
-P2 99 9 300, 3 2.0: D99
+E2 8 9 300, 3 2.0: D 7
+N2 8 9 300, 3 2.0: D 7
+P2 8 9 300, 3 2.0: D 7
+E2 99 9 300, 3 2.0: D 99
+N2 99 9 300, 3 2.0: D 99
+P2 99 9 300, 3 2.0: D 99
 # fewer keys than the block has
 N2 4 5 300, 4 2.0: I4 0.0 300.0 5 P5
 ";

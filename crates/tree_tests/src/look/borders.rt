@@ -44,35 +44,35 @@ fn the_next_key_is_reported_at_each_border(rt: HostRuntime) {
 
 /// A key and a stamp, the block where its versions are, up to when they are all, and the versions.
 const PARTS: &str = "# in the first part of the past
-R3 0.0: I0 U100.0 V1.0 O160
-R3 1.0: I0 U100.0 V1.0 O160
-R3 1.1: I0 U100.0
-R3 99.18446744073709551615: I0 U100.0
-R5 0.0: I0 U100.0 V50.0 O161 V99.0 N
-R5 50.0: I0 U100.0 V50.0 O161 V99.0 N
-R5 50.1: I0 U100.0 V99.0 N
-R5 99.0: I0 U100.0 V99.0 N
-R5 99.1: I0 U100.0
-R0 0.0: I0 U100.0
-R7 99.0: I0 U100.0
+R 3 0.0: I0 U100.0 V1.0 O160
+R 3 1.0: I0 U100.0 V1.0 O160
+R 3 1.1: I0 U100.0
+R 3 99.18446744073709551615: I0 U100.0
+R 5 0.0: I0 U100.0 V50.0 O161 V99.0 N
+R 5 50.0: I0 U100.0 V50.0 O161 V99.0 N
+R 5 50.1: I0 U100.0 V99.0 N
+R 5 99.0: I0 U100.0 V99.0 N
+R 5 99.1: I0 U100.0
+R 0 0.0: I0 U100.0
+R 7 99.0: I0 U100.0
 # in the two leaves of the second one: the first has a copy of key three's value
-R3 100.0: I3 U199.0 V150.0 O170
-R3 150.1: I3 U199.0
-R6 198.18446744073709551615: I3 U199.0
-R6 199.0: I3 U200.5 V199.0 O171
-R3 199.0: I3 U200.5
-R3 200.4: I3 U200.5
+R 3 100.0: I3 U199.0 V150.0 O170
+R 3 150.1: I3 U199.0
+R 6 198.18446744073709551615: I3 U199.0
+R 6 199.0: I3 U200.5 V199.0 O171
+R 3 199.0: I3 U200.5
+R 3 200.4: I3 U200.5
 # in the current leaf
-R3 200.5: V400.0 N
-R3 400.1:
-R5 200.5: V300.0 O187
-R6 200.5:
+R 3 200.5: V400.0 N
+R 3 400.1:
+R 5 200.5: V300.0 O187
+R 6 200.5:
 # in the second column, and in the last one
-R8 0.0: V10.0 O1 V50.0 N
-R8 11.0: V50.0 N
-R14 20.0: V20.0 O2
-R14 20.1:
-R15 0.0: V30.0 O3
+R 8 0.0: V10.0 O1 V50.0 N
+R 8 11.0: V50.0 N
+R 14 20.0: V20.0 O2
+R 14 20.1:
+R 15 0.0: V30.0 O3
 ";
 
 #[test]

@@ -128,23 +128,23 @@ const COLUMNS: &str = "# the first part: its start, its kind and its number
 O6 127, 0 300.0: K3 150.0 O170
 O6 135, 0 300.0: K3 150.0 O170
 O6 136, 0 300.0: K3 150.0 O170
-O6 137, 0 1.0: D72057594037927936
-O6 144, 0 1.0: D1
+O6 137, 0 1.0: D 72057594037927936
+O6 144, 0 1.0: D 1
 O6 144, 0 300.0: K3 150.0 O170
 # the second part: where it starts the first one ends
-O6 152, 0 1.0: D0
-O6 152, 0 100.0: D0
-O6 152, 0 101.0: D3
-O6 160, 0 100.0: D0
-O6 160, 0 100.1: D3
+O6 152, 0 1.0: D 0
+O6 152, 0 100.0: D 0
+O6 152, 0 101.0: D 3
+O6 160, 0 100.0: D 0
+O6 160, 0 100.1: D 3
 O6 161, 0 1.0: I0 0.0 100.0 8 K3 1.0 O160
-O6 169, 0 100.0: D2
+O6 169, 0 100.0: D 2
 O6 169, 0 1.0: I0 0.0 100.0 8 K3 1.0 O160
 # the current leaf: where it starts the second part ends
 O6 177, 0 1.0: I0 0.0 100.0 8 K3 1.0 O160
-O6 177, 0 200.5: D3
+O6 177, 0 200.5: D 3
 O6 177, 0 201.5: B9
-O6 185, 0 150.0: D3
+O6 185, 0 150.0: D 3
 O6 185, 0 200.4: B9
 O6 186, 0 1.0: I0 0.0 100.0 8 K3 1.0 O160
 O6 194, 0 1.0: I0 0.0 100.0 8 K3 1.0 O160
@@ -202,9 +202,9 @@ fn a_damaged_leaf_is_bad_or_has_other_versions(rt: HostRuntime) {
 }
 
 /// Key nodes that name themselves, and what lookups of a key now return. The root too, and one that names a page that there isn't.
-const THEMSELVES: &str = "W4: 3 0 2 0 0 2 0 96, K0 K15 S0.0 F16, K0 N4, K8 N7
+const THEMSELVES: &str = "W 4: 3 0 2 0 0 2 0 96, K0 K15 S0.0 F16, K0 N4, K8 N7
 Y0 300.0: B4
-W1: 3 0 4 0 0 2 0 96, K0 F40 S0.0 F16, K0 N1, K15 N200
+W 1: 3 0 4 0 0 2 0 96, K0 F40 S0.0 F16, K0 N1, K15 N200
 Y0 300.0: B1
 Y15 300.0: B200
 ";

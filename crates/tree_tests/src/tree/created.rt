@@ -61,13 +61,13 @@ fn a_column_and_its_leaf_are_set_in_the_next_two_pages(rt: HostRuntime) {
 }
 
 /// No tree is created.
-const NO_PAGES: &str = "D3
+const NO_PAGES: &str = "D 3
 ";
 
 /// A tree is, and no other.
 const TWO_PAGES: &str = "C
 S38 1 40 0 2
-D3
+D 3
 ";
 
 #[test]
@@ -79,7 +79,7 @@ fn two_pages_are_needed(rt: HostRuntime) {
 
 /// Beside 30 images there is no room for two.
 const NO_IMAGES: &str = "F0 30
-D4
+D 4
 ";
 
 /// Beside 29 there is.

@@ -166,9 +166,9 @@ fn a_tree_of_the_earlier_form_is_asked(rt: HostRuntime) {
 
 /// Beside four versions of the earlier form the leaf has room for five of the largest size; the sixth burns a block.
 const SPLIT_BY_TIME: &str = "N
-W1 26
+W 1 26
 S0 1 2 11 N
-W1 27
+W 1 27
 S0 1 2 12 N
 V28
 ";
@@ -180,7 +180,7 @@ fn it_is_split_by_time_with_nothing_rewritten(rt: HostRuntime) {
 
 /// Eleven keys don't fit one leaf.
 const SPLIT_BY_KEY: &str = "N
-W11 61
+W 11 61
 SN 2 N N N
 V62
 ";

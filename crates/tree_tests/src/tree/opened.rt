@@ -72,8 +72,8 @@ const PLACE: Place = Place {
 
 /// Key 7 has a value from stamp (5, 0) on, key 9 from (6, 1) on. The root is page 0, of level 1.
 const ROOT: &str = "C
-T7 5.0 1 70
-T9 6.1 1 70
+T 7 5.0 1 70
+T 9 6.1 1 70
 O0 6.2: K0 1 6.2
 ";
 

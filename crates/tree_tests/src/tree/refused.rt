@@ -63,8 +63,8 @@ const MANY: Place = Place {
 const FULL_DISK: &str = "C
 I7 1 15
 SN N N 2 N
-R2 7 16.16 3072 16 2
-R2 7 17.17 3072 17 2
+R 2 7 16.16 3072 16 2
+R 2 7 17.17 3072 17 2
 A7 1 15
 E7 16.16
 ";
@@ -77,7 +77,7 @@ fn a_third_block_on_a_disk_of_two_is_refused(rt: HostRuntime) {
 /// The sixth key splits the column by key, which takes two pages, and the root becomes two, which takes one.
 const FULL_PAGES: &str = "C
 J1 5
-R3 6 6.6 3072 6 0
+R 3 6 6.6 3072 6 0
 K6
 ";
 
@@ -104,10 +104,10 @@ fn with_three_pages_the_column_is_split_by_key(rt: HostRuntime) {
 /// A second version of the first key, which splits the column by time, and what stays by key, spends a block each time.
 const SPENT: &str = "C
 J1 5
-R3 1 6.6 3072 6 1
-R3 1 6.6 3072 6 2
-R3 1 6.6 3072 6 3
-R3 1 6.6 3072 6 4
+R 3 1 6.6 3072 6 1
+R 3 1 6.6 3072 6 2
+R 3 1 6.6 3072 6 3
+R 3 1 6.6 3072 6 4
 K6
 ";
 
@@ -136,8 +136,8 @@ const FULL_TRANSACTION: &str = "C
 J1 5
 F8 24
 SN N N N 26
-R4 6 6.6 3072 6 0
-R4 1 6.6 3072 6 0
+R 4 6 6.6 3072 6 0
+R 4 1 6.6 3072 6 0
 K6
 E1 7.7
 SN N N N 26

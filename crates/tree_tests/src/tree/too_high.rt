@@ -79,7 +79,7 @@ const LOWER: Place = Place {
 /// A version for each of the keys 1 to 5, so that the leaf is full; the sixth key is refused.
 const HIGHEST_TREE: &str = "U7
 J1 5
-R5 6 6.6 3072 6 0
+R 5 6 6.6 3072 6 0
 H1 9.9 1
 H2 9.9 2
 H3 9.9 3
