@@ -1,9 +1,11 @@
 //! Generated histories: between any two turns of a question, and between a turn and what its errand reads, more is given, changes are
 //! applied, which splits leaves, and a page is flushed. Once it is answered it is asked again in one call, by the same reader, which keeps
-//! blocks from the whole history. Each answer is that of the pure machine over all that the history has at its end.
+//! blocks from the whole history. Each answer is that of the pure machine over all that the history has at its end. Which prefixes changed
+//! is asked at that end.
 
 use crate::asking::lines_of;
 use crate::be;
+use crate::changed::count_changed;
 use crate::made::{BLOCKS, Made, Reader, made, reader_of};
 use crate::numbers::Numbers;
 use disk_archive::{AskError, Cursor, Descent, Flush, Step};
@@ -44,7 +46,7 @@ struct Reported {
 
 /// How many answers there were, how many of them return a row or an event, and how many of those start after a place or
 /// after skipped events; how often changes were applied or a page was flushed, how many errands were read, and between
-/// the first and the last turn of how many questions a leaf was split, which burns a block.
+/// the first and the last turn of how many questions a leaf was split, which burns a block; and in how many spans some spot changed.
 #[derive(Clone, Copy)]
 struct Counts {
     answers: u32,
@@ -54,6 +56,7 @@ struct Counts {
     flushed: u32,
     read: u32,
     split: u32,
+    changed: u32,
 }
 
 const NOTHING: Counts = Counts {
@@ -64,6 +67,7 @@ const NOTHING: Counts = Counts {
     flushed: 0,
     read: 0,
     split: 0,
+    changed: 0,
 };
 
 fn reports(answer: &Answer) -> bool {
@@ -108,6 +112,7 @@ impl Counts {
             flushed: self.flushed.saturating_add(other.flushed),
             read: self.read.saturating_add(other.read),
             split: self.split.saturating_add(other.split),
+            changed: self.changed.saturating_add(other.changed),
         }
     }
 }
@@ -150,11 +155,11 @@ fn count_blocks(disk: &mut Made, counter: &mut Reader, least: u64) -> Option<u64
 
 /// An archive on disks and the pure machine, to which the same is given.
 #[derive(Drop)]
-struct Both {
-    alloc: Global,
-    numbers: Numbers,
-    disk: Made,
-    machine: Machine,
+pub(crate) struct Both {
+    pub(crate) alloc: Global,
+    pub(crate) numbers: Numbers,
+    pub(crate) disk: Made,
+    pub(crate) machine: Machine,
     counts: Counts,
 }
 
@@ -408,6 +413,7 @@ fn ran(alloc: Global, seed: u64) -> Option<Counts> {
     let mut questions = Questions::new(alloc, &both.disk)?;
     questions.ask_all(&mut both)?;
     both.settle();
+    both.counts.changed = count_changed(&mut both, &mut questions.large)?;
     questions.counted(&mut both)
 }
 
@@ -422,8 +428,8 @@ fn ran_all(alloc: Global, first: u64) -> Option<Counts> {
 
 // All questions of the histories from this seed on have the machine's answers. In each history four answers return
 // something, two of them after a place or after skipped events, changes are applied twenty times, thirty pages are
-// flushed, ten errands are read, and between the first and the last turn of two questions a leaf is split, or more, all
-// taken together.
+// flushed, ten errands are read, and between the first and the last turn of two questions a leaf is split, or more, all taken
+// together; and in three spans of them all some spot changed, or more.
 fn expect_pure(rt: &impl Abort, alloc: Global, first: u64) {
     let counts = ran_all(alloc, first);
     be(rt, counts.is_some(), "answers as the machine's");
@@ -434,6 +440,7 @@ fn expect_pure(rt: &impl Abort, alloc: Global, first: u64) {
     be(rt, counts.applied >= 1_000, "steps of applying");
     be(rt, counts.flushed >= 1_500, "pages that are flushed");
     be(rt, counts.read >= 500, "errands that are read");
+    be(rt, counts.changed >= 3, "spans in which a spot changed");
     be(
         rt,
         counts.split >= 100,

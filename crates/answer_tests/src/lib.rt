@@ -8,6 +8,8 @@
 #[cfg(test)]
 mod asking;
 #[cfg(test)]
+mod changed;
+#[cfg(test)]
 mod examples;
 #[cfg(test)]
 mod generated;

@@ -2,7 +2,7 @@
 
 use crate::said::{moment_of, peer_of, prefix_of, route_of};
 use interleaving_core::Query;
-use route_meaning::{EventsQuestion, RowsQuestion, Select, Spot};
+use route_meaning::{ChangedQuestion, EventsQuestion, RowsQuestion, Select, Spot};
 use route_model::{Address, Admission, Change, Moment, Peer, Prefix};
 use std::alloc::Global;
 
@@ -11,6 +11,21 @@ use std::alloc::Global;
 pub(crate) struct Numbers {
     state: u64,
     pub(crate) clock: u32,
+}
+
+/// How many prefixes there are.
+pub(crate) const PREFIXES: u32 = 6;
+
+/// The prefix of this number; from `PREFIXES - 1` on, the last one.
+pub(crate) fn prefix_at(number: u32) -> Prefix {
+    match number {
+        0 => prefix_of(0, 0, 0),
+        1 => prefix_of(0, 0, 15),
+        2 => prefix_of(1, 0, 16),
+        3 => prefix_of(1, 1, 24),
+        4 => prefix_of(1, 2, 24),
+        _ => prefix_of(1, 1, 32),
+    }
 }
 
 impl Numbers {
@@ -51,14 +66,7 @@ impl Numbers {
 
     // One of few prefixes that lie in one another.
     fn prefix(&mut self) -> Prefix {
-        match self.below(6) {
-            0 => prefix_of(0, 0, 0),
-            1 => prefix_of(0, 0, 15),
-            2 => prefix_of(1, 0, 16),
-            3 => prefix_of(1, 1, 24),
-            4 => prefix_of(1, 2, 24),
-            _ => prefix_of(1, 1, 32),
-        }
+        prefix_at(self.below(PREFIXES))
     }
 
     fn spot(&mut self) -> Spot {
@@ -138,6 +146,17 @@ impl Numbers {
         RowsQuestion {
             moment: self.moment(),
             select: self.select(),
+            after: self.after(),
+        }
+    }
+
+    /// A question of which prefixes changed.
+    pub(crate) fn changed_question(&mut self) -> ChangedQuestion {
+        ChangedQuestion {
+            from: self.moment(),
+            to: self.moment(),
+            low: self.prefix(),
+            high: self.prefix(),
             after: self.after(),
         }
     }

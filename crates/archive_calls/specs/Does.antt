@@ -1,6 +1,9 @@
 -- What a call on an archive does to the history that it represents, and what it returns.
 use Rattle.std.specs.Prelude.{◌≡◌, ◌<◌, ◌≤◌, ⊤, ℕ, List, length, sum_by, Some, slice_get, Result, Ok, Err}
 use Rattle.route_model.specs.Admission.{Admitted}
+use Rattle.route_meaning.specs.declared.question.ChangedAnswer.{ChangedAnswer}
+use Rattle.route_meaning.specs.declared.question.ChangedQuestion.{ChangedQuestion}
+use Rattle.route_meaning.specs.Changed.{IsChangedAnswer}
 use Rattle.route_meaning.specs.Merged.{Placed}
 use Rattle.route_meaning.specs.History.{Intake, History, applied, settled}
 use Rattle.interleaving_core.specs.declared.reply.BatchReply.{BatchReply}
@@ -66,6 +69,12 @@ abbrev pub IsAnswerOf : History → Query → Result Answer AskError → Type 0
 IsAnswerOf h query (Ok answer) = (last_moment query < settled h) × IsAnswered (applied h) query answer
 IsAnswerOf h query (Err (asks.AboveWatermark watermark)) = (watermark ≡ settled h) × (settled h ≤ last_moment query)
 IsAnswerOf h query (Err (asks.Trouble trouble)) = ⊤
+
+-- the same of a question of which prefixes changed
+abbrev pub IsChangedAnswerOf : History → ChangedQuestion → Result ChangedAnswer AskError → Type 0
+IsChangedAnswerOf h q (Ok answer) = (q.to < settled h) × IsChangedAnswer (applied h) q answer.spots.items answer.more
+IsChangedAnswerOf h q (Err (asks.AboveWatermark watermark)) = (watermark ≡ settled h) × (settled h ≤ q.to)
+IsChangedAnswerOf h q (Err (asks.Trouble trouble)) = ⊤
 
 -- how many changes the admissions have
 abbrev pub changes_in : List (Placed Admitted) → ℕ

@@ -3,11 +3,12 @@
 ghost use Rattle.std.specs.Prelude.{◌≡◌, ◌≤◌, ℕ, length, map, slice_get};
 ghost use Rattle.route_meaning.specs.History.{History, IsHistory, settled};
 ghost use Rattle.interleaving_core.specs.World.{resume_of};
-ghost use Rattle.archive_calls.specs.Does.{DoesAdmit, DoesMark, DoesApply, DoesCheck, IsAnswerOf};
+ghost use Rattle.archive_calls.specs.Does.{DoesAdmit, DoesMark, DoesApply, DoesCheck, IsAnswerOf, IsChangedAnswerOf};
 
 use crate::refusal::{AdmitError, AskError, MarkError, Trouble};
 use crate::reported::{Flush, Step};
 use interleaving_core::{Answer, BatchReply, Query, Resume};
+use route_meaning::{ChangedAnswer, ChangedQuestion};
 use route_model::{Admission, Mark};
 use std::alloc::Global;
 
@@ -68,6 +69,12 @@ pub trait RouteArchive {
     /// Answers a question whose last moment is below the settled watermark.
     fn answer(&mut self, query: Query) -> Result<Answer, AskError>
         ensures done { (h : History) → represents self.old h → IsAnswerOf h query result }
+        ensures represents { (h : History) → represents self.old h → represents self.new h }
+        ensures most { most self.new ≡ most self.old };
+
+    /// Which prefixes were announced or withdrawn in a span whose last moment is below the settled watermark.
+    fn changed(&mut self, question: ChangedQuestion) -> Result<ChangedAnswer, AskError>
+        ensures done { (h : History) → represents self.old h → IsChangedAnswerOf h question result }
         ensures represents { (h : History) → represents self.old h → represents self.new h }
         ensures most { most self.new ≡ most self.old };
 

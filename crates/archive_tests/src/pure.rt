@@ -4,7 +4,7 @@ use archive_calls::{
     AdmitError, AskError, Flush, MAX_BATCH_LEN, MarkError, RouteArchive, Step, Trouble,
 };
 use interleaving_core::{Answer, BatchReply, Machine, Query, Reach, Reply, Resume};
-use route_meaning::{RowsQuestion, Select};
+use route_meaning::{ChangedAnswer, ChangedQuestion, RowsQuestion, Select};
 use route_model::{Admission, Mark, Moment};
 use std::alloc::Global;
 
@@ -153,6 +153,11 @@ impl RouteArchive for Pure {
             Some(reply) => Err(refusal_of(&reply)),
             None => Err(AskError::Trouble(Trouble::OutOfMemory)),
         }
+    }
+
+    /// The machine has no such question, and no line that these tests look at needs its answer.
+    fn changed(&mut self, _question: ChangedQuestion) -> Result<ChangedAnswer, AskError> {
+        Err(AskError::Trouble(Trouble::OutOfMemory))
     }
 
     fn check(&mut self) -> Result<u64, Trouble> {

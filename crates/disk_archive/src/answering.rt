@@ -26,6 +26,7 @@ use interleaving_core::{Answer, Query};
 use once_store::ShelfReader;
 use page_tx::Pages;
 use route_history::laws::versions_report;
+use route_model::Moment;
 use sequencer::Sequencer;
 use std::alloc::Global;
 use tree_questions::{events, rows};
@@ -42,8 +43,17 @@ pub(crate) fn check_settled(sequencer: &Sequencer, query: &Query) -> Result<(), 
     ensures below { OnOk result (last_moment query.now < least (map bound_of sequencer.now)) }
     ensures above { IfErr result (λ e. (e ≡ AskError.AboveWatermark (least (map bound_of sequencer.now))) × (least (map bound_of sequencer.now) ≤ last_moment query.now)) }
 {
+    check_moment(sequencer, query.last_moment())
+}
+
+// The same of a moment.
+pub(crate) fn check_moment(sequencer: &Sequencer, moment: Moment) -> Result<(), AskError>
+    requires { 0 < length sequencer.now }
+    ensures below { OnOk result (moment < least (map bound_of sequencer.now)) }
+    ensures above { IfErr result (λ e. (e ≡ AskError.AboveWatermark (least (map bound_of sequencer.now))) × (least (map bound_of sequencer.now) ≤ moment)) }
+{
     let settled = sequencer.settled();
-    if query.last_moment().seconds() < settled.seconds() {
+    if moment.seconds() < settled.seconds() {
         Ok(())
     } else {
         Err(AskError::AboveWatermark(settled))

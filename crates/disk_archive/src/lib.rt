@@ -41,6 +41,7 @@ mod ask_error;
 mod batches;
 mod beginning;
 mod change_error;
+mod changed_with;
 mod check_error;
 mod checking;
 mod checking_rings;

@@ -18,9 +18,11 @@ use Rattle.interleaving_core.specs.Steps.{given, IsCollector, IsMarkAbove}
 use Rattle.interleaving_core.specs.World.{resume_of}
 use Rattle.interleaving_core.specs.declared.query.Query.{Query}
 use Rattle.interleaving_core.specs.declared.query.Answer.{Answer}
+use Rattle.route_meaning.specs.declared.question.ChangedAnswer.{ChangedAnswer}
+use Rattle.route_meaning.specs.declared.question.ChangedQuestion.{ChangedQuestion}
 use Rattle.interleaving_core.specs.declared.reply.BatchReply.{BatchReply}
 use Rattle.intake.specs.Ring.{entry_octets}
-use Rattle.archive_calls.specs.Does.{IsAnswerOf, IsRefusal, IsTaken, IsUnchecked, DoesMark, AppliesSome}
+use Rattle.archive_calls.specs.Does.{IsAnswerOf, IsChangedAnswerOf, IsRefusal, IsTaken, IsUnchecked, DoesMark, AppliesSome}
 use Rattle.archive_calls.specs.Limits.{batch_octets, IsCounterFull as IsCountFull}
 use Rattle.disk_archive.specs.declared.archive.Archive.{Archive}
 use Rattle.disk_archive.specs.declared.error.AdmitError.{AdmitError}
@@ -131,6 +133,15 @@ not_answered down h query (asks.BadNode page) above = tt
 not_answered down h query (asks.Damaged block) above = tt
 not_answered down h query asks.Fault above = tt
 not_answered down h query asks.OutOfMemory above = tt
+
+-- the same of what changed
+pub not_changed : (h : History) (q : ChangedQuestion) (e : AskError) → ((mark : ℕ) → ◌≡◌ {A = Result ChangedAnswer AskError} (Err e) (Err (asks.AboveWatermark mark)) → (mark ≡ settled h) × (settled h ≤ q.to)) → IsChangedAnswerOf h q (Err (of_ask e))
+not_changed h q asks.NeedsRecovery above = tt
+not_changed h q (asks.AboveWatermark mark) above = above mark refl
+not_changed h q (asks.BadNode page) above = tt
+not_changed h q (asks.Damaged block) above = tt
+not_changed h q asks.Fault above = tt
+not_changed h q asks.OutOfMemory above = tt
 
 -- why the changes that are applied aren't counted
 pub not_checked : (h : History) (e : CheckError) → ((page : ℕ) → e ≡ checks.BadNode page → ⊥) → ((block : ℕ) → e ≡ checks.Damaged block → ⊥) → IsUnchecked h (of_check e)

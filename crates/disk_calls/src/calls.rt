@@ -1,7 +1,7 @@
 //! The archive on any two disks meets what feeds and questions ask of one.
 
 use crate::archive::DiskArchive;
-use crate::keeping::answer_by;
+use crate::keeping::{answer_by, changed_by};
 use crate::reasons::Reasons;
 use crate::refusals::{
     admit_refusal, apply_trouble, ask_refusal, check_trouble, flush_trouble, mark_refusal,
@@ -11,6 +11,7 @@ use archive_calls::{
 };
 use disk_models::{EraseDisk, OnceDisk, PAGE_SIZE};
 use interleaving_core::{Answer, BatchReply, Query, Resume};
+use route_meaning::{ChangedAnswer, ChangedQuestion};
 use route_model::{Admission, Mark};
 use std::alloc::Global;
 
@@ -78,6 +79,13 @@ impl<E: EraseDisk + Drop, O: OnceDisk + Drop, R: Reasons> RouteArchive for DiskA
 
     fn answer(&mut self, query: Query) -> Result<Answer, AskError> {
         match answer_by(&mut self.archive, &mut self.reader, query) {
+            Ok(answer) => Ok(answer),
+            Err(refusal) => Err(ask_refusal(refusal)),
+        }
+    }
+
+    fn changed(&mut self, question: ChangedQuestion) -> Result<ChangedAnswer, AskError> {
+        match changed_by(&mut self.archive, &mut self.reader, question) {
             Ok(answer) => Ok(answer),
             Err(refusal) => Err(ask_refusal(refusal)),
         }

@@ -1,6 +1,7 @@
 //! The blocks that questions keep.
 
 ghost use Rattle.std.specs.Prelude.{◌≡◌, ◌↔◌, ◌<◌, ◌≤◌, ℕ, IfOk, OnOk, Err, false};
+ghost use Rattle.route_meaning.specs.Changed.{IsChangedAnswer};
 ghost use Rattle.route_meaning.specs.History.{History, applied, settled};
 ghost use Rattle.interleaving_core.specs.Does.{last_moment};
 ghost use Rattle.interleaving_core.specs.Headline.{IsAnswered};
@@ -11,6 +12,7 @@ use disk_archive::{Archive, AskError};
 use disk_models::{EraseDisk, OnceDisk};
 use interleaving_core::{Answer, Query};
 use once_store::ShelfReader;
+use route_meaning::{ChangedAnswer, ChangedQuestion};
 
 /// How many blocks are kept in memory at most, of 16,384 octets each.
 const KEPT_BLOCKS: usize = 1_024;
@@ -41,5 +43,25 @@ pub(crate) fn answer_by<E: EraseDisk + Drop, O: OnceDisk + Drop>(
     match reader {
         Some(reader) => archive.answer_with(reader, query),
         None => archive.answer(query),
+    }
+}
+
+/// Which prefixes changed, by the same reader. Without one, which memory was refused, so is this.
+pub(crate) fn changed_by<E: EraseDisk + Drop, O: OnceDisk + Drop>(
+    archive: &mut Archive<E, O>,
+    reader: &mut Option<ShelfReader<O>>,
+    question: ChangedQuestion,
+) -> Result<ChangedAnswer, AskError>
+    ensures answered { IfOk result (λ answer. IsHonest archive.old → (h : History) → Holds archive.old h → KeepsFrom archive.old reader.old → IsChangedAnswer (applied h) question answer.spots.items answer.more) }
+    ensures below { OnOk result (IsHonest archive.old → (h : History) → Holds archive.old h → question.to < settled h) }
+    ensures above { IsHonest archive.old → (h : History) → Holds archive.old h → (mark : ℕ) → result ≡ Err (AskError.AboveWatermark mark) → (mark ≡ settled h) × (settled h ≤ question.to) }
+    ensures holds { (h : History) → Holds archive.old h → Holds archive.new h }
+    ensures reads { IsHonest archive.old → (h : History) → Holds archive.old h → KeepsFrom archive.old reader.old → KeepsFrom archive.new reader.new }
+    ensures honest { IsHonest archive.old ↔ IsHonest archive.new }
+    ensures settings { settings_of archive.new ≡ settings_of archive.old }
+{
+    match reader {
+        Some(reader) => archive.changed_with(reader, question),
+        None => Err(AskError::OutOfMemory),
     }
 }

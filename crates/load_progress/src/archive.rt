@@ -6,6 +6,7 @@ use crate::applied::Applied;
 use crate::meter::Meter;
 use archive_calls::{AdmitError, AskError, Flush, MarkError, RouteArchive, Step, Trouble};
 use interleaving_core::{Answer, BatchReply, Query, Resume};
+use route_meaning::{ChangedAnswer, ChangedQuestion};
 use route_model::{Admission, Mark};
 use std::alloc::Global;
 use std::io::Eprint;
@@ -86,6 +87,10 @@ impl<'a, A: RouteArchive + Applied, T: Eprint + Clock> RouteArchive for WatchedA
 
     fn answer(&mut self, query: Query) -> Result<Answer, AskError> {
         self.archive.answer(query)
+    }
+
+    fn changed(&mut self, question: ChangedQuestion) -> Result<ChangedAnswer, AskError> {
+        self.archive.changed(question)
     }
 
     fn check(&mut self) -> Result<u64, Trouble> {

@@ -20,10 +20,10 @@ use Rattle.route_history.proofs.Taking.{first_low, first_between, first_next}
 pub first_within : (n m : ℕ) → first_key n ≤ m → m < first_key n + peer_span → first_key m ≡ first_key n
 first_within n m low high = omega arith
 
-first_twice : (n : ℕ) → first_key (first_key n) ≡ first_key n
+pub first_twice : (n : ℕ) → first_key (first_key n) ≡ first_key n
 first_twice n = omega arith
 
-first_after : (n : ℕ) → first_key (first_key n + peer_span) ≡ first_key n + peer_span
+pub first_after : (n : ℕ) → first_key (first_key n + peer_span) ≡ first_key n + peer_span
 first_after n = omega arith
 
 module _ (q : RowsQuestion) where

@@ -21,3 +21,6 @@ mod KeptLater
 mod KeptMore
 mod KeyVersionsOf
 mod Finishing
+mod ChangedLater
+mod ChangedTaking
+mod ChangedLeaps

@@ -8,3 +8,4 @@ pub mod Walks
 pub mod RowTurns
 pub mod Spans
 pub mod EventTurns
+pub mod Changes

@@ -5,6 +5,7 @@ ghost use Rattle.std.specs.List.{AllZip, AllByRecursion};
 ghost use Rattle.route_model.specs.Admission.{Admitted};
 ghost use Rattle.route_model.specs.Prefix.{IsPrefix};
 ghost use Rattle.route_model.specs.Encoding.{IsPeer};
+ghost use Rattle.route_meaning.specs.declared.question.ChangedQuestion.{ChangedQuestion};
 ghost use Rattle.route_meaning.specs.declared.question.EventsQuestion.{EventsQuestion};
 ghost use Rattle.route_meaning.specs.Merged.{Placed, IsRising};
 ghost use Rattle.route_meaning.specs.Holds.{time_of};
@@ -16,14 +17,16 @@ ghost use Rattle.route_history.specs.Stamps.{stamp_of};
 ghost use Rattle.route_history.specs.Kept.{Timed, timed, IsVersion, Kept};
 ghost use Rattle.route_history.specs.Growing.{AreBefore};
 ghost use Rattle.route_history.specs.Walks.{Reports, Gathered, GoesOn, IsSameVersion};
+ghost use Rattle.route_history.specs.Changes.{ReportsChanged};
 ghost use Rattle.route_history.specs.Spans.{ReportsEvents, HasReportedSo, EventsGoOn};
 
 /// What follows if the versions are those of the applied changes, whose times never fall: which route holds at a moment is what
-/// two lookups at its greatest stamp return, compared by stamp; the events of a span are the versions of the two keys in it; and
-/// the stamps rise.
+/// two lookups at its greatest stamp return, compared by stamp; the events of a span are the versions of the two keys in it; the spots that
+/// changed in it are those of which a version is in it; and the stamps rise.
 pub fn versions_report()
     ensures rows { (ps : List (Placed Admitted)) (all : List Version) (moment : ℕ) → IsRising time_of ps → Kept ps all → Reports all ps moment }
     ensures events { (ps : List (Placed Admitted)) (all : List Version) (q : EventsQuestion) → IsRising time_of ps → Kept ps all → IsPeer q.peer → IsPrefix q.prefix → ReportsEvents all ps q }
+    ensures changed { (ps : List (Placed Admitted)) (all : List Version) (q : ChangedQuestion) → Kept ps all → ReportsChanged all ps q }
     ensures stamps { (ps : List (Placed Admitted)) (all : List Version) → IsRising time_of ps → Kept ps all → AreStampsInOrder all }
 {}
 

@@ -19,12 +19,16 @@
 //! encodes no route is passed over, as is a version of the history whose time is no moment. After a refused turn the cursor
 //! may have leapt; what it has gathered is the same.
 //!
+//! A question of which prefixes changed ([`ChangedCursor`]) is given the keys that have a version in its span, from where its walk stands up to
+//! a higher key, and leaps from there on. It has no errand: only an owner of the archive asks it, by `tree_questions::changed`.
+//!
 //! A caller that owns pages and a reader makes the lookups itself: it asks a cursor for the next one, and gives it what was
 //! found (`next_look`, `take_reached`, `take_parts`). That a walk comes further is stated without the versions (`rose`), so
 //! it ends over damaged pages too. The archive and `tree_questions` use [`version_of_change`], these calls, the errands and
 //! the laws; [`take_rows_turn`] and [`take_events_turn`] serve a store that is one value, as in tests.
 #![tactic(auto)]
 
+mod changed;
 mod changes;
 mod events;
 mod events_turn;
@@ -36,6 +40,7 @@ mod rows;
 mod rows_turn;
 mod versions;
 
+pub use changed::ChangedCursor;
 pub use changes::{apply, version_of_change};
 pub use events::EventsCursor;
 pub use events_turn::{EventsErrand, EventsTurn, take_events_turn};

@@ -59,8 +59,8 @@ fn selects(select: &Select, peer: &Peer, prefix: &Prefix) -> bool
     }
 }
 
-// Is the key above the spot?
-fn is_above(after: &Option<Spot>, key: Key) -> bool
+/// Is the key above the spot?
+pub(crate) fn is_above(after: &Option<Spot>, key: Key) -> bool
     ensures { IsTrue result ↔ IsAbove after.now key }
 {
     match after {
@@ -82,8 +82,8 @@ fn spot_in(parts: &KeyParts) -> Option<Spot>
     }
 }
 
-// The spot of the key, if it is one of a prefix.
-fn spot_of(key: Key) -> Option<Spot>
+/// The spot of the key, if it is one of a prefix.
+pub(crate) fn spot_of(key: Key) -> Option<Spot>
     ensures { IsSpotOf key result }
 {
     let Some(parts) = key.parts() else {

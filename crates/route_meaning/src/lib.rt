@@ -15,6 +15,9 @@
 //! by their keys, so the meaning doesn't depend on keys. An answer is the first 256 of a list of all the rows,
 //! so `more` is exact.
 //!
+//! Which prefixes changed in a span is said by the events of each: a spot changed if one of its events in the span announces or withdraws it.
+//! The end of a session is an event of all prefixes of a peer, and changes none by itself: who asks for what ended knows what held.
+//!
 //! The place applied has one form: with all changes of an admission applied it is after that admission, not at its
 //! last change. Else a step that moves the place could go on for ever without applying anything. What may follow in
 //! an intake has a floor, which today is the mark (`floor`). The settled watermark of no collectors is 0.
@@ -33,8 +36,8 @@ mod reporting;
 
 pub use placed::{PlacedAdmission, merge};
 pub use question::{
-    Event, EventsAnswer, EventsQuestion, MAX_ROWS, Row, RowsAnswer, RowsQuestion, RowsRange,
-    Select, Spot,
+    ChangedAnswer, ChangedQuestion, Event, EventsAnswer, EventsQuestion, MAX_ROWS, Row, RowsAnswer,
+    RowsQuestion, RowsRange, Select, Spot,
 };
 pub use replay::{answer_rows, rows_in};
 pub use reporting::{answer_events, events_of};

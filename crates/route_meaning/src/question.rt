@@ -54,7 +54,20 @@ pub struct EventsQuestion {
     pub skip: u64,
 }
 
-/// The maximum number of rows, or of events, in an answer.
+/// A question of which prefixes of which peers were announced or withdrawn from one moment to another, both included: the spots
+/// that lie strictly above one, or all if there is none.
+#[derive(Clone, Copy, Debug, PartialEq, Eq)]
+pub struct ChangedQuestion {
+    pub from: Moment,
+    pub to: Moment,
+    /// The first prefix that is asked for, by family, address and length.
+    pub low: Prefix,
+    /// The last one, itself included.
+    pub high: Prefix,
+    pub after: Option<Spot>,
+}
+
+/// The maximum number of rows, of events, or of spots, in an answer.
 pub const MAX_ROWS: usize = 256;
 
 /// A row of an answer: the route that holds for the prefix of the peer.
@@ -85,5 +98,13 @@ pub struct RowsAnswer {
 pub struct EventsAnswer {
     pub events: Vec<Event>,
     /// Do more events follow? They come where these are skipped too.
+    pub more: bool,
+}
+
+/// The answer to a question of what changed: at most [`MAX_ROWS`] spots, in the order of rows.
+#[derive(Debug, Drop)]
+pub struct ChangedAnswer {
+    pub spots: Vec<Spot>,
+    /// Do more spots follow? They are above the last of these.
     pub more: bool,
 }

@@ -2,3 +2,4 @@ mod Reading
 mod Going
 mod Turned
 mod Onward
+mod TouchedEntries

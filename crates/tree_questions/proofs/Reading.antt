@@ -10,7 +10,7 @@ use Rattle.page_tx.specs.Start.{Start}
 use Rattle.route_history.specs.Blame.{BlamesNone}
 use Rattle.tsb_walk.specs.declared.error.NodeError.{NodeError}
 use Rattle.tsb_walk.specs.declared.error.NodeError.TheVariants as nodes
-use Rattle.tsb_walk.specs.Refusals.{LookRefusal, of_block}
+use Rattle.tsb_walk.specs.Refusals.{LookRefusal, WalkRefusal, of_block}
 use Rattle.tsb_walk.specs.declared.page_place.PagePlace.{PagePlace}
 use Rattle.tsb_walk.specs.Knowing.{ReadsWell, StandsKnown}
 use Rattle.tsb_walk.specs.Looked.{GoesOnIn}
@@ -80,3 +80,13 @@ block_blames (Ok a) never = tt
 block_blames (Err (blocks.Damaged block)) never = never block refl
 block_blames (Err blocks.Fault) never = tt
 block_blames (Err blocks.OutOfMemory) never = tt
+
+-- the same of a walk to a column
+pub walk_blames : {A : Type 0} (r : Result A NodeError) (down : Bool) → IfErr r (WalkRefusal down) → ((page : ℕ) → r ≡ Err (nodes.BadNode page) → ⊥) → IfErr r BlamesNone
+walk_blames (Ok a) down refused never = tt
+walk_blames (Err (nodes.BadNode page)) down refused never = never page refl
+walk_blames (Err (nodes.Damaged block)) down refused never = refused
+walk_blames (Err nodes.Fault) down refused never = tt
+walk_blames (Err nodes.OnceFault) down refused never = tt
+walk_blames (Err nodes.NeedsRecovery) down refused never = tt
+walk_blames (Err nodes.OutOfMemory) down refused never = tt

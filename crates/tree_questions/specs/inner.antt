@@ -1,3 +1,5 @@
 pub mod Left
 pub mod Reporting
 pub mod Taking
+pub mod Gathered
+pub mod Named

@@ -5,13 +5,18 @@ ghost use Rattle.page_tx.specs.Start.{Start};
 ghost use Rattle.version_model.specs.Pages.{Store};
 ghost use Rattle.version_model.specs.Versions.{Version, IsRising};
 ghost use Rattle.tsb_walk.specs.Looked.{IsLooked, IsParted, LooksAt, LooksBelow, LooksOn, PartsAt, PartsBelow, ReportsAll};
-ghost use Rattle.tsb_walk.specs.Refusals.{LookRefusal, OnlyReads};
+ghost use Rattle.tsb_walk.specs.Refusals.{LookRefusal, OnlyReads, WalkRefusal};
 ghost use Rattle.tsb_walk.specs.Shown.{HasKey, StandsShown};
+ghost use Rattle.tsb_walk.specs.inner.ColumnSpots.{IsThere};
+ghost use Rattle.tsb_walk.specs.inner.PageSteps.{HasPoint};
+ghost use Rattle.tree_questions.specs.inner.Named.{IsSpotBelow};
 
 use page_tx::Pages;
 use route_model::Key;
 use std::alloc::Global;
-use tsb_walk::{Looked, NodeError, PagePlace, Parted, locate, next, part};
+use tsb_walk::{
+    ColumnAt, ColumnSpot, Looked, NodeError, PagePlace, Parted, column_at, locate, next, part,
+};
 use version_model::{Place, Stamp};
 
 // That a place in the past of a key's column lies in a block below `burnt`. The page of a column that names another is reported as bad.
@@ -87,4 +92,31 @@ pub(crate) fn part_named<P: Pages>(
         check_named(pages, root, burnt, key, place)?;
     }
     Ok(parted)
+}
+
+/// Finds the column of a key as `tsb_walk::column_at` does, and judges the block of a place in its past as `next_named` does.
+pub(crate) fn column_named<P: Pages>(
+    pages: &mut P,
+    root: &PagePlace,
+    burnt: u64,
+    key: Key,
+    stamp: Stamp,
+) -> Result<ColumnAt, NodeError>
+    requires has { HasKey root.now key }
+    requires level { 1 ≤ root.now.level }
+    ensures there { (start : Start) (shown : List (List ℕ)) → P.shows pages.old start shown → IfOk result (IsThere shown root.now key stamp) }
+    ensures has { IfOk result (λ at. HasKey at.column key) }
+    ensures point { IfOk result (λ at. HasPoint key stamp at.spot) }
+    ensures named { IfOk result (λ at. IsSpotBelow burnt at.spot) }
+    ensures blames { (start : Start) (shown : List (List ℕ)) → P.shows pages.old start shown → (s : Store) (all : List Version) → StandsShown shown s all root.now → s.next ≤ burnt → (page : ℕ) → result ≡ Err (NodeError.BadNode page) → ⊥ }
+    ensures refused { IfErr result (WalkRefusal (P.down pages.old)) }
+    ensures same { OnlyReads P.Pages pages.old pages.new (result ≡ Err NodeError.Fault) }
+{
+    let at = column_at(pages, root, key, stamp)?;
+    if let ColumnSpot::InPast(place) = &at.spot {
+        if place.part.block >= burnt {
+            return Err(NodeError::BadNode(at.column.page));
+        }
+    }
+    Ok(at)
 }

@@ -9,5 +9,6 @@ pub mod PageWays
 pub mod Refusals
 pub mod Shown
 pub mod Ways
+pub mod Touched
 pub mod BlockWays
 pub mod inner

@@ -21,8 +21,8 @@ use std::alloc::Global;
 use tsb_node::ReadFault;
 use version_model::{Place, Stamp};
 
-// Why no lookup is made in a leaf in a block.
-fn fault_of(fault: ReadFault, block: u64) -> BlockError
+/// Why no lookup is made in a leaf in a block.
+pub fn block_refusal(fault: ReadFault, block: u64) -> BlockError
     ensures damaged { (m : ℕ) → result ≡ BlockError.Damaged m → (m ≡ block) × (fault ≡ ReadFault.NotANode) }
     ensures never { result ≡ BlockError.Fault → ⊥ }
 {
@@ -66,7 +66,7 @@ pub fn hist_next<O: OnceDisk + Drop>(
     };
     match reached_in(alloc, block.octets(), &last.bounds.high, from, stamp) {
         Ok(reached) => Ok(reached),
-        Err(fault) => Err(fault_of(fault, number)),
+        Err(fault) => Err(block_refusal(fault, number)),
     }
 }
 
@@ -103,7 +103,7 @@ pub fn hist_part<O: OnceDisk + Drop>(
     };
     match part_in(alloc, block.octets(), &last.bounds.end, key, from) {
         Ok(part) => Ok(part),
-        Err(fault) => Err(fault_of(fault, number)),
+        Err(fault) => Err(block_refusal(fault, number)),
     }
 }
 
@@ -138,6 +138,6 @@ pub fn hist_find<O: OnceDisk + Drop>(
     };
     match found_in(alloc, block.octets(), key, stamp) {
         Ok(found) => Ok(found),
-        Err(fault) => Err(fault_of(fault, number)),
+        Err(fault) => Err(block_refusal(fault, number)),
     }
 }

@@ -15,6 +15,8 @@
 //! does so on damaged trees alone. Blocks too: at a valid place no block is reported as damaged (`never`); and for arbitrary
 //! blocks one that is reported as damaged isn't what its place requires (`damaged`).
 //!
+//! Who reads whole leaves finds them by [`column_at`], and by [`leaf_place`] if they are in blocks.
+//!
 //! The page that is reported is the faulty page itself, never its parent. A page that doesn't exist is bad. The current leaf
 //! is read only if the stamp is in its range. Levels fall from page to page, and numbers fall from block to block, so each
 //! lookup ends, whatever the octets are.
@@ -38,11 +40,12 @@ mod page_steps;
 mod walk;
 
 pub use error::NodeError;
-pub use hist::{hist_find, hist_next, hist_part};
+pub use hist::{block_refusal, hist_find, hist_next, hist_part};
 pub use key_versions::versions;
 pub use laws::no_page_is_bad_where_the_root_stands;
 pub use locating::{bring, down, locate};
 pub use looks::{Descended, Found, KeyVersions, Looked, Parted, Reached};
-pub use page_looks::{descend, next, part};
+pub use page_looks::{ColumnAt, column_at, descend, leaf_refusal, next, part};
 pub use page_place::{PagePlace, are_its_keys};
 pub use page_steps::{ColumnSpot, is_current_leaf, spot_in};
+pub use walk::leaf_place;

@@ -60,8 +60,10 @@ fn spot_at<P: Pages>(
     }
 }
 
-// The column that has a key, and where it has it at a stamp.
-fn column_at<P: Pages>(
+/// The column that has a key, and where it has it at a stamp.
+///
+/// It is refused and leaves the pages as [`next`] does.
+pub fn column_at<P: Pages>(
     pages: &mut P,
     root: &PagePlace,
     key: Key,
@@ -81,8 +83,8 @@ fn column_at<P: Pages>(
     Ok(ColumnAt { column, spot })
 }
 
-// Why no lookup is made in a current leaf.
-fn leaf_refusal(fault: ReadFault, page: u64) -> NodeError
+/// Why no lookup is made in a current leaf.
+pub fn leaf_refusal(fault: ReadFault, page: u64) -> NodeError
     ensures bad { (n : ℕ) → result ≡ NodeError.BadNode n → (page ≡ n) × (fault ≡ ReadFault.NotANode) }
     ensures refused { (down : Bool) → LookRefusal down result }
     ensures never { result ≡ NodeError.Fault → ⊥ }

@@ -21,8 +21,8 @@ returns-in-Ok-clause-part g c = λ all rising stands.
 pub returns-in-Err-clause-never : goal.returns-in-Err-clause-never
 returns-in-Err-clause-never g c = λ all stands block e.
     let leaf = leaf_kept g.O.OnceDisk c.leaf_place.new.reader all c.in_ok-last.last (c.in_ok-last.ensures.leaf all stands) c.in-Some.block.now c.octets.result.now c.in-Some.ensures.some c.octets.ensures.value in
-    let d : c.fault_of.result ≡ Damaged block = search rules in
-    c.part_in.ensures.leaf leaf.leaf leaf.begins (c.in-Err.is ∙ ap Err (c.fault_of.ensures.damaged block d).1)
+    let d : c.block_refusal.result ≡ Damaged block = search rules in
+    c.part_in.ensures.leaf leaf.leaf leaf.begins (c.in-Err.is ∙ ap Err (c.block_refusal.ensures.damaged block d).1)
 
 pub returns-in_err-last-clause-inside : goal.returns-in_err-last-clause-inside
 returns-in_err-last-clause-inside g c = c.leaf_place.ensures.inside
@@ -46,7 +46,7 @@ returns-in_default-clause-damaged g c = λ well known block e. absurd (c.in_defa
 
 pub returns-in-Err-clause-damaged : goal.returns-in-Err-clause-damaged
 returns-in-Err-clause-damaged g c = λ well known block e.
-    let d : c.fault_of.result ≡ Damaged block = search rules in
-    let f = c.fault_of.ensures.damaged block d in
+    let d : c.block_refusal.result ≡ Damaged block = search rules in
+    let f = c.block_refusal.ensures.damaged block d in
     bad_leaf_block g.O.OnceDisk c.leaf_place.new.reader (g.O.OnceDisk.known c.args.seen.now) (g.O.OnceDisk.block_count (reader_disk c.args.reader.now)) c.args.key c.args.from c.args.place.now c.in_ok-last.last (c.in_ok-last.ensures.arrives well known)
     c.in-Some.block.now c.octets.result.now c.in-Some.ensures.some c.octets.ensures.value (λ leaf begins. c.part_in.ensures.leaf leaf begins (c.in-Err.is ∙ ap Err f.1)) block (sym f.0)
