@@ -17,7 +17,7 @@ _rha() {
   read -ra words <<<"$line"
   [ "${line: -1}" = " " ] || unset "words[-1]"
   case ${words[-1]} in
-    --collectors | --ring | --pages | --blocks | --collector | --batch | --mark | --listen | --http | --workers | --idle | --wait | --at | --peer | --within)
+    --collectors | --ring | --pages | --blocks | --collector | --batch | --mark | --listen | --http | --workers | --idle | --wait | --at | --peer | --within | --since | --until | --origin | --via)
       compopt +o default
       return
       ;;
@@ -27,7 +27,7 @@ _rha() {
       ;;
   esac
   case ${words[1]}/$word in
-    /*) offered="create load ask serve check info dump peers diff --help --version" ;;
+    /*) offered="create load ask serve check info dump peers diff find --help --version" ;;
     create/-*) offered="--collectors --ring --pages --blocks --help" ;;
     load/-*) offered="--wait --collector --batch --mark --resume --lose-entries --strict --help" ;;
     serve/-*) offered="--wait --listen --workers --read-only --close-on-http --admin --http --idle --help" ;;
@@ -36,6 +36,7 @@ _rha() {
     dump/-*) offered="--wait --at --peer --format --help" ;;
     peers/-*) offered="--wait --at --help" ;;
     diff/-*) offered="--wait --within --help" ;;
+    find/-*) offered="--wait --exact --more --less --since --until --origin --via --help" ;;
     info/-*) offered="--wait --json --help" ;;
     ask/*) [ ${#words[@]} -lt 3 ] || offered=$(_rha_request "${words[@]:3}") ;;
   esac

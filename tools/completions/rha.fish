@@ -34,6 +34,7 @@ complete -c rha -n __fish_is_first_arg -a info -d 'Show how far an archive has c
 complete -c rha -n __fish_is_first_arg -a dump -d 'Write the table of one moment'
 complete -c rha -n __fish_is_first_arg -a peers -d 'Count the routes of each peer at a moment'
 complete -c rha -n __fish_is_first_arg -a diff -d 'Compare the tables of two moments'
+complete -c rha -n __fish_is_first_arg -a find -d 'Find what happened to a prefix, or which routes it has'
 
 complete -c rha -n '__rha_is create' -x -l collectors -d 'How many collectors there are, 1 to 16'
 complete -c rha -n '__rha_is create' -x -l ring -d 'Pages of the ring of each collector, 9 to 65535'
@@ -41,7 +42,7 @@ complete -c rha -n '__rha_is create' -x -l pages -d 'Pages of the archive, with 
 complete -c rha -n '__rha_is create' -x -l blocks -d 'Write-once blocks of the archive'
 complete -c rha -n '__rha_is create' -a '(__fish_complete_directories)'
 
-for command in load ask serve check info dump peers diff
+for command in load ask serve check info dump peers diff find
     complete -c rha -n "__rha_is $command" -x -l wait -d 'Seconds to wait while the archive is in use, 0 to 1000000'
 end
 
@@ -70,13 +71,21 @@ complete -c rha -n '__rha_is info' -a '(__fish_complete_directories)'
 for command in dump peers
     complete -c rha -n "__rha_is $command" -x -l at -d 'The moment of the table'
 end
-for command in dump peers diff
+for command in dump peers diff find
     complete -c rha -n "__rha_is $command" -a '(__fish_complete_directories)'
 end
 
 complete -c rha -n '__rha_is dump' -x -l peer -d 'Of this peer alone'
 complete -c rha -n '__rha_is dump' -x -l format -a 'lines bgpdump json' -d 'How a row is written'
 complete -c rha -n '__rha_is diff' -x -l within -d 'Only prefixes inside this one'
+
+complete -c rha -n '__rha_is find' -l exact -d 'This prefix alone'
+complete -c rha -n '__rha_is find' -l more -d 'All prefixes inside it'
+complete -c rha -n '__rha_is find' -l less -d 'All prefixes that contain it'
+complete -c rha -n '__rha_is find' -x -l since -d 'What happened from this moment on'
+complete -c rha -n '__rha_is find' -x -l until -d 'The last moment'
+complete -c rha -n '__rha_is find' -x -l origin -d 'Only routes whose path ends in this AS number'
+complete -c rha -n '__rha_is find' -x -l via -d 'Only routes whose path has this AS number'
 
 complete -c rha -n '__rha_is ask' -l all -d 'Follow M to the end'
 complete -c rha -n '__rha_is ask' -l human -d 'Dates, and communities as texts'

@@ -2,15 +2,15 @@
 
 use crate::be;
 use service::{
-    Checking, CommandError, Comparing, Creation, Dumping, Examining, Invocation, Listing, Loading,
-    Question, Serving, command,
+    Checking, CommandError, Comparing, Creation, Dumping, Examining, Finding, Invocation, Listing,
+    Loading, Question, Serving, command,
 };
 use std::alloc::Global;
 use std::net::SocketAddrV4;
 
 /// Words, with lines between them, and what they ask for: the folder a, and each further thing that they say, or what takes its
 /// place where they don't.
-const ACCEPTED: [(&str, &str); 55] = [
+const ACCEPTED: [(&str, &str); 57] = [
     // What isn't chosen.
     ("rha|create|a", "create a 1 4096 10000000 100000000"),
     (
@@ -147,6 +147,11 @@ const ACCEPTED: [(&str, &str); 55] = [
     ("rha|diff|a|x|y", "diff a x y"),
     ("rha|diff|--within|p|a|1|2", "diff a 1 2 within p"),
     ("rha|diff|a|1|2|--wait|7", "diff a 1 2 wait 7"),
+    ("rha|find|a|p", "find a p"),
+    (
+        "rha|find|--exact|a|--more|p|--less|--since=x|--until|y|--origin|v|--via=w|--wait|7",
+        "find a p exact more less since x until y origin v via w wait 7",
+    ),
     // What an archive is waited for stands last, where it is.
     (
         "rha|load|a|--collector=0|--wait|1000000|a.mrt",
@@ -316,6 +321,25 @@ impl Line {
         self.waits(asked.wait);
     }
 
+    fn finding(&mut self, asked: &Finding<'_>) {
+        self.word(asked.folder);
+        self.word(asked.prefix);
+        if asked.exact {
+            self.word("exact");
+        }
+        if asked.more {
+            self.word("more");
+        }
+        if asked.less {
+            self.word("less");
+        }
+        self.option("since", asked.since);
+        self.option("until", asked.until);
+        self.option("origin", asked.origin);
+        self.option("via", asked.via);
+        self.waits(asked.wait);
+    }
+
     /// Adds an address and a port.
     fn place(&mut self, place: SocketAddrV4) {
         match format!(in self.alloc; "{place}") {
@@ -397,6 +421,10 @@ fn line_of(alloc: Global, invocation: &Invocation<'_>) -> Line {
         Invocation::Diff(asked) => {
             line.add("diff");
             line.comparing(asked);
+        }
+        Invocation::Find(asked) => {
+            line.add("find");
+            line.finding(asked);
         }
     }
     line

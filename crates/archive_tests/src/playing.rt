@@ -18,13 +18,15 @@ use crate::scripts::updates::UPDATES;
 use crate::scripts::whole::WHOLE_TABLES;
 use crate::{be, be_at};
 use service::{
-    Comparing, Dumping, FileLoad, Invocation, Listing, Loading, Output, Question, check_archive,
-    command, load_files,
+    Comparing, Dumping, FileLoad, Finding, Invocation, Listing, Loading, Output, Question,
+    check_archive, command, load_files,
 };
 use std::alloc::Global;
 use std::io::Read;
 use std::process::Abort;
-use tables::{ask, diff, dump, peers, read_comparison, read_listing, read_table};
+use tables::{
+    ask, diff, dump, find, peers, read_comparison, read_listing, read_search, read_table,
+};
 
 /// Octets that are read in pieces of this many at most.
 #[derive(Drop)]
@@ -151,6 +153,22 @@ fn diff_of(
     ))
 }
 
+/// Shows what a command line looks for: the exit status. None where a text isn't valid.
+fn find_of(
+    alloc: Global,
+    archive: &mut MemArchive,
+    asked: &Finding<'_>,
+    out: &mut Vec<u8>,
+    err: &mut Vec<u8>,
+) -> Option<u8> {
+    let search = match read_search(asked) {
+        Ok(search) => search,
+        Err(_) => return None,
+    };
+    let (mut lines, mut refusals) = (Output::new(out), Output::new(err));
+    Some(find(alloc, archive, &search, false, &mut lines, &mut refusals))
+}
+
 /// Checks the archive: the exit status.
 fn check(alloc: Global, archive: &mut MemArchive, out: &mut Vec<u8>, err: &mut Vec<u8>) -> u8 {
     check_archive(alloc, archive, &mut Output::new(out), &mut Output::new(err))
@@ -171,6 +189,7 @@ fn run(
         Invocation::Dump(asked) => dump_of(alloc, archive, asked, &mut out, &mut err)?,
         Invocation::Peers(asked) => peers_of(alloc, archive, asked, &mut out, &mut err)?,
         Invocation::Diff(asked) => diff_of(alloc, archive, asked, &mut out, &mut err)?,
+        Invocation::Find(asked) => find_of(alloc, archive, asked, &mut out, &mut err)?,
         Invocation::Check(_) => check(alloc, archive, &mut out, &mut err),
         Invocation::Create(_) | Invocation::Serve(_) | Invocation::Info(_) => return None,
     };
@@ -336,7 +355,7 @@ fn whole_tables_are_played(rt: HostRuntime) {
     let count = play_all(&rt, rt.alloc(), &WHOLE_TABLES, WHOLE);
     be(
         &rt,
-        count.scripts == 3 && count.commands == 27,
+        count.scripts == 3 && count.commands == 33,
         "whole tables",
     );
 }

@@ -30,6 +30,7 @@ Commands:
   dump    Writes the table of one moment
   peers   Counts the routes of each peer that has one at a moment
   diff    Compares the tables of two moments
+  find    Finds what happened to a prefix, or which routes it has
 
 Options:
   -h, --help     Print help
@@ -42,6 +43,7 @@ Example:
   rha check a
   rha info a
   rha dump a --format bgpdump
+  rha find a 10.0.0.0/8 --more --since 2024-01-01T00:00:00Z
   rha serve a --listen 127.0.0.1:17900 --workers 4 --read-only --admin a.sock
 
 `rha COMMAND --help` has the limits of a command, its defaults and its exit statuses.
@@ -357,7 +359,7 @@ const WRONG: [Shown; 16] = [
         words: "rha",
         kind: ErrorKind::MissingSubcommand,
         code: 2,
-        text: "error: 'rha' requires a subcommand but one was not provided\n  [subcommands: create, load, ask, serve, check, info, dump, peers, diff]",
+        text: "error: 'rha' requires a subcommand but one was not provided\n  [subcommands: create, load, ask, serve, check, info, dump, peers, diff, find]",
         end: USAGE_END,
     },
     Shown {

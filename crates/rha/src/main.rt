@@ -39,7 +39,7 @@ use crate::examining::info;
 use crate::loading::load;
 use crate::served::serve;
 use crate::streams::{DEV_NULL, open_closed_streams};
-use crate::table_reading::{diff, dump, peers};
+use crate::table_reading::{diff, dump, find, peers};
 use advice::advise_text;
 use service::{Invocation, Output, command, report_out_of_memory, report_outside, report_usage};
 use std::alloc::{AllocError, Global};
@@ -93,6 +93,7 @@ fn run<
         Ok(Invocation::Dump(asked)) => dump(rt, &asked, err),
         Ok(Invocation::Peers(asked)) => peers(rt, &asked, err),
         Ok(Invocation::Diff(asked)) => diff(rt, &asked, err),
+        Ok(Invocation::Find(asked)) => find(rt, &asked, err),
         Err(error) => {
             let code = report_usage(alloc, rt, &error, err);
             advise_text(alloc, &error, err);

@@ -6,10 +6,14 @@ use advice::{MarkAdvice, advise};
 use archive_calls::RouteArchive;
 use file_archive::FileArchive;
 use route_model::Moment;
-use service::{Comparing, Dumping, Listing, Output, Refusal, report_out_of_memory, report_refusal};
+use service::{
+    Comparing, Dumping, Finding, Listing, Output, Refusal, report_out_of_memory, report_refusal,
+};
 use std::alloc::Global;
 use std::io::{BufWriter, IsTerminal, Write};
-use tables::{BadArgument, TROUBLE, moment_of, read_comparison, read_listing, read_table};
+use tables::{
+    BadArgument, TROUBLE, moment_of, read_comparison, read_listing, read_search, read_table,
+};
 
 /// What is expected of an argument.
 fn expected(argument: BadArgument) -> &'static str {
@@ -19,7 +23,9 @@ fn expected(argument: BadArgument) -> &'static str {
             "a moment is seconds since 1970, 0 to 4294967295, or a timestamp as 2024-01-01T00:15:00Z",
         BadArgument::Peer =>
             "--peer: a collector, 0 to 15, an address and an AS number, as 0 192.0.2.1 64496",
-        BadArgument::Prefix => "--within: a prefix is an address, / and a length, as 10.0.0.0/8",
+        BadArgument::Prefix => "a prefix is an address, / and a length, as 10.0.0.0/8",
+        BadArgument::AsNumber => "an AS number is 0 to 4294967295, as 64496",
+        BadArgument::Scope => "at most one of --exact, --more and --less can be given",
     }
 }
 
@@ -111,6 +117,28 @@ pub(crate) fn diff<E: Write>(rt: &HostRuntime, asked: &Comparing<'_>, err: &mut 
     let code = tables::diff(alloc, &mut archive, &comparison, is_seen, &mut out, err);
     if code == TROUBLE {
         report_unread(alloc, &archive, comparison.from.max(comparison.to), err);
+    }
+    code
+}
+
+/// Shows what is found of some prefixes by the archive of a folder.
+pub(crate) fn find<E: Write>(rt: &HostRuntime, asked: &Finding<'_>, err: &mut Output<E>) -> u8 {
+    let alloc = rt.alloc();
+    let search = match read_search(asked) {
+        Ok(search) => search,
+        Err(argument) => return report_bad(alloc, argument, err),
+    };
+    let Some(mut archive) = open_to_read(rt, asked.folder, asked.wait, First::Nothing, err) else {
+        return 1;
+    };
+    let is_seen = rt.stdout().is_terminal();
+    let Ok(buffer) = BufWriter::new(alloc, rt.stdout()) else {
+        return report_out_of_memory(err);
+    };
+    let mut out = Output::new(buffer);
+    let code = tables::find(alloc, &mut archive, &search, is_seen, &mut out, err);
+    if code != 0 {
+        report_unread(alloc, &archive, moment_of(&archive, search.until), err);
     }
     code
 }

@@ -18,7 +18,7 @@ use Rattle.std.specs.Box.{box_value}
 use Rattle.service.specs.CommandLines.{program, AreWordsOf, IsInvocation, HasBadMark, HasBadListen, HasBadHttp}
 use Rattle.service.specs.inner.Naming.{IsCommand, AsksFor, NamesNoMark, NamesNoListen, NamesNoHttp}
 use Rattle.service.specs.declared.invocation.Invocation.{Invocation}
-use Rattle.service.specs.declared.invocation.Invocation.TheVariants.{Create, Load, Ask, Serve, Check, Info, Dump, Peers, Diff}
+use Rattle.service.specs.declared.invocation.Invocation.TheVariants.{Create, Load, Ask, Serve, Check, Info, Dump, Peers, Diff, Find}
 use Rattle.service.specs.declared.invocation.CommandError.{CommandError}
 use Rattle.service.specs.declared.invocation.CommandError.TheVariants.{Usage, OutOfMemory}
 
@@ -135,6 +135,7 @@ asked_by app words m (Info e) h a = (a.0, words_met app words m (codes "info") a
 asked_by app words m (Dump d) h a = (a.0, words_met app words m (codes "dump") a.0 h a.1, a.2)
 asked_by app words m (Peers l) h a = (a.0, words_met app words m (codes "peers") a.0 h a.1, a.2)
 asked_by app words m (Diff c) h a = (a.0, words_met app words m (codes "diff") a.0 h a.1, a.2)
+asked_by app words m (Find f) h a = (a.0, words_met app words m (codes "find") a.0 h a.1, a.2)
 
 pub no_mark_by : (app : App) (words : List Text) (m : ArgMatches) → IsMet app words m → NamesNoMark (subcommand_rows_of m) → HasBadMark words
 no_mark_by app words m h a = (a.0, words_met app words m (codes "load") a.0 h a.1, a.2)

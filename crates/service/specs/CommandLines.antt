@@ -19,8 +19,9 @@ use Rattle.service.specs.declared.invocation.Examining.{Examining}
 use Rattle.service.specs.declared.invocation.Dumping.{Dumping}
 use Rattle.service.specs.declared.invocation.Listing.{Listing}
 use Rattle.service.specs.declared.invocation.Comparing.{Comparing}
+use Rattle.service.specs.declared.invocation.Finding.{Finding}
 use Rattle.service.specs.declared.invocation.Invocation.{Invocation}
-use Rattle.service.specs.declared.invocation.Invocation.TheVariants.{Create, Load, Ask, Serve, Check, Info, Dump, Peers, Diff}
+use Rattle.service.specs.declared.invocation.Invocation.TheVariants.{Create, Load, Ask, Serve, Check, Info, Dump, Peers, Diff, Find}
 use Rattle.std.specs.declared.net.socket_addr.SocketAddrV4.{SocketAddrV4}
 use Rattle.service.specs.Listening.{IsHttpIf, IsListenText, IsNoHttp, IsNoListenText}
 
@@ -158,6 +159,14 @@ listing = of_moment (codes "peers")
 abbrev pub comparing : App
 comparing = with_rule (with_rule (with_rule (of_archive (codes "diff")) (word_rule (codes "FROM"))) (word_rule (codes "TO"))) (text_rule (codes "within"))
 
+-- find DIR [--wait SECONDS] PREFIX [--exact] [--more] [--less]
+abbrev pub finding_in_scope : App
+finding_in_scope = with_rule (with_rule (with_rule (with_rule (of_archive (codes "find")) (word_rule (codes "PREFIX"))) (flag_rule (codes "exact"))) (flag_rule (codes "more"))) (flag_rule (codes "less"))
+
+-- find DIR PREFIX [--exact] [--more] [--less] [--since A] [--until B] [--origin AS] [--via AS]
+abbrev pub finding : App
+finding = with_rule (with_rule (with_rule (with_rule finding_in_scope (text_rule (codes "since"))) (text_rule (codes "until"))) (text_rule (codes "origin"))) (text_rule (codes "via"))
+
 -- the program without its commands, of which one has to be there
 abbrev pub bare_program : App
 bare_program = on_top (λ s. record s { subcommand_required = true; disable_help_subcommand = true; has_version = true }) (new_app (codes "rha"))
@@ -168,7 +177,7 @@ archive_program = with_subcommand (with_subcommand (with_subcommand (with_subcom
 
 -- the program
 abbrev pub program : App
-program = with_subcommand (with_subcommand (with_subcommand archive_program dumping.top) listing.top) comparing.top
+program = with_subcommand (with_subcommand (with_subcommand (with_subcommand archive_program dumping.top) listing.top) comparing.top) finding.top
 
 -- the words, with one space between two
 abbrev pub spaced : List (List ℕ) → List ℕ
@@ -280,6 +289,19 @@ pub record IsComparing (rows : List Row) (c : Comparing) : Type 0 where
   pub second : c.to.now ≡ word_in (codes "TO") rows
   pub prefix : option_map (λ t. t.now) c.within ≡ first_of (codes "within") rows
 
+-- what is read of the arguments of `find`
+pub record IsFinding (rows : List Row) (f : Finding) : Type 0 where
+  pub folder : f.folder.now ≡ word_in (codes "DIR") rows
+  pub wait : IsNumber 0 1000000 (first_of (codes "wait") rows) f.wait
+  pub named : f.prefix.now ≡ word_in (codes "PREFIX") rows
+  pub exact : IsThere (one_of (codes "exact") rows) f.exact
+  pub more : IsThere (one_of (codes "more") rows) f.more
+  pub less : IsThere (one_of (codes "less") rows) f.less
+  pub first : option_map (λ t. t.now) f.since ≡ first_of (codes "since") rows
+  pub last : option_map (λ t. t.now) f.until ≡ first_of (codes "until") rows
+  pub origin : option_map (λ t. t.now) f.origin ≡ first_of (codes "origin") rows
+  pub via : option_map (λ t. t.now) f.via ≡ first_of (codes "via") rows
+
 -- the words are accepted: they are those of the command of this name with these arguments
 pub record AreWordsOf (name : List ℕ) (words : List (List ℕ)) (rows : List Row) : Type 0 where
   pub accepted : fault_of program words ≡ []
@@ -296,6 +318,7 @@ IsInvocation words (Info e) = (rows : List Row) × AreWordsOf (codes "info") wor
 IsInvocation words (Dump d) = (rows : List Row) × AreWordsOf (codes "dump") words rows × IsDumping rows d
 IsInvocation words (Peers l) = (rows : List Row) × AreWordsOf (codes "peers") words rows × IsListing rows l
 IsInvocation words (Diff c) = (rows : List Row) × AreWordsOf (codes "diff") words rows × IsComparing rows c
+IsInvocation words (Find f) = (rows : List Row) × AreWordsOf (codes "find") words rows × IsFinding rows f
 
 -- the words are accepted as those of `load`, but the text of the mark is that of no mark
 abbrev pub HasBadMark : List (List ℕ) → Type 0

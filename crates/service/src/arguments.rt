@@ -4,7 +4,7 @@ ghost use Rattle.std.specs.Prelude.{◌≡◌, IfOk, false, codes};
 ghost use Rattle.clap.specs.Simple.{app_of};
 ghost use Rattle.clap.specs.Walk.{rule_of};
 ghost use Rattle.clap.specs.declared.builder.command.Command.TheViews.{out-Command};
-ghost use Rattle.service.specs.CommandLines.{listen_rule, files_rule, words_rule, word_rule, number_rule, number_or_rule, of_folder, of_archive, creation_of_rings, creation, loading_of_batches, loading_to_mark, loading, question, serving_by_workers, serving_on_port, serving, checking, examining, flag_rule, text_rule, text_or_rule, peer_rule, of_moment, dumping, listing, comparing, bare_program, archive_program, program};
+ghost use Rattle.service.specs.CommandLines.{listen_rule, files_rule, words_rule, word_rule, number_rule, number_or_rule, of_folder, of_archive, creation_of_rings, creation, loading_of_batches, loading_to_mark, loading, question, serving_by_workers, serving_on_port, serving, checking, examining, flag_rule, text_rule, text_or_rule, peer_rule, of_moment, dumping, listing, comparing, finding_in_scope, finding, bare_program, archive_program, program};
 
 use crate::help;
 use clap::builder::ValueParser;
@@ -394,6 +394,35 @@ fn comparing<'a>(alloc: Global) -> Result<Command<'a>, AllocError>
     .arg(text(alloc, "within", "PREFIX", "Only prefixes inside this one"))
 }
 
+/// `find DIR [--wait SECONDS] PREFIX [--exact] [--more] [--less]`
+fn finding_in_scope<'a>(alloc: Global) -> Result<Command<'a>, AllocError>
+    ensures app { IfOk result (λ c. app_of c ≡ finding_in_scope) }
+    ensures own { IfOk result (λ c. (out-Command c).has_globals ≡ false) }
+{
+    let about = "Finds what happened to a prefix, or which routes it has";
+    of_archive(alloc, "find", about, help::FIND)?
+        .arg(word(alloc, "PREFIX", "The prefix, as 10.0.0.0/8"))?
+        .arg(flag(alloc, "exact", "This prefix alone, as without an option"))?
+        .arg(flag(alloc, "more", "All prefixes inside it, too"))?
+        .arg(flag(alloc, "less", "All prefixes that contain it, too"))
+}
+
+/// `find DIR PREFIX [--exact] [--more] [--less] [--since A] [--until B] [--origin AS] [--via AS]`
+fn finding<'a>(alloc: Global) -> Result<Command<'a>, AllocError>
+    ensures app { IfOk result (λ c. app_of c ≡ finding) }
+    ensures own { IfOk result (λ c. (out-Command c).has_globals ≡ false) }
+{
+    let since = "What happened from this moment on; without it the routes at B";
+    let until = "The last moment; without it the last that is settled";
+    let origin = "Only of routes whose path ends in this AS number";
+    let via = "Only of routes whose path has this AS number";
+    finding_in_scope(alloc)?
+        .arg(text(alloc, "since", "A", since))?
+        .arg(text(alloc, "until", "B", until))?
+        .arg(text(alloc, "origin", "AS", origin))?
+        .arg(text(alloc, "via", "AS", via))
+}
+
 /// The program, without its commands.
 fn bare_program<'a>(alloc: Global) -> Command<'a>
     ensures app { app_of result ≡ bare_program }
@@ -426,5 +455,6 @@ pub(crate) fn program<'a>(alloc: Global) -> Result<Command<'a>, AllocError>
     archive_program(alloc)?
         .subcommand(dumping(alloc)?)?
         .subcommand(listing(alloc)?)?
-        .subcommand(comparing(alloc)?)
+        .subcommand(comparing(alloc)?)?
+        .subcommand(finding(alloc)?)
 }

@@ -8,7 +8,7 @@ ghost use Rattle.clap.specs.Simple.{subcommand_rows_of};
 ghost use Rattle.clap.specs.Walk.{Row, rows_of, first_of, one_of, all_of};
 ghost use Rattle.clap.specs.Values.{kind_of};
 ghost use Rattle.clap.specs.declared.error.Error.{Error};
-ghost use Rattle.service.specs.CommandLines.{program, spaced, word_in, IsMarkIf, IsNoMark, IsNumber, IsThere, IsThereOr, IsCreation, IsLoading, IsQuestion, IsServing, IsChecking, IsExamining, IsDumping, IsListing, IsComparing, IsInvocation, HasBadMark, HasBadListen, HasBadHttp, HasNoHttp};
+ghost use Rattle.service.specs.CommandLines.{program, spaced, word_in, IsMarkIf, IsNoMark, IsNumber, IsThere, IsThereOr, IsCreation, IsLoading, IsQuestion, IsServing, IsChecking, IsExamining, IsDumping, IsListing, IsComparing, IsFinding, IsInvocation, HasBadMark, HasBadListen, HasBadHttp, HasNoHttp};
 ghost use Rattle.service.specs.Listening.{IsNoListenText};
 ghost use Rattle.service.specs.inner.Naming.{AsksFor, IsCommand, NamesNoHttp, NamesNoListen, NamesNoMark};
 
@@ -17,8 +17,8 @@ use crate::arguments::{
     MIN_RING, program,
 };
 use crate::invocation::{
-    Checking, CommandError, Comparing, Creation, Dumping, Examining, Invocation, Listing, Loading,
-    Question, Serving,
+    Checking, CommandError, Comparing, Creation, Dumping, Examining, Finding, Invocation, Listing,
+    Loading, Question, Serving,
 };
 use crate::listening::{read_http, read_listen};
 use clap::ArgMatches;
@@ -257,6 +257,24 @@ fn comparing_of<'a>(matches: &ArgMatches<'a>) -> Comparing<'a>
     }
 }
 
+/// What the arguments of `find` ask for.
+fn finding_of<'a>(matches: &ArgMatches<'a>) -> Finding<'a>
+    ensures found { IsFinding (rows_of (found_of matches.now)) result }
+{
+    Finding {
+        wait: number_of(matches, "wait", 0, MAX_WAIT),
+        folder: word_of(matches, "DIR"),
+        prefix: word_of(matches, "PREFIX"),
+        exact: is_there(matches, "exact"),
+        more: is_there(matches, "more"),
+        less: is_there(matches, "less"),
+        since: text_of(matches, "since"),
+        until: text_of(matches, "until"),
+        origin: text_of(matches, "origin"),
+        via: text_of(matches, "via"),
+    }
+}
+
 /// What the command that is named asks for.
 fn invocation_of<'a>(
     alloc: Global,
@@ -309,10 +327,13 @@ fn invocation_of<'a>(
     if let Some(matches) = matches.subcommand_matches("peers") {
         return Ok(Invocation::Peers(listing_of(matches)));
     }
-    let Some(matches) = matches.subcommand_matches("diff") else {
+    if let Some(matches) = matches.subcommand_matches("diff") {
+        return Ok(Invocation::Diff(comparing_of(matches)));
+    }
+    let Some(matches) = matches.subcommand_matches("find") else {
         unreachable!()
     };
-    Ok(Invocation::Diff(comparing_of(matches)))
+    Ok(Invocation::Find(finding_of(matches)))
 }
 
 /// What an error of `clap` is.
@@ -337,13 +358,14 @@ fn usage(error: clap::Error) -> CommandError
 /// - `rha dump DIR [--at T] [--peer COLLECTOR ADDRESS AS] [--format FORM]`
 /// - `rha peers DIR [--at T]`
 /// - `rha diff DIR FROM TO [--within PREFIX]`
+/// - `rha find DIR PREFIX [--exact] [--more] [--less] [--since A] [--until B] [--origin AS] [--via AS]`
 ///
 /// Each but `create` takes `--wait SECONDS` too, 0 to 1000000; in `ask` before the first WORD. The default is 0.
 ///
 /// `clap` reads the words, and each number within its limits; an option that isn't there has its default: 1 collector, a ring of 4096
 /// pages, 10000000 pages, 100000000 blocks, batches of 1000, 300 idle seconds. `--read-only` implies `--close-on-http`. Then M is read as a mark, ADDRESS as an IPv4 address and PORT as a number
-/// of at most 65535, and the WORDs are joined to a line with one space between two; the texts of `dump`, `peers` and `diff` aren't read
-/// here. All arguments after the first WORD are WORDs too, even
+/// of at most 65535, and the WORDs are joined to a line with one space between two; the texts of `dump`, `peers`, `diff` and
+/// `find` aren't read here. All arguments after the first WORD are WORDs too, even
 /// if they look like options.
 ///
 /// # Errors

@@ -8,6 +8,7 @@ pub(crate) const PROGRAM: &str = "Example:
   rha check a
   rha info a
   rha dump a --format bgpdump
+  rha find a 10.0.0.0/8 --more --since 2024-01-01T00:00:00Z
   rha serve a --listen 127.0.0.1:17900 --workers 4 --read-only --admin a.sock
 
 `rha COMMAND --help` has the limits of a command, its defaults and its exit statuses.
@@ -185,3 +186,24 @@ Example:
 Exit status, as of diff(1): 0 if the tables are the same; 1 if they differ; 2 if something was refused or
 couldn't be written (on standard error as `rha: NUMBER NAME`, or the last line is `X|NUMBER|NAME`), or the command
 line isn't accepted.";
+
+/// Of `find`.
+pub(crate) const FIND: &str =
+    "With --since, prints what happened to the prefix from A to B, both included, at any peer, in the order of time:
+  A|TIME|COLLECTOR|ADDRESS|AS|PREFIX|ROUTE     the peer announced the route
+  W|TIME|COLLECTOR|ADDRESS|AS|PREFIX           the peer withdrew the prefix
+  D|TIME|COLLECTOR|ADDRESS|AS|PREFIX           the peer's session ended, and its route for the prefix with it
+and then E|LINES. Those of one second come by peer and then by prefix. Without --since, prints each peer's route for the
+prefix at B, as the rows R of `rha ask`, and E|LINES. ROUTE is the eight fields of a row.
+At most one of --exact, --more and --less says which prefixes are meant: PREFIX alone, without an option, too; all inside it;
+or all that contain it; itself included in each case.
+With --origin and --via only routes are shown whose path ends in the AS number, or has it anywhere; of what happened, only what
+began, replaced or ended such a route. With both, one route has to match both. A and B are moments, and B has to be below the
+settled watermark; without --until it is the last moment that is.
+
+Examples:
+  rha find a 10.0.0.0/8 --more --origin 64496
+  rha find a 10.0.0.0/8 --since 2024-01-01T00:00:00Z --until 2024-01-01T00:10:00Z
+
+Exit status: 0 if all is printed; 1 if something was refused or couldn't be written (on standard error as
+`rha: NUMBER NAME`, or the last line is `X|NUMBER|NAME`); 2 if the command line isn't accepted.";

@@ -103,6 +103,31 @@ pub struct Comparing<'a> {
     pub within: Option<&'a str>,
 }
 
+/// What `find` is given: texts, as on the command line.
+#[derive(Debug, Drop)]
+pub struct Finding<'a> {
+    /// How many seconds to wait for the archive while it is in use, 0 to 1000000.
+    pub wait: u64,
+    /// The folder of the archive.
+    pub folder: &'a str,
+    /// The prefix.
+    pub prefix: &'a str,
+    /// Whether the prefix alone is meant.
+    pub exact: bool,
+    /// Whether all prefixes inside it are meant.
+    pub more: bool,
+    /// Whether all prefixes that contain it are meant.
+    pub less: bool,
+    /// The moment from which on what happened is shown.
+    pub since: Option<&'a str>,
+    /// The last moment.
+    pub until: Option<&'a str>,
+    /// The AS number in which paths end.
+    pub origin: Option<&'a str>,
+    /// The AS number that paths have.
+    pub via: Option<&'a str>,
+}
+
 /// What `serve` is given.
 #[derive(Debug, Drop)]
 pub struct Serving<'a> {
@@ -167,6 +192,8 @@ pub enum Invocation<'a> {
     Peers(Listing<'a>),
     /// The tables of two moments are compared.
     Diff(Comparing<'a>),
+    /// What happened to prefixes is shown, or which routes they have.
+    Find(Finding<'a>),
 }
 
 /// Why a command line asks for nothing.

@@ -73,8 +73,8 @@ pub use feed_lines::{FeedCounts, write_admitted, write_counts, write_settled};
 pub use feeding::{report_batch, report_refused};
 pub use intake::{End, cut_of, feed, report_end, report_stop};
 pub use invocation::{
-    Checking, CommandError, Comparing, Creation, Dumping, Examining, Invocation, Listing, Loading,
-    Question, Serving,
+    Checking, CommandError, Comparing, Creation, Dumping, Examining, Finding, Invocation, Listing,
+    Loading, Question, Serving,
 };
 pub use laws::{batches_share_a_feed, resumed_feeds_drop_the_first};
 pub use limits::BatchLimits;

@@ -5,6 +5,7 @@ ghost use Rattle.route_meaning.specs.History.{History};
 use crate::cursor::Cursor;
 use crate::ending::{end_lines, of_memory};
 use crate::reading::Comparison;
+use crate::scope::Scope;
 use archive_calls::{AskError, RouteArchive, Trouble};
 use route_meaning::{Row, Spot};
 use route_text::write_route;
@@ -122,6 +123,11 @@ fn write_lines<A: RouteArchive, W: Write>(
     Err(AskError::Trouble(Trouble::CounterFull))
 }
 
+/// Which prefixes are compared, or all if there is none.
+fn scope_of(asked: &Comparison) -> Option<Scope> {
+    asked.within.map(Scope::More)
+}
+
 /// Writes the line of each place where the tables of two moments differ, of all prefixes or of those inside one, and then `E|LINES`; a
 /// refusal is the last line. How many lines were written.
 pub(crate) fn write_differences<A: RouteArchive, W: Write, E: Write>(
@@ -133,8 +139,8 @@ pub(crate) fn write_differences<A: RouteArchive, W: Write, E: Write>(
 ) -> (u64, Status)
     ensures kept { (h : History) → A.represents archive.old h → A.represents archive.new h }
 {
-    let mut old = Cursor::new(alloc, asked.from, asked.within);
-    let mut new = Cursor::new(alloc, asked.to, asked.within);
+    let mut old = Cursor::new(alloc, asked.from, scope_of(asked));
+    let mut new = Cursor::new(alloc, asked.to, scope_of(asked));
     let ended = write_lines(alloc, archive, &mut old, &mut new, out);
     let count = match ended {
         Ok(count) => count,

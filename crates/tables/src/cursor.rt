@@ -3,48 +3,45 @@
 ghost use Rattle.route_meaning.specs.History.{History};
 
 use crate::pages::{question_after, rows_page};
+use crate::scope::Scope;
 use archive_calls::{AskError, RouteArchive, Trouble};
-use route_meaning::{Row, RowsQuestion, Select};
-use route_model::{Moment, Prefix};
+use route_meaning::{Row, RowsAnswer, RowsQuestion, Select};
+use route_model::Moment;
 use std::alloc::Global;
 
-/// All rows of a moment that weren't taken yet, or those of prefixes inside one.
+/// All rows of a moment that weren't taken yet, or those of some prefixes.
 #[derive(Debug, Drop)]
 pub(crate) struct Cursor {
     /// The question of the rows after those that were found.
     question: Option<RowsQuestion>,
-    within: Option<Prefix>,
+    /// Which prefixes, or all if there is none.
+    scope: Option<Scope>,
     /// Those that were found, the next one last.
     found: Vec<Row>,
 }
 
-/// Whether all addresses of the prefix are among those of the other one.
-fn is_inside(prefix: &Prefix, outer: &Prefix) -> bool {
-    let (address, outer_address) = (prefix.address(), outer.address());
-    let length = outer.length();
-    address.family() == outer_address.family()
-        && length <= prefix.length()
-        && Prefix::containing(address, length) == *outer
-}
-
 impl Cursor {
     /// A cursor before the first row.
-    pub(crate) fn new(alloc: Global, moment: Moment, within: Option<Prefix>) -> Cursor {
+    pub(crate) fn new(alloc: Global, moment: Moment, scope: Option<Scope>) -> Cursor {
+        let select = match &scope {
+            Some(scope) => scope.select(),
+            None => Select::All,
+        };
         Cursor {
             question: Some(RowsQuestion {
                 moment,
-                select: Select::All,
+                select,
                 after: None,
             }),
-            within,
+            scope,
             found: Vec::new(alloc),
         }
     }
 
     /// Whether the row is among those that are asked for.
     fn is_expected(&self, row: &Row) -> bool {
-        match &self.within {
-            Some(outer) => is_inside(&row.prefix, outer),
+        match &self.scope {
+            Some(scope) => scope.has(&row.prefix),
             None => true,
         }
     }
@@ -59,6 +56,15 @@ impl Cursor {
         None
     }
 
+    /// The question of the rows after those of an answer, if more follow that are asked for: it passes over rows that aren't.
+    fn next_question(&self, question: &RowsQuestion, answer: &RowsAnswer) -> Option<RowsQuestion> {
+        let mut next = question_after(question, answer)?;
+        if let (Some(scope), Some(spot)) = (&self.scope, next.after) {
+            next.after = Some(scope.leap(spot));
+        }
+        Some(next)
+    }
+
     /// Takes the next row, or none after the last one.
     pub(crate) fn take<A: RouteArchive>(&mut self, archive: &mut A) -> Result<Option<Row>, AskError>
         ensures kept { (h : History) → A.represents archive.old h → A.represents archive.new h }
@@ -71,7 +77,7 @@ impl Cursor {
                 return Ok(None);
             };
             let answer = rows_page(archive, question)?;
-            self.question = question_after(&question, &answer);
+            self.question = self.next_question(&question, &answer);
             self.found = answer.rows;
             self.found.reverse();
         }

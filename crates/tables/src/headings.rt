@@ -16,6 +16,8 @@ pub(crate) enum Columns {
     Peers,
     /// Places where two tables differ.
     Differences,
+    /// What happened at places.
+    Found,
 }
 
 const ROWS: &str =
@@ -35,12 +37,16 @@ const PEERS: &str = "P|COLLECTOR|PEER|AS|ROUTES\n";
 const DIFFERENCES: &str =
     "+, - or ~|COLLECTOR|PEER|AS|PREFIX|PATH|ORIGIN|NEXT HOP|MED|LOCAL PREF|AGGREGATE|AGGREGATOR|OTHERS|and the new route after ~\n";
 
+const FOUND: &str =
+    "A, W or D|TIME|COLLECTOR|PEER|AS|PREFIX|PATH|ORIGIN|NEXT HOP|MED|LOCAL PREF|AGGREGATE|AGGREGATOR|OTHERS\n";
+
 /// The line over the columns, with its end. Forms for other programs have none.
 fn heading_of(columns: Columns, form: Form) -> &'static str {
     match (form, columns) {
         (Form::Bgpdump | Form::Json, _) => "",
         (_, Columns::Peers) => PEERS,
         (_, Columns::Differences) => DIFFERENCES,
+        (_, Columns::Found) => FOUND,
         (Form::Human, Columns::Rows) => DATED_ROWS,
         (Form::Lines, Columns::Rows) => ROWS,
         (Form::Human, Columns::Events) => DATED_EVENTS,

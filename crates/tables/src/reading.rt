@@ -5,11 +5,13 @@ ghost use Rattle.route_meaning.specs.History.{History};
 ghost use Rattle.tables.specs.Tables.{moment_in};
 
 use crate::form::Form;
+use crate::matching::Numbers;
+use crate::scope::Scope;
 use archive_calls::RouteArchive;
 use route_meaning::Select;
 use route_model::{Moment, Prefix};
-use route_text::{BadText, read_moment, read_prefix};
-use service::{Comparing, Dumping, Listing, read_peer};
+use route_text::{BadText, read_moment, read_number, read_prefix};
+use service::{Comparing, Dumping, Finding, Listing, read_peer};
 
 /// Which text of the command line isn't valid.
 #[derive(Clone, Copy, Debug, PartialEq, Eq)]
@@ -18,6 +20,9 @@ pub enum BadArgument {
     Moment,
     Peer,
     Prefix,
+    AsNumber,
+    /// More than one of the options that say which prefixes are meant.
+    Scope,
 }
 
 /// Which table is asked for, and how its rows are written.
@@ -36,6 +41,17 @@ pub struct Comparison {
     pub to: Moment,
     /// Only prefixes inside this one, if it is there.
     pub within: Option<Prefix>,
+}
+
+/// What is searched for.
+#[derive(Clone, Copy, Debug)]
+pub struct Search {
+    pub scope: Scope,
+    /// None if the routes of one moment are asked for, and not what happened.
+    pub since: Option<Moment>,
+    /// None for the last moment that is settled.
+    pub until: Option<Moment>,
+    pub numbers: Numbers,
 }
 
 fn read_at(text: Option<&str>) -> Result<Option<Moment>, BadArgument> {
@@ -95,6 +111,44 @@ pub fn read_comparison(asked: &Comparing<'_>) -> Result<Comparison, BadArgument>
     };
     let within = read_within(asked.within)?;
     Ok(Comparison { from, to, within })
+}
+
+fn read_as(text: Option<&str>) -> Result<Option<u32>, BadArgument> {
+    let Some(text) = text else {
+        return Ok(None);
+    };
+    match read_number(text, u64::from(u32::MAX)) {
+        Ok(number) => Ok(Some(number as u32)),
+        Err(BadText) => Err(BadArgument::AsNumber),
+    }
+}
+
+/// Which prefixes are meant, beside the one that is named: itself, if no option says more.
+fn read_scope(asked: &Finding<'_>) -> Result<Scope, BadArgument> {
+    let Ok(prefix) = read_prefix(asked.prefix) else {
+        return Err(BadArgument::Prefix);
+    };
+    match (asked.exact, asked.more, asked.less) {
+        (_, false, false) => Ok(Scope::Exact(prefix)),
+        (false, true, false) => Ok(Scope::More(prefix)),
+        (false, false, true) => Ok(Scope::Less(prefix)),
+        _ => Err(BadArgument::Scope),
+    }
+}
+
+/// What `find` asks for.
+pub fn read_search(asked: &Finding<'_>) -> Result<Search, BadArgument> {
+    let scope = read_scope(asked)?;
+    let since = read_at(asked.since)?;
+    let until = read_at(asked.until)?;
+    let origin = read_as(asked.origin)?;
+    let via = read_as(asked.via)?;
+    Ok(Search {
+        scope,
+        since,
+        until,
+        numbers: Numbers { origin, via },
+    })
 }
 
 /// The moment that is asked for, or else the last that is settled; if none is, the first of all, which is refused then.

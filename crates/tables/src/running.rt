@@ -8,8 +8,9 @@ use crate::comparing::write_differences;
 use crate::counting::write_peers;
 use crate::form::Form;
 use crate::headings::{Columns, write_heading};
-use crate::reading::{Comparison, Table, moment_of};
+use crate::reading::{Comparison, Search, Table, moment_of};
 use crate::rows::write_table;
+use crate::searching::write_search;
 use archive_calls::RouteArchive;
 use route_meaning::RowsQuestion;
 use route_model::Moment;
@@ -107,4 +108,28 @@ pub fn diff<A: RouteArchive, W: Write, E: Write>(
         return TROUBLE;
     }
     if count == 0 { 0 } else { 1 }
+}
+
+/// Writes what is found of some prefixes: the routes that hold at a moment, or what happened from one moment to another. On a terminal the
+/// names of the columns stand before.
+pub fn find<A: RouteArchive, W: Write, E: Write>(
+    alloc: Global,
+    archive: &mut A,
+    search: &Search,
+    terminal: bool,
+    out: &mut Output<W>,
+    err: &mut Output<E>,
+) -> u8
+    ensures kept { (h : History) → A.represents archive.old h → A.represents archive.new h }
+{
+    let until = moment_of(archive, search.until);
+    if terminal {
+        let columns = match search.since {
+            Some(_) => Columns::Found,
+            None => Columns::Rows,
+        };
+        write_heading(columns, Form::Lines, err);
+    }
+    let ended = write_search(alloc, archive, search, until, out, err);
+    finish(alloc, ended, out, err)
 }

@@ -1,14 +1,14 @@
 -- What the command that is named asks for. Contracts of private functions alone cite this file.
 use Rattle.std.specs.Prelude.{◌≡◌, ◌⊎◌, ℕ, List, Option, Some, codes}
 use Rattle.clap.specs.Walk.{Row, first_of}
-use Rattle.service.specs.CommandLines.{IsCreation, IsLoading, IsQuestion, IsServing, IsChecking, IsExamining, IsDumping, IsListing, IsComparing, IsNoMark, HasNoHttp, word_in}
+use Rattle.service.specs.CommandLines.{IsCreation, IsLoading, IsQuestion, IsServing, IsChecking, IsExamining, IsDumping, IsListing, IsComparing, IsFinding, IsNoMark, HasNoHttp, word_in}
 use Rattle.service.specs.Listening.{IsNoListenText}
 use Rattle.service.specs.declared.invocation.Invocation.{Invocation}
-use Rattle.service.specs.declared.invocation.Invocation.TheVariants.{Create, Load, Ask, Serve, Check, Info, Dump, Peers, Diff}
+use Rattle.service.specs.declared.invocation.Invocation.TheVariants.{Create, Load, Ask, Serve, Check, Info, Dump, Peers, Diff, Find}
 
 -- a command is named, and it is one of the program's
 abbrev pub IsCommand : Option (List ℕ) → Type 0
-IsCommand name = (name ≡ Some (codes "create")) ⊎ ((name ≡ Some (codes "load")) ⊎ ((name ≡ Some (codes "ask")) ⊎ ((name ≡ Some (codes "serve")) ⊎ ((name ≡ Some (codes "check")) ⊎ ((name ≡ Some (codes "info")) ⊎ ((name ≡ Some (codes "dump")) ⊎ ((name ≡ Some (codes "peers")) ⊎ (name ≡ Some (codes "diff")))))))))
+IsCommand name = (name ≡ Some (codes "create")) ⊎ ((name ≡ Some (codes "load")) ⊎ ((name ≡ Some (codes "ask")) ⊎ ((name ≡ Some (codes "serve")) ⊎ ((name ≡ Some (codes "check")) ⊎ ((name ≡ Some (codes "info")) ⊎ ((name ≡ Some (codes "dump")) ⊎ ((name ≡ Some (codes "peers")) ⊎ ((name ≡ Some (codes "diff")) ⊎ (name ≡ Some (codes "find"))))))))))
 
 -- the command that is named asks for this, by its arguments
 abbrev pub AsksFor : Option (List ℕ × List Row) → Invocation → Type 0
@@ -21,6 +21,7 @@ AsksFor named (Info e) = (rows : List Row) × (named ≡ Some (codes "info", row
 AsksFor named (Dump d) = (rows : List Row) × (named ≡ Some (codes "dump", rows)) × IsDumping rows d
 AsksFor named (Peers l) = (rows : List Row) × (named ≡ Some (codes "peers", rows)) × IsListing rows l
 AsksFor named (Diff c) = (rows : List Row) × (named ≡ Some (codes "diff", rows)) × IsComparing rows c
+AsksFor named (Find f) = (rows : List Row) × (named ≡ Some (codes "find", rows)) × IsFinding rows f
 
 -- `load` is named, and the text of its mark is that of no mark
 abbrev pub NamesNoMark : Option (List ℕ × List Row) → Type 0
