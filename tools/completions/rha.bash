@@ -3,9 +3,9 @@
 # What may follow these words of a request line.
 _rha_request() {
   case $#/$1/$3 in
-    0/*) echo at history watermark durable ;;
+    0/*) echo at history changed watermark durable ;;
     2/at/*) echo route prefix cover peer all ;;
-    3/at/all | 4/at/prefix | 4/at/cover | 6/at/peer) echo after ;;
+    3/at/all | 4/at/prefix | 4/at/cover | 6/at/peer | 5/changed/*) echo after ;;
     7/history/*) echo skip ;;
   esac
 }
@@ -33,10 +33,10 @@ _rha() {
     serve/-*) offered="--wait --listen --workers --read-only --close-on-http --admin --http --idle --help" ;;
     ask/-*) offered="--wait --all --human --help" ;;
     check/-*) offered="--wait --help" ;;
-    dump/-*) offered="--wait --at --peer --format --help" ;;
-    peers/-*) offered="--wait --at --help" ;;
-    diff/-*) offered="--wait --within --help" ;;
-    find/-*) offered="--wait --exact --more --less --since --until --origin --via --help" ;;
+    dump/-*) offered="--wait --connect --at --peer --format --help" ;;
+    peers/-*) offered="--wait --connect --at --help" ;;
+    diff/-*) offered="--wait --connect --within --help" ;;
+    find/-*) offered="--wait --connect --exact --more --less --since --until --origin --via --help" ;;
     info/-*) offered="--wait --json --help" ;;
     ask/*) [ ${#words[@]} -lt 3 ] || offered=$(_rha_request "${words[@]:3}") ;;
   esac

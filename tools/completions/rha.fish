@@ -5,10 +5,10 @@ function __rha_request
     set -l words (commandline -opc)
     switch (math (count $words) - 3)"/$words[4]/$words[6]"
         case '0/*'
-            printf '%s\n' at history watermark durable
+            printf '%s\n' at history changed watermark durable
         case '2/at/*'
             printf '%s\n' route prefix cover peer all
-        case 3/at/all 4/at/prefix 4/at/cover 6/at/peer
+        case 3/at/all 4/at/prefix 4/at/cover 6/at/peer '5/changed/*'
             echo after
         case '7/history/*'
             echo skip
@@ -72,6 +72,7 @@ for command in dump peers
     complete -c rha -n "__rha_is $command" -x -l at -d 'The moment of the table'
 end
 for command in dump peers diff find
+    complete -c rha -n "__rha_is $command" -l connect -d 'Ask the server at an address and port, in the place of a folder'
     complete -c rha -n "__rha_is $command" -a '(__fish_complete_directories)'
 end
 

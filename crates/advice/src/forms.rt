@@ -42,7 +42,7 @@ impl Form {
     /// In words.
     fn words(self) -> &'static str {
         match self {
-            Form::Command => "a question: at, history, watermark or durable",
+            Form::Command => "a question: at, history, changed, watermark or durable",
             Form::Select => "what is asked of a moment: route, prefix, cover, peer or all",
             Form::Moment =>
                 "a moment: seconds since 1970, 0 to 4294967295, or a timestamp as 2024-01-01T00:15:00Z",

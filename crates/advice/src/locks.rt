@@ -18,7 +18,9 @@ impl fmt::Display for Holder<'_> {
         };
         write!(f, ": {command}")?;
         if command.contains(" serve ") {
-            f.write_str("; a server is fed and asked through its socket (rha serve --help)")?;
+            f.write_str(
+                "; a server is fed and asked through its socket, also with --connect (rha serve --help)",
+            )?;
         }
         Ok(())
     }

@@ -93,6 +93,7 @@ enum TextAdvice {
     Mark,
     Listen,
     Http,
+    Connect,
 }
 
 impl fmt::Display for TextAdvice {
@@ -104,6 +105,8 @@ impl fmt::Display for TextAdvice {
                 "--listen: an IPv4 address, a colon and a port, 0 to 65535, as 127.0.0.1:17900",
             TextAdvice::Http =>
                 "--http: an IPv4 address, a colon and a port, 0 to 65535, as 127.0.0.1:17980, and not those of --listen",
+            TextAdvice::Connect =>
+                "--connect: in the place of DIR an IPv4 address, a colon and a port, 0 to 65535, as 127.0.0.1:17900",
         })
     }
 }
@@ -114,6 +117,7 @@ pub fn advise_text<E: Write>(alloc: Global, error: &CommandError, err: &mut Outp
         CommandError::BadMark => advise(alloc, &TextAdvice::Mark, err),
         CommandError::BadListen => advise(alloc, &TextAdvice::Listen, err),
         CommandError::BadHttp => advise(alloc, &TextAdvice::Http, err),
+        CommandError::BadConnect => advise(alloc, &TextAdvice::Connect, err),
         CommandError::Usage(_) | CommandError::OutOfMemory => {}
     }
 }

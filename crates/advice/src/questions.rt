@@ -6,9 +6,23 @@ use crate::marks::MarkAdvice;
 use crate::requests::first_misread;
 use crate::saying::advise;
 use archive_calls::RouteArchive;
+use route_model::Moment;
 use service::{Output, Request, read_request};
 use std::alloc::Global;
 use std::io::Write;
+
+/// Prints until when it is settled, if a question's last moment isn't.
+fn advise_moment<A: RouteArchive, E: Write>(
+    alloc: Global,
+    archive: &A,
+    last: Moment,
+    err: &mut Output<E>,
+) {
+    let settled = archive.settled();
+    if last.seconds() >= settled.seconds() {
+        advise(alloc, &MarkAdvice::Settled(settled), err);
+    }
+}
 
 /// Prints why a line that the archive refused isn't answered: which word isn't understood, until when it is settled, or which collectors
 /// there are.
@@ -27,12 +41,8 @@ pub fn advise_question<A: RouteArchive, E: Write>(
             &MarkAdvice::Collectors(archive.collectors()),
             err,
         ),
-        Ok(Request::Question(query))
-            if query.last_moment().seconds() >= archive.settled().seconds() => advise(
-            alloc,
-            &MarkAdvice::Settled(archive.settled()),
-            err,
-        ),
+        Ok(Request::Question(query)) => advise_moment(alloc, archive, query.last_moment(), err),
+        Ok(Request::Changed(question)) => advise_moment(alloc, archive, question.to, err),
         _ => {}
     }
 }

@@ -42,6 +42,8 @@ const PAST: [Form; 6] = [
     Form::Prefix,
 ];
 
+const SPAN: [Form; 4] = [Form::Moment, Form::Moment, Form::Prefix, Form::Prefix];
+
 /// How many words of the grammar a line has at most: `at`, what is asked, `after`.
 const GRAMMAR_WORDS: usize = 3;
 
@@ -55,6 +57,10 @@ fn after_command(word: &str) -> Option<Part> {
         "history" => Some(Part {
             forms: &PAST,
             next: Form::Skip,
+        }),
+        "changed" => Some(Part {
+            forms: &SPAN,
+            next: Form::After,
         }),
         "watermark" => Some(Part {
             forms: &[],

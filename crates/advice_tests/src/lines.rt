@@ -6,7 +6,7 @@ use service::read_request;
 use std::alloc::Global;
 
 /// Lines, and what is said of them: the word that isn't understood, a bar, and how what has to stand there begins. Nothing of a request.
-const LINES: [(&str, &str); 30] = [
+const LINES: [(&str, &str); 35] = [
     ("watermark", ""),
     ("durable 15", ""),
     ("at 7 all", ""),
@@ -94,6 +94,23 @@ const LINES: [(&str, &str); 30] = [
     (
         "history 0 7 0 192.0.2.1 65001 10.0.0.0/8 skip x",
         "\"x\" isn't understood; expected here: a number",
+    ),
+    ("changed 0 7 10.0.0.0/8 10.0.0.0/8", ""),
+    (
+        "changed 0 7 0.0.0.0/0 ffff::/16 after 0 192.0.2.1 65001 10.0.0.0/8",
+        "",
+    ),
+    (
+        "changed 0 7 10.0.0.0/8",
+        "the line ends too early; expected here: a prefix",
+    ),
+    (
+        "changed 0 7 10.0.0.0/8 10.0.0.0/8 skip 1",
+        "\"skip\" isn't understood; expected here: after, or the end of the line",
+    ),
+    (
+        "changed 0 10.0.0.0/8",
+        "\"10.0.0.0/8\" isn't understood; expected here: a moment",
     ),
     (
         "watermark 0",

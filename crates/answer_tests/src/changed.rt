@@ -6,12 +6,15 @@ use crate::numbers::{PREFIXES, prefix_at};
 use crate::said::peer_of;
 use disk_archive::AskError;
 use interleaving_core::{Answer, Query, Reach, Reply};
-use route_meaning::{ChangedQuestion, EventsQuestion, Spot};
+use route_meaning::{ChangedAnswer, ChangedQuestion, EventsQuestion, Spot};
 use route_model::Change;
 use std::alloc::Global;
 
 // How many spans a history is asked about.
 const SPANS: u32 = 3;
+
+// More looks than a walk over so few keys takes.
+const MOST_LOOKS: u32 = 1_000;
 
 // The spots of all peers and prefixes that histories have.
 fn all_spots(alloc: Global) -> Option<Vec<Spot>> {
@@ -73,10 +76,25 @@ fn expected(both: &mut Both, question: &ChangedQuestion) -> Option<Vec<Spot>> {
     Some(changed)
 }
 
+// The archive's answer, look by look.
+fn walked(
+    both: &mut Both,
+    reader: &mut Reader,
+    question: ChangedQuestion,
+) -> Result<ChangedAnswer, AskError> {
+    let mut walk = both.disk.start_walk(question);
+    for _ in 0..MOST_LOOKS {
+        if let Some(answer) = both.disk.changed_look(reader, &mut walk)? {
+            return Ok(answer);
+        }
+    }
+    Err(AskError::Fault)
+}
+
 // Whether some spot changed in a span, which the archive says as the machine does. A span that isn't settled is passed.
 fn is_changed(both: &mut Both, reader: &mut Reader) -> Option<bool> {
     let question = both.numbers.changed_question();
-    match both.disk.changed_with(reader, question) {
+    match walked(both, reader, question) {
         Ok(answer) => {
             let expected = expected(both, &question)?;
             if answer.more || answer.spots != expected {

@@ -1,29 +1,25 @@
-//! An archive, as feeds and questions use it.
+//! An archive, as feeds use it.
 
 ghost use Rattle.std.specs.Prelude.{◌≡◌, ◌≤◌, ℕ, length, map, slice_get};
-ghost use Rattle.route_meaning.specs.History.{History, IsHistory, settled};
+ghost use Rattle.route_meaning.specs.History.{History};
 ghost use Rattle.interleaving_core.specs.World.{resume_of};
-ghost use Rattle.archive_calls.specs.Does.{DoesAdmit, DoesMark, DoesApply, DoesCheck, IsAnswerOf, IsChangedAnswerOf};
+ghost use Rattle.archive_calls.specs.Does.{DoesAdmit, DoesMark, DoesApply, DoesCheck};
 
-use crate::refusal::{AdmitError, AskError, MarkError, Trouble};
+use crate::refusal::{AdmitError, MarkError, Trouble};
 use crate::reported::{Flush, Step};
-use interleaving_core::{Answer, BatchReply, Query, Resume};
-use route_meaning::{ChangedAnswer, ChangedQuestion};
+use crate::source::RouteSource;
+use interleaving_core::{BatchReply, Resume};
 use route_model::{Admission, Mark};
 use std::alloc::Global;
 
 /// An archive with one owner: it takes batches and marks, applies them step by step, and answers questions.
-pub trait RouteArchive {
-    /// The archive represents this history. After a failed write or sync it is the history from before the failed call; what
-    /// is found when the archive is opened again goes on from it.
-    ghost represents: { Self → History → Type 0 };
-
+pub trait RouteArchive: RouteSource {
     /// The most octets that a batch may have.
     ghost most: { Self → ℕ };
 
     /// How many collectors there are, 1 to 16. Their numbers begin with 0.
     fn collectors(&self) -> u8
-        ensures count { (h : History) → represents self.now h → result ≡ length h.intakes }
+        ensures count { (h : History) → Self.represents self.now h → result ≡ length h.intakes }
         ensures some { 1 ≤ result }
         ensures few { result ≤ 16 };
 
@@ -34,55 +30,39 @@ pub trait RouteArchive {
         ensures one { 131076 ≤ result }
         ensures few { result ≤ 262144 };
 
-    /// The settled watermark: a question of a moment below it is answered.
-    fn settled(&self) -> Mark
-        ensures settled { (h : History) → represents self.now h → result ≡ settled h };
-
     /// Where the collector goes on, if there is one of this number.
     // No `requires` forbids another number: if an archive represents no history, no clause states how many there are.
     fn resume(&self, collector: u8) -> Option<Resume>
-        ensures resume { (h : History) → represents self.now h → result ≡ slice_get (map resume_of h.intakes) collector };
+        ensures resume { (h : History) → Self.represents self.now h → result ≡ slice_get (map resume_of h.intakes) collector };
 
     /// Admits the records of a collector, in their order, but for those that come late: whose time is below the collector's
     /// mark or below an earlier time of the batch. Each late record is reported. The mark is raised to the greatest of these
     /// times.
     fn admit(&mut self, collector: u8, batch: &[Admission]) -> Result<BatchReply, AdmitError>
-        ensures done { (h : History) → represents self.old h → (g : History) × represents self.new g × DoesAdmit collector batch.now result h g }
+        ensures done { (h : History) → Self.represents self.old h → (g : History) × Self.represents self.new g × DoesAdmit collector batch.now result h g }
         ensures most { most self.new ≡ most self.old };
 
     /// Raises the mark of a collector: what it gives from now on isn't earlier. The present mark may be given again.
     fn mark(&mut self, collector: u8, mark: Mark) -> Result<(), MarkError>
-        ensures done { (h : History) → represents self.old h → (g : History) × represents self.new g × DoesMark collector mark result h g }
+        ensures done { (h : History) → Self.represents self.old h → (g : History) × Self.represents self.new g × DoesMark collector mark result h g }
         ensures most { most self.new ≡ most self.old };
 
     /// Applies what is next: the next change of the first admission that waits, if that is below every mark, and perhaps
     /// some more. An admission without changes is applied at once.
     fn apply_step(&mut self) -> Result<Step, Trouble>
-        ensures done { (h : History) → represents self.old h → (g : History) × represents self.new g × DoesApply result h g }
+        ensures done { (h : History) → Self.represents self.old h → (g : History) × Self.represents self.new g × DoesApply result h g }
         ensures most { most self.new ≡ most self.old };
 
     /// Writes a page home that waits.
     fn flush_step(&mut self) -> Result<Flush, Trouble>
-        ensures done { (h : History) → represents self.old h → represents self.new h }
-        ensures most { most self.new ≡ most self.old };
-
-    /// Answers a question whose last moment is below the settled watermark.
-    fn answer(&mut self, query: Query) -> Result<Answer, AskError>
-        ensures done { (h : History) → represents self.old h → IsAnswerOf h query result }
-        ensures represents { (h : History) → represents self.old h → represents self.new h }
-        ensures most { most self.new ≡ most self.old };
-
-    /// Which prefixes were announced or withdrawn in a span whose last moment is below the settled watermark.
-    fn changed(&mut self, question: ChangedQuestion) -> Result<ChangedAnswer, AskError>
-        ensures done { (h : History) → represents self.old h → IsChangedAnswerOf h question result }
-        ensures represents { (h : History) → represents self.old h → represents self.new h }
+        ensures done { (h : History) → Self.represents self.old h → Self.represents self.new h }
         ensures most { most self.new ≡ most self.old };
 
     /// Reads all that the archive keeps of what is applied, and returns how many changes that is. The first page or block
     /// whose content isn't valid at its place is reported; in an archive that represents a history none is.
     fn check(&mut self) -> Result<u64, Trouble>
-        ensures done { (h : History) → represents self.old h → DoesCheck result h }
-        ensures represents { (h : History) → represents self.old h → represents self.new h }
+        ensures done { (h : History) → Self.represents self.old h → DoesCheck result h }
+        ensures represents { (h : History) → Self.represents self.old h → Self.represents self.new h }
         ensures most { most self.new ≡ most self.old };
 
     /// Which call on a device failed first, and why, in words for a person: of what they are no clause speaks. None if none failed,
@@ -90,7 +70,4 @@ pub trait RouteArchive {
     fn failure(&self, _alloc: Global) -> Option<String> {
         None
     }
-
-    /// A history that is represented is right.
-    ghost right: { (archive : Self) (h : History) → represents archive h → IsHistory h };
 }

@@ -9,7 +9,7 @@ use crate::made::{
 use crate::model::Model;
 use crate::reported::{Reported, make};
 use crate::scripts::SCRIPTS;
-use archive_calls::RouteArchive;
+use archive_calls::{RouteArchive, RouteSource};
 use archive_pages::Settings;
 use disk_calls::NoReasons;
 use interleaving_core::Step;

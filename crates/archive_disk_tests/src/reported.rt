@@ -2,7 +2,7 @@
 
 use crate::made::MemArchive;
 use archive_calls as calls;
-use archive_calls::{AdmitError, MarkError, RouteArchive, Trouble};
+use archive_calls::{AdmitError, MarkError, RouteArchive, RouteSource, Trouble};
 use interleaving_core::{BatchReply, Reply, Resume, Step};
 use route_model::{Admission, Mark};
 

@@ -3,14 +3,14 @@
 use crate::be;
 use service::{
     Checking, CommandError, Comparing, Creation, Dumping, Examining, Finding, Invocation, Listing,
-    Loading, Question, Serving, command,
+    Loading, Question, Serving, Target, command,
 };
 use std::alloc::Global;
 use std::net::SocketAddrV4;
 
 /// Words, with lines between them, and what they ask for: the folder a, and each further thing that they say, or what takes its
 /// place where they don't.
-const ACCEPTED: [(&str, &str); 57] = [
+const ACCEPTED: [(&str, &str); 61] = [
     // What isn't chosen.
     ("rha|create|a", "create a 1 4096 10000000 100000000"),
     (
@@ -152,6 +152,20 @@ const ACCEPTED: [(&str, &str); 57] = [
         "rha|find|--exact|a|--more|p|--less|--since=x|--until|y|--origin|v|--via=w|--wait|7",
         "find a p exact more less since x until y origin v via w wait 7",
     ),
+    // A server in the place of the folder.
+    (
+        "rha|find|--connect|127.0.0.1:80|p|--more",
+        "find 127.0.0.1:80 p more",
+    ),
+    (
+        "rha|dump|127.0.0.1:80|--connect|--wait=7",
+        "dump 127.0.0.1:80 lines wait 7",
+    ),
+    (
+        "rha|peers|--connect|localhost:80",
+        "no address of a server 1",
+    ),
+    ("rha|diff|--connect|a|1|2", "no address of a server 1"),
     // What an archive is waited for stands last, where it is.
     (
         "rha|load|a|--collector=0|--wait|1000000|a.mrt",
@@ -294,8 +308,16 @@ impl Line {
         }
     }
 
+    /// Adds a folder, or the address and port of a server.
+    fn target(&mut self, target: &Target<'_>) {
+        match target {
+            Target::Folder(folder) => self.word(folder),
+            Target::Server(place) => self.place(*place),
+        }
+    }
+
     fn dumping(&mut self, asked: &Dumping<'_>) {
-        self.word(asked.folder);
+        self.target(&asked.target);
         self.option("at", asked.at);
         if !asked.peer.is_empty() {
             self.word("peer");
@@ -308,13 +330,13 @@ impl Line {
     }
 
     fn listing(&mut self, asked: &Listing<'_>) {
-        self.word(asked.folder);
+        self.target(&asked.target);
         self.option("at", asked.at);
         self.waits(asked.wait);
     }
 
     fn comparing(&mut self, asked: &Comparing<'_>) {
-        self.word(asked.folder);
+        self.target(&asked.target);
         self.word(asked.from);
         self.word(asked.to);
         self.option("within", asked.within);
@@ -322,7 +344,7 @@ impl Line {
     }
 
     fn finding(&mut self, asked: &Finding<'_>) {
-        self.word(asked.folder);
+        self.target(&asked.target);
         self.word(asked.prefix);
         if asked.exact {
             self.word("exact");
@@ -438,6 +460,7 @@ fn refusal_of(alloc: Global, error: &CommandError) -> Line {
             CommandError::BadMark => "no mark",
             CommandError::BadListen => "no address",
             CommandError::BadHttp => "no further address",
+            CommandError::BadConnect => "no address of a server",
             CommandError::Usage(_) | CommandError::OutOfMemory => "not accepted",
         },
     );

@@ -2,7 +2,7 @@
 
 use crate::be;
 use interleaving_core::{BatchReply, Query, Receipt};
-use route_meaning::{RowsQuestion, Select, Spot};
+use route_meaning::{ChangedQuestion, RowsQuestion, Select, Spot};
 use route_model::{Address, Mark, Moment, Peer, Prefix};
 use sequencer::Late;
 use service::{
@@ -12,7 +12,7 @@ use service::{
 use std::alloc::Global;
 
 /// Lines that ask nothing.
-const NO_REQUESTS: [&str; 63] = [
+const NO_REQUESTS: [&str; 71] = [
     "",
     "at",
     "at 7",
@@ -64,6 +64,14 @@ const NO_REQUESTS: [&str; 63] = [
     "history 0 7 0 192.0.2.1 65001 10.0.0.0/8 after 0 192.0.2.1 65001 10.0.0.0/8",
     "history 0 4294967296 0 192.0.2.1 65001 10.0.0.0/8",
     "history now 7 0 192.0.2.1 65001 10.0.0.0/8",
+    "changed",
+    "changed 0 7",
+    "changed 0 7 10.0.0.0/8",
+    "changed 0 10.0.0.0/8 10.0.0.0/8",
+    "changed 0 7 10.0.0.0/8 10.0.0.0",
+    "changed 0 4294967296 10.0.0.0/8 10.0.0.0/8",
+    "changed 0 7 10.0.0.0/8 10.0.0.0/8 after 0 192.0.2.1 65001",
+    "changed 0 7 10.0.0.0/8 10.0.0.0/8 skip 1",
     "watermark 1",
     "Watermark",
     "watermark ",
@@ -86,6 +94,17 @@ fn ten_at_7(after: Option<Spot>) -> Request {
         after,
     });
     Request::Question(question)
+}
+
+/// The question of what changed from 10.0.0.0/8 to 10.0.0.0/9, after this spot.
+fn changed_to_7(after: Option<Spot>) -> Request {
+    Request::Changed(ChangedQuestion {
+        from: Moment::from(0),
+        to: Moment::from(7),
+        low: Prefix::containing(Address::V4([10, 0, 0, 0]), 8),
+        high: Prefix::containing(Address::V4([10, 0, 0, 0]), 9),
+        after,
+    })
 }
 
 /// A spot after which a question goes on.
@@ -117,6 +136,15 @@ fn lines_are_read_word_by_word(rt: HostRuntime) {
     be(&rt, is_read(alloc, line, ten_at_7(None)), line);
     let line = "at 7 prefix 10.1.2.3/8 after 15 192.0.2.1 4294967295 10.0.0.0/8";
     be(&rt, is_read(alloc, line, ten_at_7(Some(last_spot()))), line);
+    let line = "changed 0 7 10.0.0.0/8 10.0.0.0/9";
+    be(&rt, is_read(alloc, line, changed_to_7(None)), line);
+    let line =
+        "changed 0 1970-01-01T00:00:07Z 10.1.2.3/8 10.1.2.3/9 after 15 192.0.2.1 4294967295 10.0.0.0/8";
+    be(
+        &rt,
+        is_read(alloc, line, changed_to_7(Some(last_spot()))),
+        line,
+    );
     for line in &NO_REQUESTS {
         be(&rt, is_no_request(alloc, line), line);
     }

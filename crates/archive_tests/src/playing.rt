@@ -6,6 +6,7 @@ use crate::failing::reopened_to_fail;
 use crate::files::file_of;
 use crate::gathered::Gathered;
 use crate::scripts::Script;
+use crate::scripts::changed::CHANGED;
 use crate::scripts::damage::DAMAGE;
 use crate::scripts::failed::FAILED;
 use crate::scripts::full::FULL;
@@ -363,7 +364,17 @@ fn whole_tables_are_played(rt: HostRuntime) {
 #[test]
 fn questions_are_played(rt: HostRuntime) {
     let count = play_all(&rt, rt.alloc(), &QUESTIONS, WHOLE);
-    be(&rt, count.scripts == 5 && count.commands == 38, "questions");
+    be(&rt, count.scripts == 5 && count.commands == 40, "questions");
+}
+
+#[test]
+fn changed_places_are_played(rt: HostRuntime) {
+    let count = play_all(&rt, rt.alloc(), &CHANGED, WHOLE);
+    be(
+        &rt,
+        count.scripts == 3 && count.commands == 23,
+        "changed places",
+    );
 }
 
 #[test]

@@ -1,7 +1,7 @@
 //! The pure machine as the archive below feeds, loads and questions.
 
 use archive_calls::{
-    AdmitError, AskError, Flush, MAX_BATCH_LEN, MarkError, RouteArchive, Step, Trouble,
+    AdmitError, AskError, Flush, MAX_BATCH_LEN, MarkError, RouteArchive, RouteSource, Step, Trouble,
 };
 use interleaving_core::{Answer, BatchReply, Machine, Query, Reach, Reply, Resume};
 use route_meaning::{ChangedAnswer, ChangedQuestion, RowsQuestion, Select};
@@ -83,12 +83,31 @@ fn refusal_of(reply: &Reply) -> AskError {
 }
 
 /// It represents no history: of what its calls answer, these tests ask the lines that are written.
-impl RouteArchive for Pure {
+impl RouteSource for Pure {
     ghost represents = { λ pure h. ⊥ };
 
-    ghost most = { λ _. 262144 };
-
     ghost right = { λ pure h represented. absurd represented };
+
+    fn settled(&self) -> Mark {
+        self.settled
+    }
+
+    fn answer(&mut self, query: Query) -> Result<Answer, AskError> {
+        match self.replied(query) {
+            Some(Reply::Done(answer)) => Ok(answer),
+            Some(reply) => Err(refusal_of(&reply)),
+            None => Err(AskError::Trouble(Trouble::OutOfMemory)),
+        }
+    }
+
+    /// The machine has no such question, and no line that these tests look at needs its answer.
+    fn changed(&mut self, _question: ChangedQuestion) -> Result<ChangedAnswer, AskError> {
+        Err(AskError::Trouble(Trouble::OutOfMemory))
+    }
+}
+
+impl RouteArchive for Pure {
+    ghost most = { λ _. 262144 };
 
     fn collectors(&self) -> u8 {
         self.collectors.clamp(1, 16)
@@ -96,10 +115,6 @@ impl RouteArchive for Pure {
 
     fn batch_limit(&self) -> usize {
         MAX_BATCH_LEN
-    }
-
-    fn settled(&self) -> Mark {
-        self.settled
     }
 
     fn resume(&self, collector: u8) -> Option<Resume> {
@@ -145,19 +160,6 @@ impl RouteArchive for Pure {
 
     fn flush_step(&mut self) -> Result<Flush, Trouble> {
         Ok(Flush::Clean)
-    }
-
-    fn answer(&mut self, query: Query) -> Result<Answer, AskError> {
-        match self.replied(query) {
-            Some(Reply::Done(answer)) => Ok(answer),
-            Some(reply) => Err(refusal_of(&reply)),
-            None => Err(AskError::Trouble(Trouble::OutOfMemory)),
-        }
-    }
-
-    /// The machine has no such question, and no line that these tests look at needs its answer.
-    fn changed(&mut self, _question: ChangedQuestion) -> Result<ChangedAnswer, AskError> {
-        Err(AskError::Trouble(Trouble::OutOfMemory))
     }
 
     fn check(&mut self) -> Result<u64, Trouble> {

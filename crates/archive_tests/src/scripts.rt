@@ -1,6 +1,7 @@
 //! Scripts: command lines over one archive, and what the program has to show of each. The lines are from outside: they were worked out
 //! by hand from the octets of the records.
 
+pub(crate) mod changed;
 pub(crate) mod damage;
 pub(crate) mod failed;
 pub(crate) mod full;

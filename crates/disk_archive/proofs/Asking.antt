@@ -1,5 +1,6 @@
 -- What a question is answered from, and what is returned where it isn't.
-use Rattle.std.proofs.Common.{◌≡◌, ◌↔◌, ◌≤◌, ⊎_elim, true≢false, ℕ, zero, suc, List, [], ◌∷◌, ◌++◌, take, drop, map, Bool, true, false, Option, Some, refl, sym, ◌∙◌, ap, subst, arith, Result, Ok, Err, IfOk, IfErr, OnOk}
+use Rattle.std.proofs.Common.{◌≡◌, ◌↔◌, ◌≤◌, ⊎_elim, true≢false, ℕ, zero, suc, List, [], ◌∷◌, ◌++◌, take, drop, map, Bool, true, false, Option, None, Some, refl, sym, ◌∙◌, ap, subst, arith, Result, Ok, Err, IfOk, IfErr, OnOk}
+use Rattle.std.specs.Prelude.{IfNone}
 use Rattle.std.specs.List.{AllByRecursion}
 use Rattle.disk_models.specs.declared.erase.EraseDisk.{Ghosts as EraseGhosts}
 use Rattle.disk_models.specs.declared.once.OnceDisk.{Ghosts as OnceGhosts}
@@ -181,3 +182,9 @@ watermark_of a r last reported above watermark honest h held mark = (
   λ is. ⊎_elim (λ k. let f = above h k mark is in (k.maps.keeps.usable, f.0, f.1)) (λ w. absurd (not_both r mark (reported w.unusable) is)) (held honest),
   λ f. subst (λ (n : ℕ). r ≡ Err (asks.AboveWatermark n)) (sym f.1) (watermark h (represents_of a h f.0 honest held) f.2),
 )
+
+-- ---- looks of a walk
+
+pub if_none : {X : Type 0} (o : Option X) (P Q : Type 0) → (P → Q) → IfNone o P → IfNone o Q
+if_none None P Q f p = f p
+if_none (Some x) P Q f p = tt

@@ -3,6 +3,8 @@ use Rattle.std.specs.Prelude.{ℕ, List, Option}
 use Rattle.route_meaning.specs.History.{History, IsHistory, Begins, applied}
 use Rattle.interleaving_core.specs.declared.query.Query.{Query}
 use Rattle.interleaving_core.specs.declared.query.Query.TheVariants as queries
+use Rattle.route_history.specs.declared.changed.ChangedCursor.{ChangedCursor}
+use Rattle.route_history.specs.Changes.{HasChangedSo}
 use Rattle.route_history.specs.Fronts.{front_number}
 use Rattle.route_history.specs.Kept.{Kept}
 use Rattle.route_history.specs.Spans.{HasReportedSo, IsSameReporting}
@@ -29,6 +31,10 @@ HasGathered all h (Events c) = HasReportedSo all (applied h) c
 -- What it has gathered is right over this history, and over each right one that this begins, whatever versions represent what is applied.
 abbrev pub IsGathered : Cursor → History → Type 0
 IsGathered c h = (g : History) → IsHistory g → Begins h g → (all : List Version) → Kept (applied g) all → HasGathered all g c
+
+-- the same of a walk over what changed
+abbrev pub IsWalked : ChangedCursor → History → Type 0
+IsWalked c h = (g : History) → IsHistory g → Begins h g → (all : List Version) → Kept (applied g) all → HasChangedSo (applied g) c
 
 -- both are the same
 abbrev pub SaysSame : Cursor → Cursor → Type 0

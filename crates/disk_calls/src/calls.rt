@@ -7,7 +7,7 @@ use crate::refusals::{
     admit_refusal, apply_trouble, ask_refusal, check_trouble, flush_trouble, mark_refusal,
 };
 use archive_calls::{
-    AdmitError, AskError, Flush, MAX_BATCH_LEN, MarkError, RouteArchive, Step, Trouble,
+    AdmitError, AskError, Flush, MAX_BATCH_LEN, MarkError, RouteArchive, RouteSource, Step, Trouble,
 };
 use disk_models::{EraseDisk, OnceDisk, PAGE_SIZE};
 use interleaving_core::{Answer, BatchReply, Query, Resume};
@@ -18,14 +18,36 @@ use std::alloc::Global;
 /// The most octets of one admission as a batch. A ring, which has nine pages at least, has room for it.
 const ONE_ADMISSION: usize = 131_076;
 
-impl<E: EraseDisk + Drop, O: OnceDisk + Drop, R: Reasons> RouteArchive for DiskArchive<E, O, R> {
-    ghost use Rattle.disk_calls.specs.Represented.{GoesOnWith, limit_of, right_of};
+impl<E: EraseDisk + Drop, O: OnceDisk + Drop, R: Reasons> RouteSource for DiskArchive<E, O, R> {
+    ghost use Rattle.disk_calls.specs.Represented.{GoesOnWith, right_of};
 
     ghost represents = { λ a h. GoesOnWith a h };
 
-    ghost most = { λ a. limit_of a };
-
     ghost right = { λ a h represented. right_of a h represented };
+
+    fn settled(&self) -> Mark {
+        self.archive.settled()
+    }
+
+    fn answer(&mut self, query: Query) -> Result<Answer, AskError> {
+        match answer_by(&mut self.archive, &mut self.reader, query) {
+            Ok(answer) => Ok(answer),
+            Err(refusal) => Err(ask_refusal(refusal)),
+        }
+    }
+
+    fn changed(&mut self, question: ChangedQuestion) -> Result<ChangedAnswer, AskError> {
+        match changed_by(&mut self.archive, &mut self.reader, question) {
+            Ok(answer) => Ok(answer),
+            Err(refusal) => Err(ask_refusal(refusal)),
+        }
+    }
+}
+
+impl<E: EraseDisk + Drop, O: OnceDisk + Drop, R: Reasons> RouteArchive for DiskArchive<E, O, R> {
+    ghost use Rattle.disk_calls.specs.Represented.{limit_of};
+
+    ghost most = { λ a. limit_of a };
 
     fn collectors(&self) -> u8 {
         self.archive.collectors()
@@ -34,10 +56,6 @@ impl<E: EraseDisk + Drop, O: OnceDisk + Drop, R: Reasons> RouteArchive for DiskA
     fn batch_limit(&self) -> usize {
         let ring = usize::from(self.archive.ring()) * PAGE_SIZE;
         MAX_BATCH_LEN.min(ring).max(ONE_ADMISSION)
-    }
-
-    fn settled(&self) -> Mark {
-        self.archive.settled()
     }
 
     fn resume(&self, collector: u8) -> Option<Resume> {
@@ -74,20 +92,6 @@ impl<E: EraseDisk + Drop, O: OnceDisk + Drop, R: Reasons> RouteArchive for DiskA
             Ok(disk_archive::Flush::Flushed) => Ok(Flush::Flushed),
             Ok(disk_archive::Flush::Clean) => Ok(Flush::Clean),
             Err(refusal) => Err(flush_trouble(refusal)),
-        }
-    }
-
-    fn answer(&mut self, query: Query) -> Result<Answer, AskError> {
-        match answer_by(&mut self.archive, &mut self.reader, query) {
-            Ok(answer) => Ok(answer),
-            Err(refusal) => Err(ask_refusal(refusal)),
-        }
-    }
-
-    fn changed(&mut self, question: ChangedQuestion) -> Result<ChangedAnswer, AskError> {
-        match changed_by(&mut self.archive, &mut self.reader, question) {
-            Ok(answer) => Ok(answer),
-            Err(refusal) => Err(ask_refusal(refusal)),
         }
     }
 

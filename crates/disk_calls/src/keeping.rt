@@ -8,6 +8,7 @@ ghost use Rattle.interleaving_core.specs.Headline.{IsAnswered};
 ghost use Rattle.disk_archive.specs.Archives.{Holds, IsHonest, is_down, settings_of};
 ghost use Rattle.disk_calls.specs.Represented.{KeepsFrom};
 
+use crate::walking::walk;
 use disk_archive::{Archive, AskError};
 use disk_models::{EraseDisk, OnceDisk};
 use interleaving_core::{Answer, Query};
@@ -61,7 +62,7 @@ pub(crate) fn changed_by<E: EraseDisk + Drop, O: OnceDisk + Drop>(
     ensures settings { settings_of archive.new ≡ settings_of archive.old }
 {
     match reader {
-        Some(reader) => archive.changed_with(reader, question),
+        Some(reader) => walk(archive, reader, question),
         None => Err(AskError::OutOfMemory),
     }
 }

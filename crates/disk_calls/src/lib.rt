@@ -25,6 +25,7 @@ mod calls;
 mod keeping;
 mod reasons;
 mod refusals;
+mod walking;
 
 pub use archive::DiskArchive;
 pub use reasons::{NoReasons, Reasons};

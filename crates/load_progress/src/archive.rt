@@ -4,7 +4,9 @@ ghost use Rattle.load_progress.specs.Watched.{watched};
 
 use crate::applied::Applied;
 use crate::meter::Meter;
-use archive_calls::{AdmitError, AskError, Flush, MarkError, RouteArchive, Step, Trouble};
+use archive_calls::{
+    AdmitError, AskError, Flush, MarkError, RouteArchive, RouteSource, Step, Trouble,
+};
 use interleaving_core::{Answer, BatchReply, Query, Resume};
 use route_meaning::{ChangedAnswer, ChangedQuestion};
 use route_model::{Admission, Mark};
@@ -42,12 +44,26 @@ impl<'a, A: Applied, T: Eprint + Clock> WatchedArchive<'a, A, T> {
     }
 }
 
-impl<'a, A: RouteArchive + Applied, T: Eprint + Clock> RouteArchive for WatchedArchive<'a, A, T> {
+impl<'a, A: RouteSource, T> RouteSource for WatchedArchive<'a, A, T> {
     ghost represents = { λ it h. A.represents (watched it) h };
 
-    ghost most = { λ it. A.most (watched it) };
-
     ghost right = { λ it h represented. A.right (watched it) h represented };
+
+    fn settled(&self) -> Mark {
+        self.archive.settled()
+    }
+
+    fn answer(&mut self, query: Query) -> Result<Answer, AskError> {
+        self.archive.answer(query)
+    }
+
+    fn changed(&mut self, question: ChangedQuestion) -> Result<ChangedAnswer, AskError> {
+        self.archive.changed(question)
+    }
+}
+
+impl<'a, A: RouteArchive + Applied, T: Eprint + Clock> RouteArchive for WatchedArchive<'a, A, T> {
+    ghost most = { λ it. A.most (watched it) };
 
     fn collectors(&self) -> u8 {
         self.archive.collectors()
@@ -55,10 +71,6 @@ impl<'a, A: RouteArchive + Applied, T: Eprint + Clock> RouteArchive for WatchedA
 
     fn batch_limit(&self) -> usize {
         self.archive.batch_limit()
-    }
-
-    fn settled(&self) -> Mark {
-        self.archive.settled()
     }
 
     fn resume(&self, collector: u8) -> Option<Resume> {
@@ -83,14 +95,6 @@ impl<'a, A: RouteArchive + Applied, T: Eprint + Clock> RouteArchive for WatchedA
 
     fn flush_step(&mut self) -> Result<Flush, Trouble> {
         self.archive.flush_step()
-    }
-
-    fn answer(&mut self, query: Query) -> Result<Answer, AskError> {
-        self.archive.answer(query)
-    }
-
-    fn changed(&mut self, question: ChangedQuestion) -> Result<ChangedAnswer, AskError> {
-        self.archive.changed(question)
     }
 
     fn check(&mut self) -> Result<u64, Trouble> {

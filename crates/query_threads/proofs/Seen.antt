@@ -8,7 +8,7 @@ use Rattle.route_meaning.proofs.api.Beginning.{Begins-trans}
 use Rattle.board.specs.Past.{Past, GoesOnAs}
 use Rattle.board.specs.Views.{View, IsFrontOf, IsCaughtUp, BeginsView}
 use Rattle.query_threads.specs.Seeing.{Sees, Since}
-use Rattle.query_threads.specs.Turns.{IsReported, IsAbove}
+use Rattle.query_threads.specs.Turns.{IsReported, IsReportedAt, IsAbove}
 use Rattle.query_threads.specs.declared.refusal.AskError.{AskError}
 use Rattle.query_threads.specs.declared.refusal.AskError.TheVariants.{AboveWatermark, Trouble}
 
@@ -38,6 +38,9 @@ pub low_since : (u v : View) (i n : ℕ) → Since u v → slice_index v.numbers
 low_since u v i n (inl e) le = subst (λ (x : View). slice_index x.numbers i ≤ n) e le
 low_since u v i n (inr a) le = le_trans (a.numbers i) le
 
+pub reported_low_at : (e : AskError) (h : History) (moment w : ℕ) → IsReportedAt e h moment → w ≤ settled h → IsAbove e → w ≤ moment
+reported_low_at (AboveWatermark mark) h moment w reported low above = le_trans low reported.1
+reported_low_at (Trouble trouble) h moment w reported low above = absurd above
+
 pub reported_low : (e : AskError) (h : History) (q : Query) (w : ℕ) → IsReported e h q → w ≤ settled h → IsAbove e → w ≤ last_moment q
-reported_low (AboveWatermark mark) h q w reported low above = le_trans low reported.1
-reported_low (Trouble trouble) h q w reported low above = absurd above
+reported_low e h q w reported low above = reported_low_at e h (last_moment q) w reported low above

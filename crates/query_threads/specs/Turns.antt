@@ -1,5 +1,5 @@
 -- What a turn of a question gives.
-use Rattle.std.specs.Prelude.{◌≡◌, ◌≤◌, ⊤}
+use Rattle.std.specs.Prelude.{◌≡◌, ◌≤◌, ℕ, ⊤}
 use Rattle.route_meaning.specs.History.{History, Begins, settled}
 use Rattle.interleaving_core.specs.declared.query.Query.{Query}
 use Rattle.interleaving_core.specs.declared.query.Answer.{Answer}
@@ -20,10 +20,14 @@ TurnGives historical again answered (Historical errand) = historical errand
 abbrev pub HoldsOnward : {C : Type 0} → (C → History → Type 0) → C → History → Type 0
 HoldsOnward gathered cursor h = (g : History) → Begins h g → gathered cursor g
 
--- a question is refused as above the watermark only where it is, and the watermark is returned; else for a trouble from outside
+-- what asks up to this moment is refused as above the watermark only where it is, and the watermark is returned; else for a trouble from outside
+abbrev pub IsReportedAt : AskError → History → ℕ → Type 0
+IsReportedAt (AboveWatermark mark) h moment = (mark ≡ settled h) × (settled h ≤ moment)
+IsReportedAt (Troubled trouble) h moment = IsOutside trouble
+
+-- the same of a question
 abbrev pub IsReported : AskError → History → Query → Type 0
-IsReported (AboveWatermark mark) h query = (mark ≡ settled h) × (settled h ≤ last_moment query)
-IsReported (Troubled trouble) h query = IsOutside trouble
+IsReported e h query = IsReportedAt e h (last_moment query)
 
 -- the question was refused as above the watermark
 abbrev pub IsAbove : AskError → Type 0

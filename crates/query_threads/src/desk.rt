@@ -1,14 +1,15 @@
 //! What lies under the lock: the archive, and the writing seat, which knows its past.
-ghost use Rattle.std.specs.Prelude.{◌≡◌, ℕ, ◌+◌, ◌<◌, ◌≤◌, List, [], length, Some, OnOk, IfOk, IfErr, IfSome, IsSome, IsNone, Err, ⊤};
+ghost use Rattle.std.specs.Prelude.{◌≡◌, ℕ, ◌+◌, ◌<◌, ◌≤◌, List, [], length, Some, OnOk, IfOk, IfErr, IfSome, IfNone, IsSome, IsNone, Err, ⊤};
 ghost use Rattle.std.specs.List.{AllByRecursion};
+ghost use Rattle.route_meaning.specs.Changed.{IsChangedAnswer};
 ghost use Rattle.route_meaning.specs.History.{IsHistory, applied, settled};
 ghost use Rattle.interleaving_core.specs.Does.{last_moment};
 ghost use Rattle.interleaving_core.specs.Headline.{IsAnswered};
-ghost use Rattle.board.specs.Past.{Past, GoesOnAs, reach};
+ghost use Rattle.board.specs.Past.{Past, Among, GoesOnAs, reach};
 ghost use Rattle.board.specs.Views.{View, Within, Reached, IsCaughtUp, IsFrontOf, BeginsView};
 ghost use Rattle.query_threads.specs.Steps.{IsCrowded, DoesAdmit, DoesMark, DoesApply, DoesFlush, DoesReopen};
 ghost use Rattle.query_threads.specs.Looks.{IsErrandOn};
-ghost use Rattle.query_threads.specs.Turns.{HoldsOnward, TurnGives, IsReported};
+ghost use Rattle.query_threads.specs.Turns.{HoldsOnward, TurnGives, IsReported, IsReportedAt};
 ghost use Rattle.query_threads.specs.Seeing.{Sees, ComesOf};
 ghost use Rattle.query_threads.specs.Troubles.{OnAdmitTrouble, OnMarkTrouble, OnAskTrouble};
 ghost use Rattle.query_threads.specs.Usages.{AreLanes};
@@ -19,6 +20,7 @@ use crate::store::{OnDisk, Store};
 use crate::usage::Usage;
 use board::{Board, Named, Pass, Target, Word, Writer};
 use interleaving_core::BatchReply;
+use route_meaning::ChangedAnswer;
 use route_model::{Admission, Mark};
 use std::alloc::Global;
 use std::marker::{Brand, Model};
@@ -284,6 +286,60 @@ impl<A: Store, N: Named + OnDisk<A::Disk>> Desk<A, N> {
             }
         }
         self.turn(board, pass, cursor)
+    }
+
+    // A look of a walk. The pass then knows the history over which it was made.
+    fn look(
+        &mut self,
+        board: &Board<N>,
+        pass: &mut Pass<N>,
+        reader: &mut A::Reader,
+        walk: &mut A::Walk,
+    ) -> Result<Option<ChangedAnswer>, AskError>
+        ensures begins { BeginsView pass.old pass.new }
+        ensures reached { Reached pass.old.numbers pass.new.past.history }
+        ensures walks { A.walks walk.new ≡ A.walks walk.old }
+        ensures reads { A.reads reader.new ≡ A.reads reader.old }
+        ensures right { IsSome N.disk → IsHistory pass.new.past.history }
+        ensures settled { IsSome N.disk → OnOk result ((A.walks walk.old).to < settled pass.new.past.history) }
+        ensures kept { IsSome N.disk → N.disk ≡ Some (A.reads reader.old) → Among (A.kept reader.old) pass.old.past.blocks → Among (A.kept reader.new) pass.new.past.blocks }
+        ensures walked { IsSome N.disk → N.disk ≡ Some (A.reads reader.old) → Among (A.kept reader.old) pass.old.past.blocks → A.walked walk.old pass.new.past.history → IfOk result (λ found. IfNone found (A.walked walk.new pass.new.past.history)) }
+        ensures answer { IsSome N.disk → N.disk ≡ Some (A.reads reader.old) → Among (A.kept reader.old) pass.old.past.blocks → A.walked walk.old pass.new.past.history → IfOk result (λ found. IfSome found (λ answer. IsChangedAnswer (applied pass.new.past.history) (A.walks walk.old) answer.spots.items answer.more)) }
+        ensures reported { IsSome N.disk → N.disk ≡ Some (A.reads reader.old) → Among (A.kept reader.old) pass.old.past.blocks → IfErr result (λ e. IsReportedAt e pass.new.past.history (A.walks walk.old).to) }
+        ensures trouble { IfErr result (OnAskTrouble (λ t. ComesOf N.disk A.disk_of A.represents (λ a b. A.fails a t b) pass.old pass.new)) }
+    {
+        self.greet(board, pass);
+        self.archive.look(reader, walk)
+    }
+
+    /// Looks of a walk, one after another, until it is over, but at most `more` after the first. The pass then knows the history over which
+    /// all of them were made.
+    pub fn looks(
+        &mut self,
+        board: &Board<N>,
+        pass: &mut Pass<N>,
+        reader: &mut A::Reader,
+        walk: &mut A::Walk,
+        more: u32,
+    ) -> Result<Option<ChangedAnswer>, AskError>
+        ensures begins { BeginsView pass.old pass.new }
+        ensures reached { Reached pass.old.numbers pass.new.past.history }
+        ensures walks { A.walks walk.new ≡ A.walks walk.old }
+        ensures reads { A.reads reader.new ≡ A.reads reader.old }
+        ensures right { IsSome N.disk → IsHistory pass.new.past.history }
+        ensures settled { IsSome N.disk → OnOk result ((A.walks walk.old).to < settled pass.new.past.history) }
+        ensures kept { IsSome N.disk → N.disk ≡ Some (A.reads reader.old) → Among (A.kept reader.old) pass.old.past.blocks → Among (A.kept reader.new) pass.new.past.blocks }
+        ensures walked { IsSome N.disk → N.disk ≡ Some (A.reads reader.old) → Among (A.kept reader.old) pass.old.past.blocks → HoldsOnward A.walked walk.old pass.old.past.history → IfOk result (λ found. IfNone found (A.walked walk.new pass.new.past.history)) }
+        ensures answer { IsSome N.disk → N.disk ≡ Some (A.reads reader.old) → Among (A.kept reader.old) pass.old.past.blocks → HoldsOnward A.walked walk.old pass.old.past.history → IfOk result (λ found. IfSome found (λ answer. IsChangedAnswer (applied pass.new.past.history) (A.walks walk.old) answer.spots.items answer.more)) }
+        ensures reported { IsSome N.disk → N.disk ≡ Some (A.reads reader.old) → Among (A.kept reader.old) pass.old.past.blocks → IfErr result (λ e. IsReportedAt e pass.new.past.history (A.walks walk.old).to) }
+        ensures trouble { IfErr result (OnAskTrouble (λ t. ComesOf N.disk A.disk_of A.represents (λ a b. A.fails a t b) pass.old pass.new)) }
+    {
+        for _ in 0..more {
+            if let Some(answer) = self.look(board, pass, reader, walk)? {
+                return Ok(Some(answer));
+            }
+        }
+        self.look(board, pass, reader, walk)
     }
 
     /// A reader of this archive's blocks, which keeps none yet. Fails only when out of memory.

@@ -1,11 +1,15 @@
 //! An archive that threads share: one lock round the archive and its writing seat, words that are read without it, and
-//! questions whose blocks are read without it.
+//! questions whose blocks are read without it, but for walks over what changed.
 //!
 //!     under the lock    the archive, the writing seat (`Desk`)
 //!     beside the lock   the board's words, the gate
 //!     a thread's own    a pass, a reader of blocks, its question in progress
 //!
-//!     ask   lock: a turn, and a look at the settled blocks     no lock: the blocks of the errand are read     lock: the next turn  ..
+//!     ask       lock: a turn, and a look at the settled blocks     no lock: the blocks of the errand are read     lock: the next turn  ..
+//!     changed   lock: 8 looks of a walk, with the blocks that they need     lock: the next looks  ..
+//!
+//! A walk over what changed reads its blocks under the lock: those of one column at a look that its span meets. Of a trouble that a look
+//! returns its own relation states where it came from (`fails`), since a read with the look's own view of the blocks may have failed.
 //!
 //! What threads need of an archive is a trait ([`Store`]), so that their proofs need no archive. What it represents
 //! is a relation with a past (a history, and the settled blocks), not its value. A call is a relation between the

@@ -1,6 +1,7 @@
 //! An archive that threads share, under one lock, with its board beside it.
-ghost use Rattle.std.specs.Prelude.{◌≡◌, ◌⊎◌, ◌<◌, ◌≤◌, ℕ, suc, List, [], length, Some, OnOk, IfOk, IfErr, IfSome, IsSome, Err, ⊤};
+ghost use Rattle.std.specs.Prelude.{◌≡◌, ◌⊎◌, ◌<◌, ◌≤◌, ℕ, suc, List, [], length, Some, OnOk, IfOk, IfErr, IfSome, IfNone, IsSome, Err, ⊤};
 ghost use Rattle.std.specs.List.{AllByRecursion};
+ghost use Rattle.route_meaning.specs.Changed.{IsChangedAnswer};
 ghost use Rattle.route_meaning.specs.History.{IsHistory, applied, settled};
 ghost use Rattle.interleaving_core.specs.Does.{last_moment};
 ghost use Rattle.interleaving_core.specs.Headline.{IsAnswered};
@@ -9,7 +10,7 @@ ghost use Rattle.board.specs.Views.{View, Reached, IsCaughtUp, IsFrontOf, Begins
 ghost use Rattle.board.specs.Opened.{name_of};
 ghost use Rattle.query_threads.specs.Steps.{IsCrowded, DoesAdmit, DoesMark, DoesApply, DoesFlush, DoesReopen};
 ghost use Rattle.query_threads.specs.Looks.{IsErrandOn};
-ghost use Rattle.query_threads.specs.Turns.{HoldsOnward, TurnGives, IsReported, IsAbove};
+ghost use Rattle.query_threads.specs.Turns.{HoldsOnward, TurnGives, IsReported, IsReportedAt, IsAbove};
 ghost use Rattle.query_threads.specs.Seeing.{Sees, ComesOf, IsMissed};
 ghost use Rattle.query_threads.specs.Troubles.{IsOutside, OnAdmitTrouble, OnMarkTrouble, OnAskTrouble};
 ghost use Rattle.query_threads.specs.Usages.{AreLanes};
@@ -21,6 +22,7 @@ use crate::store::{OnDisk, Store};
 use crate::usage::Usage;
 use board::{Board, Named, Opened, Pass};
 use interleaving_core::{Answer, BatchReply, Query};
+use route_meaning::{ChangedAnswer, ChangedQuestion};
 use route_model::{Admission, Mark};
 use std::alloc::Global;
 use std::marker::{Brand, Model, PhantomData};
@@ -29,6 +31,10 @@ use std::sync::{Mutex, Wait};
 // How many turns of a question follow the first under one taking of the lock. A turn is one lookup, of some microseconds, or a leaf of
 // rows: so the lock is held for some milliseconds at most, and each change of the archive waits no longer for a question.
 const MORE_TURNS: u32 = 63;
+
+// The same of a walk over what changed. A look reads all leaves of a column that the span meets, those of its past with their blocks: a long
+// span of a column that changed often holds the lock for longer than turns do.
+const MORE_LOOKS: u32 = 7;
 
 /// The archive, its words, and the gate that is called for questions. Contracts see how many collectors there are and how many pages each
 /// ring has.
@@ -104,6 +110,29 @@ impl<A: Store, N: Named + OnDisk<A::Disk>> Reader<A, N> {
         ensures gathered { IsSome N.disk → OnOk result ((p : Past) → IfSome N.disk (IsErrandOn (λ e. A.located e cursor.old) A.honest A.block_count A.known p errand seen.old) → Among self.old p.blocks → A.gathered cursor.new p.history) }
     {
         A::finish(&mut self.blocks, seen, self.alloc, errand, cursor)
+    }
+
+    // Looks of a walk by the archive under the lock, which read blocks with this reader: a first one, and `more` after it.
+    fn look(
+        &mut self,
+        desk: &mut Desk<A, N>,
+        board: &Board<N>,
+        pass: &mut Pass<N>,
+        walk: &mut A::Walk,
+        more: u32,
+    ) -> Result<Option<ChangedAnswer>, AskError>
+        ensures begins { BeginsView pass.old pass.new }
+        ensures reached { Reached pass.old.numbers pass.new.past.history }
+        ensures walks { A.walks walk.new ≡ A.walks walk.old }
+        ensures right { IsSome N.disk → IsHistory pass.new.past.history }
+        ensures settled { IsSome N.disk → OnOk result ((A.walks walk.old).to < settled pass.new.past.history) }
+        ensures kept { IsSome N.disk → Among self.old pass.old.past.blocks → Among self.new pass.new.past.blocks }
+        ensures walked { IsSome N.disk → Among self.old pass.old.past.blocks → HoldsOnward A.walked walk.old pass.old.past.history → IfOk result (λ found. IfNone found (A.walked walk.new pass.new.past.history)) }
+        ensures answer { IsSome N.disk → Among self.old pass.old.past.blocks → HoldsOnward A.walked walk.old pass.old.past.history → IfOk result (λ found. IfSome found (λ answer. IsChangedAnswer (applied pass.new.past.history) (A.walks walk.old) answer.spots.items answer.more)) }
+        ensures reported { IsSome N.disk → Among self.old pass.old.past.blocks → IfErr result (λ e. IsReportedAt e pass.new.past.history (A.walks walk.old).to) }
+        ensures trouble { IfErr result (OnAskTrouble (λ t. ComesOf N.disk A.disk_of A.represents (λ a b. A.fails a t b) pass.old pass.new)) }
+    {
+        desk.looks(board, pass, &mut self.blocks, walk, more)
     }
 }
 
@@ -342,6 +371,89 @@ impl<A: Store, N: Named + OnDisk<A::Disk>, G: Gate + Drop> Shared<A, N, G> {
         ensures not_refused { IsSome N.disk → IfErr result (λ e. IsAbove e → watermark_of pass.old ≤ last_moment query) }
     {
         let reported = self.answer_of(rt, pass, reader, request, query);
+        self.gate.answered(request);
+        reported
+    }
+
+    // Looks of a walk under one taking of the lock, which is free again at their end: one at first, whose end is reported to the gate, and then as
+    // many as `MORE_LOOKS` and one.
+    fn looks(
+        &self,
+        rt: &impl Wait,
+        pass: &mut Pass<N>,
+        reader: &mut Reader<A, N>,
+        walk: &mut A::Walk,
+        unreported: &mut Option<u64>,
+    ) -> Result<Option<ChangedAnswer>, AskError>
+        ensures begins { BeginsView pass.old pass.new }
+        ensures reached { Reached pass.old.numbers pass.new.past.history }
+        ensures walks { A.walks walk.new ≡ A.walks walk.old }
+        ensures right { IsSome N.disk → IsHistory pass.new.past.history }
+        ensures settled { IsSome N.disk → OnOk result ((A.walks walk.old).to < settled pass.new.past.history) }
+        ensures kept { IsSome N.disk → Among reader.old pass.old.past.blocks → Among reader.new pass.new.past.blocks }
+        ensures walked { IsSome N.disk → Among reader.old pass.old.past.blocks → HoldsOnward A.walked walk.old pass.old.past.history → IfOk result (λ found. IfNone found (A.walked walk.new pass.new.past.history)) }
+        ensures answer { IsSome N.disk → Among reader.old pass.old.past.blocks → HoldsOnward A.walked walk.old pass.old.past.history → IfOk result (λ found. IfSome found (λ answer. IsChangedAnswer (applied pass.new.past.history) (A.walks walk.old) answer.spots.items answer.more)) }
+        ensures reported { IsSome N.disk → Among reader.old pass.old.past.blocks → IfErr result (λ e. IsReportedAt e pass.new.past.history (A.walks walk.old).to) }
+        ensures trouble { IfErr result (OnAskTrouble (λ t. ComesOf N.disk A.disk_of A.represents (λ a b. A.fails a t b) pass.old pass.new)) }
+    {
+        let more = if unreported.is_some() { 0 } else { MORE_LOOKS };
+        let reported = {
+            let mut desk = self.desk.lock(rt);
+            reader.look(&mut desk, &self.board, pass, walk, more)
+        };
+        self.descended(unreported);
+        reported
+    }
+
+    // The looks of a walk, to its end.
+    fn walk_of(
+        &self,
+        rt: &impl Wait,
+        pass: &mut Pass<N>,
+        reader: &mut Reader<A, N>,
+        request: u64,
+        question: ChangedQuestion,
+    ) -> Result<ChangedAnswer, AskError>
+        requires reader { IsSome N.disk → Among reader.old pass.old.past.blocks }
+        ensures begins { BeginsView pass.old pass.new }
+        ensures reader { IsSome N.disk → Among reader.new pass.new.past.blocks }
+        ensures answer { IsSome N.disk → IfOk result (λ answer. IsChangedAnswer (applied pass.new.past.history) question answer.spots.items answer.more) }
+        ensures settled { IsSome N.disk → OnOk result (question.to < settled pass.new.past.history) }
+        ensures reported { IsSome N.disk → IfErr result (λ e. IsReportedAt e pass.new.past.history question.to) }
+        ensures trouble { IfErr result (OnAskTrouble (λ t. ComesOf N.disk A.disk_of A.represents (λ a b. A.fails a t b) pass.old pass.new)) }
+        ensures not_refused { IsSome N.disk → IfErr result (λ e. IsAbove e → watermark_of pass.old ≤ question.to) }
+    {
+        let mut walk = A::start_walk(reader.alloc, question);
+        let mut unreported = Some(request);
+        for _ in rt.forever() {
+            let found = self.looks(rt, pass, reader, &mut walk, &mut unreported)?;
+            if let Some(answer) = found {
+                return Ok(answer);
+            }
+        }
+        unreachable!()
+    }
+
+    /// Answers which prefixes were announced or withdrawn in a span, as [`Shared::ask`] answers a question. The lock is taken for some looks
+    /// of the walk at a time; what a look needs of blocks is read under it.
+    pub fn changed(
+        &self,
+        rt: &impl Wait,
+        pass: &mut Pass<N>,
+        reader: &mut Reader<A, N>,
+        request: u64,
+        question: ChangedQuestion,
+    ) -> Result<ChangedAnswer, AskError>
+        requires reader { IsSome N.disk → Among reader.old pass.old.past.blocks }
+        ensures begins { BeginsView pass.old pass.new }
+        ensures reader { IsSome N.disk → Among reader.new pass.new.past.blocks }
+        ensures answer { IsSome N.disk → IfOk result (λ answer. IsChangedAnswer (applied pass.new.past.history) question answer.spots.items answer.more) }
+        ensures settled { IsSome N.disk → OnOk result (question.to < settled pass.new.past.history) }
+        ensures reported { IsSome N.disk → IfErr result (λ e. IsReportedAt e pass.new.past.history question.to) }
+        ensures trouble { IfErr result (OnAskTrouble (λ t. ComesOf N.disk A.disk_of A.represents (λ a b. A.fails a t b) pass.old pass.new)) }
+        ensures not_refused { IsSome N.disk → IfErr result (λ e. IsAbove e → watermark_of pass.old ≤ question.to) }
+    {
+        let reported = self.walk_of(rt, pass, reader, request, question);
         self.gate.answered(request);
         reported
     }

@@ -1,16 +1,19 @@
 //! What threads ask of an archive.
-ghost use Rattle.std.specs.Prelude.{◌≡◌, ◌<◌, ◌≤◌, ℕ, List, [], length, Option, Result, OnOk, IfOk, IfErr, IfSome, Err, ⊤};
+ghost use Rattle.std.specs.Prelude.{◌≡◌, ◌<◌, ◌≤◌, ℕ, List, [], length, Option, Result, OnOk, IfOk, IfErr, IfSome, IfNone, Err, ⊤};
 ghost use Rattle.route_model.specs.Admission.{Admitted};
+ghost use Rattle.route_meaning.specs.declared.question.ChangedAnswer.{ChangedAnswer};
+ghost use Rattle.route_meaning.specs.declared.question.ChangedQuestion.{ChangedQuestion};
+ghost use Rattle.route_meaning.specs.Changed.{IsChangedAnswer};
 ghost use Rattle.route_meaning.specs.History.{History, IsHistory, Begins, applied, settled};
 ghost use Rattle.interleaving_core.specs.declared.query.Query.{Query};
 ghost use Rattle.interleaving_core.specs.Does.{last_moment};
 ghost use Rattle.interleaving_core.specs.Headline.{IsAnswered};
 ghost use Rattle.interleaving_core.specs.Steps.{IsCollector};
-ghost use Rattle.board.specs.Past.{Past, GoesOnAs, count_of};
+ghost use Rattle.board.specs.Past.{Past, Among, GoesOnAs, count_of};
 ghost use Rattle.query_threads.specs.declared.refusal.Trouble.{Trouble};
 ghost use Rattle.query_threads.specs.declared.refusal.Flush.{Flush};
 ghost use Rattle.query_threads.specs.Steps.{IsCrowded, DoesAdmit, DoesMark, DoesApply, DoesFlush, DoesReopen};
-ghost use Rattle.query_threads.specs.Turns.{TurnGives, IsReported};
+ghost use Rattle.query_threads.specs.Turns.{TurnGives, IsReported, IsReportedAt};
 ghost use Rattle.query_threads.specs.Looks.{AreSettled, AreTheSettled, IsErrandOn};
 ghost use Rattle.query_threads.specs.Troubles.{IsOutside, OnAdmitTrouble, OnMarkTrouble, OnAskTrouble};
 ghost use Rattle.query_threads.specs.Usages.{AreLanes};
@@ -19,6 +22,7 @@ use crate::refusal::{AdmitError, AskError, Flush, MarkError, Step, Trouble, Turn
 use crate::usage::Usage;
 use board::Named;
 use interleaving_core::{BatchReply, Query};
+use route_meaning::{ChangedAnswer, ChangedQuestion};
 use route_model::{Admission, Mark};
 use std::alloc::Global;
 use std::marker::{Brand, PhantomData};
@@ -76,6 +80,9 @@ pub trait Store {
     /// A question in progress.
     type Cursor: Drop;
 
+    /// A walk over what changed, in progress.
+    type Walk: Drop;
+
     /// What is stored represents this past; after a failed write or sync, what is found when it is opened again stands
     /// for one that this begins.
     ghost represents: { Self → Past → Type 0 };
@@ -107,6 +114,12 @@ pub trait Store {
     /// What the question has gathered holds over this history.
     ghost gathered: { Self.Cursor → History → Type 0 };
 
+    /// What the walk asks.
+    ghost walks: { Self.Walk → ChangedQuestion };
+
+    /// What the walk has gathered holds over this history.
+    ghost walked: { Self.Walk → History → Type 0 };
+
     /// The errand is one of the question's.
     ghost fits: { Self.Errand → Self.Cursor → Type 0 };
 
@@ -115,6 +128,9 @@ pub trait Store {
 
     /// A call returned this trouble: the archive before the call and after it.
     ghost reports: { Self → Trouble → Self → Type 0 };
+
+    /// A look of a walk returned this trouble: the archive before the look and after it.
+    ghost fails: { Self → Trouble → Self → Type 0 };
 
     /// An opening returned this: the archive before the call and after it.
     ghost reopens: { Self → Result (Unit {0}) Trouble → Self → Type 0 };
@@ -242,9 +258,36 @@ pub trait Store {
         ensures asks { asks cursor.new ≡ asks cursor.old }
         ensures gathered { OnOk result ((p : Past) → IsErrandOn (λ e. located e cursor.old) honest block_count known p errand seen.old (reads reader.old) → AreSettled (block_count (reads reader.old)) (known seen.old) (kept reader.old) → gathered cursor.new p.history) };
 
+    /// The start of a walk over what changed.
+    fn start_walk(alloc: Global, question: ChangedQuestion) -> Self::Walk
+        ensures walks { walks result ≡ question }
+        ensures walked { (h : History) → walked result h };
+
+    /// A look of a walk. The reader is of the archive's disk, and keeps blocks of the past alone. Once the walk is over a look returns the whole
+    /// answer.
+    fn look(
+        &mut self,
+        reader: &mut Self::Reader,
+        walk: &mut Self::Walk,
+    ) -> Result<Option<ChangedAnswer>, AskError>
+        ensures represents { (p : Past) → represents self.old p → represents self.new p }
+        ensures walks { walks walk.new ≡ walks walk.old }
+        ensures settled { (p : Past) → represents self.old p → OnOk result ((walks walk.old).to < settled p.history) }
+        ensures walked { (p : Past) → represents self.old p → reads reader.old ≡ disk_of self.old → Among (kept reader.old) p.blocks → walked walk.old p.history → IfOk result (λ found. IfNone found (walked walk.new p.history)) }
+        ensures answer { (p : Past) → represents self.old p → reads reader.old ≡ disk_of self.old → Among (kept reader.old) p.blocks → walked walk.old p.history → IfOk result (λ found. IfSome found (λ answer. IsChangedAnswer (applied p.history) (walks walk.old) answer.spots.items answer.more)) }
+        ensures kept { (p : Past) → represents self.old p → reads reader.old ≡ disk_of self.old → Among (kept reader.old) p.blocks → Among (kept reader.new) p.blocks }
+        ensures reported { (p : Past) → represents self.old p → reads reader.old ≡ disk_of self.old → Among (kept reader.old) p.blocks → IfErr result (λ e. IsReportedAt e p.history (walks walk.old).to) }
+        ensures trouble { IfErr result (OnAskTrouble (λ t. fails self.old t self.new)) }
+        ensures reads { reads reader.new ≡ reads reader.old }
+        ensures disk { disk_of self.new ≡ disk_of self.old }
+        ensures pages { pages self.new ≡ pages self.old };
+
     /// A past that is stored is right.
     ghost right: { (store : Self) (p : Past) → represents store p → IsHistory p.history };
 
     /// What was gathered of a settled moment holds over later histories too.
     ghost stays: { (cursor : Self.Cursor) (h g : History) → IsHistory h → Begins h g → last_moment (asks cursor) < settled h → gathered cursor h → gathered cursor g };
+
+    /// The same of a walk.
+    ghost walk_stays: { (walk : Self.Walk) (h g : History) → IsHistory h → Begins h g → (walks walk).to < settled h → walked walk h → walked walk g };
 }

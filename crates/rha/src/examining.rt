@@ -1,7 +1,7 @@
 //! The command `info`: how far an archive has come, and how much room it has left.
 
 use crate::opening::{First, open_to_read};
-use archive_calls::RouteArchive;
+use archive_calls::{RouteArchive, RouteSource};
 use archive_facts::{
     FIRST_LEN, Facts, HEAD_PLACE, JOURNAL_PAGES, OPEN_GATE, PAGE, SIZES_LEN, SLOTS, Sizes,
     first_change, gate_place,

@@ -24,9 +24,11 @@
 mod commands;
 mod examining;
 mod holder;
+mod inquiry;
 mod loading;
 mod opening;
 mod operator;
+mod reaching;
 mod refusals;
 mod served;
 mod sizes;
@@ -67,7 +69,7 @@ fn put_help_last(alloc: Global, words: &mut Vec<String>) -> Result<(), AllocErro
     Ok(())
 }
 
-/// Reads the command line and runs its command. `host` starts the threads of a server.
+/// Reads the command line and runs its command. `host` starts the threads of a server, and makes connections.
 fn run<
     H: Threads + Wait + Clock + Files + Net<Listener = TcpListener, Stream = TcpStream> + Sync,
     E: Write,
@@ -90,10 +92,10 @@ fn run<
         Ok(Invocation::Serve(asked)) => serve(rt, host, &asked, err),
         Ok(Invocation::Check(asked)) => check(rt, &asked, err),
         Ok(Invocation::Info(asked)) => info(rt, &asked, err),
-        Ok(Invocation::Dump(asked)) => dump(rt, &asked, err),
-        Ok(Invocation::Peers(asked)) => peers(rt, &asked, err),
-        Ok(Invocation::Diff(asked)) => diff(rt, &asked, err),
-        Ok(Invocation::Find(asked)) => find(rt, &asked, err),
+        Ok(Invocation::Dump(asked)) => dump(rt, host, &asked, err),
+        Ok(Invocation::Peers(asked)) => peers(rt, host, &asked, err),
+        Ok(Invocation::Diff(asked)) => diff(rt, host, &asked, err),
+        Ok(Invocation::Find(asked)) => find(rt, host, &asked, err),
         Err(error) => {
             let code = report_usage(alloc, rt, &error, err);
             advise_text(alloc, &error, err);

@@ -1,19 +1,16 @@
-//! The commands that read whole tables. What they are asked for is read before the archive is opened.
+//! The commands that read whole tables, of the archive of a folder or of a server's. What they are asked for is read before that is opened.
 
+use crate::inquiry::Inquiry;
 use crate::opening::{First, open_to_read};
+use crate::reaching::{reach, report_lapse};
 use crate::refusals::report_unanswered;
 use advice::{MarkAdvice, advise};
-use archive_calls::RouteArchive;
-use file_archive::FileArchive;
-use route_model::Moment;
-use service::{
-    Comparing, Dumping, Finding, Listing, Output, Refusal, report_out_of_memory, report_refusal,
-};
+use archive_calls::RouteSource;
+use service::{Comparing, Dumping, Finding, Listing, Output, Refusal, Target, report_refusal};
 use std::alloc::Global;
-use std::io::{BufWriter, IsTerminal, Write};
-use tables::{
-    BadArgument, TROUBLE, moment_of, read_comparison, read_listing, read_search, read_table,
-};
+use std::io::Write;
+use std::net::{Net, SocketAddrV4, TcpListener, TcpStream};
+use tables::{BadArgument, TROUBLE, read_comparison, read_listing, read_search, read_table};
 
 /// What is expected of an argument.
 fn expected(argument: BadArgument) -> &'static str {
@@ -36,109 +33,132 @@ fn report_bad<E: Write>(alloc: Global, argument: BadArgument, err: &mut Output<E
     code
 }
 
-/// Prints why a table wasn't read: which call on a file failed, or until when it is settled.
-fn report_unread<E: Write>(
+/// Prints until when the archive is settled, if that is why an inquiry is refused.
+fn advise_settled<A: RouteSource, E: Write>(
     alloc: Global,
-    archive: &FileArchive,
-    moment: Moment,
+    archive: &A,
+    inquiry: &Inquiry,
     err: &mut Output<E>,
 ) {
-    report_unanswered(alloc, archive, err);
     let settled = archive.settled();
-    if settled.seconds() <= moment.seconds() {
+    if settled.seconds() <= inquiry.last_moment(archive).seconds() {
         advise(alloc, &MarkAdvice::Settled(settled), err);
     }
 }
 
-/// Writes the table of a moment by the archive of a folder.
-pub(crate) fn dump<E: Write>(rt: &HostRuntime, asked: &Dumping<'_>, err: &mut Output<E>) -> u8 {
-    let alloc = rt.alloc();
-    let table = match read_table(asked) {
-        Ok(table) => table,
-        Err(argument) => return report_bad(alloc, argument, err),
+/// Asks the archive of a folder.
+fn ask_folder<E: Write>(
+    rt: &HostRuntime,
+    folder: &str,
+    wait: u64,
+    inquiry: &Inquiry,
+    err: &mut Output<E>,
+) -> u8 {
+    let Some(mut archive) = open_to_read(rt, folder, wait, First::Nothing, err) else {
+        return inquiry.refused();
     };
-    let Some(mut archive) = open_to_read(rt, asked.folder, asked.wait, First::Nothing, err) else {
-        return 1;
-    };
-    let is_seen = rt.stdout().is_terminal();
-    let Ok(buffer) = BufWriter::new(alloc, rt.stdout()) else {
-        return report_out_of_memory(err);
-    };
-    let mut out = Output::new(buffer);
-    let code = tables::dump(alloc, &mut archive, &table, is_seen, &mut out, err);
-    if code != 0 {
-        report_unread(alloc, &archive, moment_of(&archive, table.at), err);
+    let code = inquiry.ask(rt, &mut archive, err);
+    if code == inquiry.refused() {
+        report_unanswered(rt.alloc(), &archive, err);
+        advise_settled(rt.alloc(), &archive, inquiry, err);
     }
     code
 }
 
-/// Counts the routes of each peer of a moment by the archive of a folder.
-pub(crate) fn peers<E: Write>(rt: &HostRuntime, asked: &Listing<'_>, err: &mut Output<E>) -> u8 {
-    let alloc = rt.alloc();
-    let at = match read_listing(asked) {
-        Ok(at) => at,
-        Err(argument) => return report_bad(alloc, argument, err),
+/// Asks the archive of a server.
+fn ask_server<H: Net<Listener = TcpListener, Stream = TcpStream>, E: Write>(
+    rt: &HostRuntime,
+    host: &H,
+    place: SocketAddrV4,
+    inquiry: &Inquiry,
+    err: &mut Output<E>,
+) -> u8 {
+    let Some(mut archive) = reach(rt.alloc(), host, place, err) else {
+        return inquiry.refused();
     };
-    let Some(mut archive) = open_to_read(rt, asked.folder, asked.wait, First::Nothing, err) else {
-        return 1;
-    };
-    let is_seen = rt.stdout().is_terminal();
-    let Ok(buffer) = BufWriter::new(alloc, rt.stdout()) else {
-        return report_out_of_memory(err);
-    };
-    let mut out = Output::new(buffer);
-    let moment = moment_of(&archive, at);
-    let code = tables::peers(alloc, &mut archive, Some(moment), is_seen, &mut out, err);
-    if code != 0 {
-        report_unread(alloc, &archive, moment, err);
+    let code = inquiry.ask(rt, &mut archive, err);
+    if code == inquiry.refused() {
+        report_lapse(rt.alloc(), place, &archive, err);
+        advise_settled(rt.alloc(), &archive, inquiry, err);
     }
     code
 }
 
-/// Compares the tables of two moments by the archive of a folder.
-pub(crate) fn diff<E: Write>(rt: &HostRuntime, asked: &Comparing<'_>, err: &mut Output<E>) -> u8 {
-    let alloc = rt.alloc();
-    let comparison = match read_comparison(asked) {
-        Ok(comparison) => comparison,
-        Err(argument) => {
-            report_bad(alloc, argument, err);
-            return TROUBLE;
+/// Asks the archive that a command names. A folder's is waited for while it is in use.
+fn ask_target<H: Net<Listener = TcpListener, Stream = TcpStream>, E: Write>(
+    rt: &HostRuntime,
+    host: &H,
+    target: Target<'_>,
+    wait: u64,
+    inquiry: &Inquiry,
+    err: &mut Output<E>,
+) -> u8 {
+    match target {
+        Target::Folder(folder) => ask_folder(rt, folder, wait, inquiry, err),
+        Target::Server(place) => ask_server(rt, host, place, inquiry, err),
+    }
+}
+
+/// Writes the table of a moment.
+pub(crate) fn dump<H: Net<Listener = TcpListener, Stream = TcpStream>, E: Write>(
+    rt: &HostRuntime,
+    host: &H,
+    asked: &Dumping<'_>,
+    err: &mut Output<E>,
+) -> u8 {
+    match read_table(asked) {
+        Ok(table) => {
+            let inquiry = Inquiry::Table(table);
+            ask_target(rt, host, asked.target, asked.wait, &inquiry, err)
         }
-    };
-    let Some(mut archive) = open_to_read(rt, asked.folder, asked.wait, First::Nothing, err) else {
-        return TROUBLE;
-    };
-    let is_seen = rt.stdout().is_terminal();
-    let Ok(buffer) = BufWriter::new(alloc, rt.stdout()) else {
-        report_out_of_memory(err);
-        return TROUBLE;
-    };
-    let mut out = Output::new(buffer);
-    let code = tables::diff(alloc, &mut archive, &comparison, is_seen, &mut out, err);
-    if code == TROUBLE {
-        report_unread(alloc, &archive, comparison.from.max(comparison.to), err);
+        Err(argument) => report_bad(rt.alloc(), argument, err),
     }
-    code
 }
 
-/// Shows what is found of some prefixes by the archive of a folder.
-pub(crate) fn find<E: Write>(rt: &HostRuntime, asked: &Finding<'_>, err: &mut Output<E>) -> u8 {
-    let alloc = rt.alloc();
-    let search = match read_search(asked) {
-        Ok(search) => search,
-        Err(argument) => return report_bad(alloc, argument, err),
-    };
-    let Some(mut archive) = open_to_read(rt, asked.folder, asked.wait, First::Nothing, err) else {
-        return 1;
-    };
-    let is_seen = rt.stdout().is_terminal();
-    let Ok(buffer) = BufWriter::new(alloc, rt.stdout()) else {
-        return report_out_of_memory(err);
-    };
-    let mut out = Output::new(buffer);
-    let code = tables::find(alloc, &mut archive, &search, is_seen, &mut out, err);
-    if code != 0 {
-        report_unread(alloc, &archive, moment_of(&archive, search.until), err);
+/// Counts the routes of each peer of a moment.
+pub(crate) fn peers<H: Net<Listener = TcpListener, Stream = TcpStream>, E: Write>(
+    rt: &HostRuntime,
+    host: &H,
+    asked: &Listing<'_>,
+    err: &mut Output<E>,
+) -> u8 {
+    match read_listing(asked) {
+        Ok(at) => {
+            let inquiry = Inquiry::Peers(at);
+            ask_target(rt, host, asked.target, asked.wait, &inquiry, err)
+        }
+        Err(argument) => report_bad(rt.alloc(), argument, err),
     }
-    code
+}
+
+/// Compares the tables of two moments.
+pub(crate) fn diff<H: Net<Listener = TcpListener, Stream = TcpStream>, E: Write>(
+    rt: &HostRuntime,
+    host: &H,
+    asked: &Comparing<'_>,
+    err: &mut Output<E>,
+) -> u8 {
+    match read_comparison(asked) {
+        Ok(comparison) => {
+            let inquiry = Inquiry::Comparison(comparison);
+            ask_target(rt, host, asked.target, asked.wait, &inquiry, err)
+        }
+        Err(argument) => report_bad(rt.alloc(), argument, err).max(TROUBLE),
+    }
+}
+
+/// Shows what is found of some prefixes.
+pub(crate) fn find<H: Net<Listener = TcpListener, Stream = TcpStream>, E: Write>(
+    rt: &HostRuntime,
+    host: &H,
+    asked: &Finding<'_>,
+    err: &mut Output<E>,
+) -> u8 {
+    match read_search(asked) {
+        Ok(search) => {
+            let inquiry = Inquiry::Search(search);
+            ask_target(rt, host, asked.target, asked.wait, &inquiry, err)
+        }
+        Err(argument) => report_bad(rt.alloc(), argument, err),
+    }
 }

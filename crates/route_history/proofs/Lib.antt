@@ -24,3 +24,4 @@ mod Finishing
 mod ChangedLater
 mod ChangedTaking
 mod ChangedLeaps
+mod ChangedOn

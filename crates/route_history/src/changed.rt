@@ -16,6 +16,7 @@ use crate::rows::{is_above, spot_of};
 use route_meaning::{ChangedAnswer, ChangedQuestion, MAX_ROWS, Spot};
 use route_model::Key;
 use std::alloc::{AllocError, Global};
+use std::mem;
 use version_model::Stamp;
 
 /// A question of what changed, under way: how far its walk over the keys has come, and the spots so far.
@@ -45,7 +46,8 @@ fn is_upto(key: Key, other: Key) -> bool
     key <= other
 }
 
-// The least key from this one on that may be of a prefix that is asked for: of this peer, or of the next one. None if there is none.
+// The least key from this one on that may be of a prefix that is asked for: this one, the first that this peer can have, or the first that
+// a peer of the next number can have. None if there is none.
 fn leap(question: &ChangedQuestion, key: Key) -> Option<Key>
     ensures { LeapsOver question.now key result }
 {
@@ -144,8 +146,7 @@ impl ChangedCursor {
         Stamp::new(self.question.to.seconds() + 1, 0)
     }
 
-    // Takes in a key that has a version in the span, up to which no other one has, from where the walk has come. Returns whether it goes
-    // on: it is over once a spot is found beyond those of an answer.
+    // Takes in the next key that has a version in the span. Returns whether the walk goes on: it is over at a spot beyond the 256 of an answer.
     fn take_key(&mut self, key: Key) -> Result<bool, AllocError>
         ensures taken { (all : List Version) (ps : List (Placed Admitted)) (at : ℕ) → ReportsChanged all ps self.old.question → IsChangedSoFar ps self.old.question at self.old.spots.items self.old.more
             → at ≤ key → NoneTouched all (changed_from self.old.question) (changed_end self.old.question) at key → HasWithin all key (changed_from self.old.question) (changed_end self.old.question) → IfOk result (TakesKey ps self.old.question key self.new) }
@@ -182,12 +183,15 @@ impl ChangedCursor {
         Ok(())
     }
 
-    /// What was gathered, as an answer.
-    pub fn into_answer(self) -> ChangedAnswer
-        ensures spots { result.spots.items ≡ self.spots.items }
-        ensures more { result.more ≡ self.more }
+    /// Takes what was gathered, once the walk is over, as its answer.
+    pub fn take_answer(&mut self, alloc: Global) -> ChangedAnswer
+        ensures spots { result.spots.items ≡ self.old.spots.items }
+        ensures more { result.more ≡ self.old.more }
+        ensures question { self.new.question ≡ self.old.question }
     {
-        let ChangedCursor { spots, more, .. } = self;
-        ChangedAnswer { spots, more }
+        ChangedAnswer {
+            spots: mem::replace(&mut self.spots, Vec::new(alloc)),
+            more: self.more,
+        }
     }
 }

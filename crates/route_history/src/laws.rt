@@ -17,7 +17,8 @@ ghost use Rattle.route_history.specs.Stamps.{stamp_of};
 ghost use Rattle.route_history.specs.Kept.{Timed, timed, IsVersion, Kept};
 ghost use Rattle.route_history.specs.Growing.{AreBefore};
 ghost use Rattle.route_history.specs.Walks.{Reports, Gathered, GoesOn, IsSameVersion};
-ghost use Rattle.route_history.specs.Changes.{ReportsChanged};
+ghost use Rattle.route_history.specs.Changes.{HasChangedSo, ReportsChanged};
+ghost use Rattle.route_history.specs.declared.changed.ChangedCursor.{ChangedCursor};
 ghost use Rattle.route_history.specs.Spans.{ReportsEvents, HasReportedSo, EventsGoOn};
 
 /// What follows if the versions are those of the applied changes, whose times never fall: which route holds at a moment is what
@@ -54,4 +55,5 @@ pub fn gathered_alike()
 pub fn gathered_follows_histories()
     ensures rows { (h g : History) (all new : List Version) (c : RowsCursor) → IsHistory h → IsHistory g → Begins h g → c.question.moment < settled h → Kept (applied h) all → Kept (applied g) new → Gathered all (applied h) c → Gathered new (applied g) c }
     ensures events { (h g : History) (all new : List Version) (c : EventsCursor) → IsHistory h → IsHistory g → Begins h g → c.question.to < settled h → IsPeer c.question.peer → IsPrefix c.question.prefix → Kept (applied h) all → Kept (applied g) new → HasReportedSo all (applied h) c → HasReportedSo new (applied g) c }
+    ensures changed { (h g : History) (c : ChangedCursor) → IsHistory h → IsHistory g → Begins h g → c.question.to < settled h → HasChangedSo (applied h) c → HasChangedSo (applied g) c }
 {}

@@ -20,7 +20,8 @@
 //! may have leapt; what it has gathered is the same.
 //!
 //! A question of which prefixes changed ([`ChangedCursor`]) is given the keys that have a version in its span, from where its walk stands up to
-//! a higher key, and leaps from there on. It has no errand: only an owner of the archive asks it, by `tree_questions::changed`.
+//! a higher key, and leaps from there on. It has no errand: a look
+//! reads pages and blocks alike (`tree_questions::changed_look`).
 //!
 //! A caller that owns pages and a reader makes the lookups itself: it asks a cursor for the next one, and gives it what was
 //! found (`next_look`, `take_reached`, `take_parts`). That a walk comes further is stated without the versions (`rose`), so

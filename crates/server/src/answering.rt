@@ -51,7 +51,9 @@ fn refusal_of(why: RequestError) -> Refusal
 /// The number of a question: the first has 1. Other requests have 0.
 fn number_of(numbers: &AtomicU64, request: &Request) -> u64 {
     match request {
-        Request::Question(_) => numbers.fetch_add(1, Ordering::SeqCst).wrapping_add(1),
+        Request::Question(_) | Request::Changed(_) => {
+            numbers.fetch_add(1, Ordering::SeqCst).wrapping_add(1)
+        }
         Request::Watermark | Request::Durable(_) => 0,
     }
 }

@@ -5,14 +5,15 @@ ghost use Rattle.board.specs.Past.{Among};
 ghost use Rattle.board.specs.Views.{BeginsView, with_seen, watermark_of, durable_of};
 ghost use Rattle.interleaving_core.specs.Does.{last_moment};
 ghost use Rattle.service.specs.AnswerLines.{watermark_line, count_line};
-ghost use Rattle.server.specs.Replies.{IsAnswerOver, IsReplyOver, NamesOneOf, IsRefusedOver, IsNotBelow, SeesBy};
+ghost use Rattle.server.specs.Replies.{IsAnswerOver, IsChangedOver, IsReplyOver, NamesOneOf, IsRefusedOver, IsNotBelow, SeesBy};
 
 use crate::troubles::unanswered;
 use archive_calls::Trouble;
 use board::{Named, Pass};
 use interleaving_core::Query;
 use query_threads::{Gate, OnDisk, Reader, Shared, Store};
-use service::{Request, Unanswered, answer_text, skip_of};
+use route_meaning::ChangedQuestion;
+use service::{Request, Unanswered, answer_text, changed_text, skip_of};
 use std::alloc::{AllocError, Global};
 use std::sync::Wait;
 
@@ -53,6 +54,33 @@ fn answer_question<A: Store, N: Named + OnDisk<A::Disk>, G: Gate + Drop>(
         Err(refusal) => return Err(unanswered(refusal)),
     };
     match answer_text(alloc, skip, &answer) {
+        Ok(text) => Ok(text),
+        Err(_) => Err(Unanswered::Trouble(Trouble::OutOfMemory)),
+    }
+}
+
+/// The lines of the places that changed, over what the pass sees then.
+fn answer_changed<A: Store, N: Named + OnDisk<A::Disk>, G: Gate + Drop>(
+    rt: &impl Wait,
+    alloc: Global,
+    shared: &Shared<A, N, G>,
+    pass: &mut Pass<N>,
+    reader: &mut Reader<A, N>,
+    number: u64,
+    question: ChangedQuestion,
+) -> Result<String, Unanswered>
+    requires reader { IsSome N.disk → Among reader.old pass.old.past.blocks }
+    ensures reader { IsSome N.disk → Among reader.new pass.new.past.blocks }
+    ensures begins { BeginsView pass.old pass.new }
+    ensures answered { IfOk result (λ text. IsChangedOver (IsSome N.disk) pass.new question (string_bytes text)) }
+    ensures refused { IfErr result (IsRefusedOver (IsSome N.disk) shared.now.collectors pass.new (Request.Changed question)) }
+    ensures not_refused { IsSome N.disk → IfErr result (IsNotBelow pass.old (Request.Changed question)) }
+{
+    let answer = match shared.changed(rt, pass, reader, number, question) {
+        Ok(answer) => answer,
+        Err(refusal) => return Err(unanswered(refusal)),
+    };
+    match changed_text(alloc, &answer) {
         Ok(text) => Ok(text),
         Err(_) => Err(Unanswered::Trouble(Trouble::OutOfMemory)),
     }
@@ -148,6 +176,9 @@ pub fn reply_to<A: Store, N: Named + OnDisk<A::Disk>, G: Gate + Drop>(
     match request {
         Request::Question(query) => {
             answer_question(rt, alloc, shared, pass, reader, number, query)
+        }
+        Request::Changed(question) => {
+            answer_changed(rt, alloc, shared, pass, reader, number, question)
         }
         Request::Watermark => report_watermark(alloc, shared, pass),
         Request::Durable(collector) => report_count(alloc, shared, pass, collector),

@@ -8,7 +8,7 @@ use Rattle.service.specs.Replies.{IsReplyTo, IsReplyText, IsRefused, IsAskEnd}
 use Rattle.service.specs.Requests.{IsRequestLine}
 use Rattle.service.specs.inner.Asking.{IsUnreplied}
 use Rattle.service.specs.declared.request.Request.{Request}
-use Rattle.service.specs.declared.request.Request.TheVariants.{Question, Watermark, Durable}
+use Rattle.service.specs.declared.request.Request.TheVariants.{Question, Changed, Watermark, Durable}
 use Rattle.service.specs.inner.Loading.{reported_as}
 use Rattle.service.specs.declared.faults.Unanswered.{Unanswered}
 use Rattle.service.specs.declared.faults.Unanswered.TheVariants as whys
@@ -56,9 +56,13 @@ replied h line request (Err why) octets asked k = tt
 
 refused_as : (h : History) (line : List ℕ) (request : Request) (why : Unanswered) → IsRequestLine line request → IsUnreplied h request why → IsRefused h line why
 refused_as h line (Question query) whys.BadRequest asked k = absurd k
-refused_as h line (Question query) (whys.AboveWatermark watermark) asked k = record { query = query; asked = asked; above = k.0; watermark_is = k.1 }
+refused_as h line (Question query) (whys.AboveWatermark watermark) asked k = record { request = Question query; asked = asked; above = k.0; watermark_is = k.1 }
 refused_as h line (Question query) whys.NoCollector asked k = absurd k
 refused_as h line (Question query) (whys.Trouble trouble) asked k = tt
+refused_as h line (Changed q) whys.BadRequest asked k = absurd k
+refused_as h line (Changed q) (whys.AboveWatermark watermark) asked k = record { request = Changed q; asked = asked; above = k.0; watermark_is = k.1 }
+refused_as h line (Changed q) whys.NoCollector asked k = absurd k
+refused_as h line (Changed q) (whys.Trouble trouble) asked k = tt
 refused_as h line Watermark whys.BadRequest asked k = absurd k
 refused_as h line Watermark (whys.AboveWatermark watermark) asked k = absurd k
 refused_as h line Watermark whys.NoCollector asked k = absurd k

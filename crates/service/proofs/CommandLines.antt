@@ -15,8 +15,8 @@ use Rattle.clap.specs.declared.parser.matches.ArgMatches.TheViews.{out-ArgMatche
 use Rattle.clap.specs.declared.parser.matches.SubCommand.{SubCommand}
 use Rattle.std.specs.Prelude.{Box}
 use Rattle.std.specs.Box.{box_value}
-use Rattle.service.specs.CommandLines.{program, AreWordsOf, IsInvocation, HasBadMark, HasBadListen, HasBadHttp}
-use Rattle.service.specs.inner.Naming.{IsCommand, AsksFor, NamesNoMark, NamesNoListen, NamesNoHttp}
+use Rattle.service.specs.CommandLines.{program, AreWordsOf, IsInvocation, HasBadMark, HasBadListen, HasBadHttp, HasBadConnect}
+use Rattle.service.specs.inner.Naming.{IsCommand, AsksFor, NamesNoMark, NamesNoListen, NamesNoHttp, NamesNoServer}
 use Rattle.service.specs.declared.invocation.Invocation.{Invocation}
 use Rattle.service.specs.declared.invocation.Invocation.TheVariants.{Create, Load, Ask, Serve, Check, Info, Dump, Peers, Diff, Find}
 use Rattle.service.specs.declared.invocation.CommandError.{CommandError}
@@ -145,6 +145,9 @@ no_listen_by app words m h a = (a.0, words_met app words m (codes "serve") a.0 h
 
 pub no_http_by : (app : App) (words : List Text) (m : ArgMatches) → IsMet app words m → NamesNoHttp (subcommand_rows_of m) → HasBadHttp words
 no_http_by app words m h a = (a.0, words_met app words m (codes "serve") a.0 h a.1, a.2)
+
+pub no_server_by : (app : App) (words : List Text) (m : ArgMatches) → IsMet app words m → NamesNoServer (subcommand_rows_of m) → HasBadConnect words
+no_server_by app words m h a = (a.0, a.1, words_met app words m a.0 a.1 h a.2, a.3)
 
 -- the command of this name is met, with these arguments
 pub named_rows : (m : ArgMatches) (name : Text) (rows : List Row) → subcommand_name_of m ≡ Some name → option_map (λ (p : Text × List Row). p.1) (subcommand_rows_of m) ≡ Some rows

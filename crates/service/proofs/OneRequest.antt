@@ -11,15 +11,16 @@ use Rattle.route_meaning.specs.declared.question.Select.TheVariants.{Route, ByPr
 use Rattle.route_meaning.specs.declared.question.Spot.{Spot}
 use Rattle.route_meaning.specs.declared.question.RowsQuestion.{RowsQuestion}
 use Rattle.route_meaning.specs.declared.question.EventsQuestion.{EventsQuestion}
+use Rattle.route_meaning.specs.declared.question.ChangedQuestion.{ChangedQuestion}
 use Rattle.route_text.specs.AddressText.{IsAddressText}
 use Rattle.route_text.specs.MomentText.{IsMomentText}
 use Rattle.route_text.specs.PrefixText.{IsPrefixText}
 use Rattle.route_text.proofs.api.Addresses.{IsAddressText_unique}
 use Rattle.route_text.proofs.api.OneValue.{one_instant, one_prefix}
 use Rattle.interleaving_core.specs.declared.query.Query.TheVariants.{Rows, Events}
-use Rattle.service.specs.Requests.{words_of, AreNumberWords, ArePeerWords, AreSpotWords, AreAfterWords, AreRouteWords, ArePrefixWords, AreCoverWords, ArePeerTableWords, AreAllWords, AreSelectWords, AreRowsWords, AreSkipWords, AreEventsWords, AreDurableWords, AreRequestWords, IsRequestLine}
+use Rattle.service.specs.Requests.{words_of, AreNumberWords, ArePeerWords, AreSpotWords, AreAfterWords, AreRouteWords, ArePrefixWords, AreCoverWords, ArePeerTableWords, AreAllWords, AreSelectWords, AreRowsWords, AreSkipWords, AreEventsWords, AreChangedWords, AreDurableWords, AreRequestWords, IsRequestLine}
 use Rattle.service.specs.declared.request.Request.{Request}
-use Rattle.service.specs.declared.request.Request.TheVariants.{Question, Watermark, Durable}
+use Rattle.service.specs.declared.request.Request.TheVariants.{Question, Changed, Watermark, Durable}
 use Rattle.service.proofs.Words.{first_of, rest_of, nothing}
 
 abbrev Text : Type 0
@@ -182,6 +183,21 @@ one_events words q r h k =
     let skips = one_skip k.beyond q.skip r.skip (subst (λ (x : List Text). AreSkipWords x q.skip) beyond-7 h.skip_is) k.skip_is in
     λ i. record { from = froms i; to = tos i; peer = peers i; prefix = prefixes i; skip = skips i }
 
+one_changed : (words : List Text) (q r : ChangedQuestion) → AreChangedWords words q → AreChangedWords words r → q ≡ r
+one_changed words q r h k =
+    let beyond = rest_of _ _ _ _ (sym h.are ∙ k.are) in
+    let from : h.from ≡ k.from = first_of _ _ _ _ beyond in
+    let beyond-2 = rest_of _ _ _ _ beyond in
+    let to : h.to ≡ k.to = first_of _ _ _ _ beyond-2 in
+    let beyond-3 = rest_of _ _ _ _ beyond-2 in
+    let beyond-4 = rest_of _ _ _ _ beyond-3 in
+    let froms = same_moment _ _ q.from r.from from h.from_is k.from_is in
+    let tos = same_moment _ _ q.to r.to to h.to_is k.to_is in
+    let lows = same_prefix _ _ q.low r.low (first_of _ _ _ _ beyond-3) h.low_is k.low_is in
+    let highs = same_prefix _ _ q.high r.high (first_of _ _ _ _ beyond-4) h.high_is k.high_is in
+    let afters = same_after _ _ q.after r.after (rest_of _ _ _ _ beyond-4) h.after_is k.after_is in
+    λ i. record { from = froms i; to = tos i; low = lows i; high = highs i; after = afters i }
+
 -- ---- requests
 
 one_durable : (words : List Text) (a b : ℕ) → AreDurableWords words a → AreDurableWords words b → a ≡ b
@@ -190,18 +206,27 @@ one_durable words a b h k = same_only_number 15 (omega arith) h.named k.named a 
 one_of_words : (words : List Text) (q r : Request) → AreRequestWords words q → AreRequestWords words r → q ≡ r
 one_of_words words (Question (Rows q)) (Question (Rows r)) h k = ap (λ (x : RowsQuestion). Question (Rows x)) (one_rows words q r h k)
 one_of_words words (Question (Rows q)) (Question (Events r)) h k = absurd (differ _ _ _ _ words refl h.are k.are)
+one_of_words words (Question (Rows q)) (Changed r) h k = absurd (differ _ _ _ _ words refl h.are k.are)
 one_of_words words (Question (Rows q)) Watermark h k = absurd (differ _ _ _ _ words refl h.are k)
 one_of_words words (Question (Rows q)) (Durable d) h k = absurd (differ _ _ _ _ words refl h.are k.are)
 one_of_words words (Question (Events q)) (Question (Rows r)) h k = absurd (differ _ _ _ _ words refl h.are k.are)
 one_of_words words (Question (Events q)) (Question (Events r)) h k = ap (λ (x : EventsQuestion). Question (Events x)) (one_events words q r h k)
+one_of_words words (Question (Events q)) (Changed r) h k = absurd (differ _ _ _ _ words refl h.are k.are)
 one_of_words words (Question (Events q)) Watermark h k = absurd (differ _ _ _ _ words refl h.are k)
 one_of_words words (Question (Events q)) (Durable d) h k = absurd (differ _ _ _ _ words refl h.are k.are)
+one_of_words words (Changed q) (Question (Rows r)) h k = absurd (differ _ _ _ _ words refl h.are k.are)
+one_of_words words (Changed q) (Question (Events r)) h k = absurd (differ _ _ _ _ words refl h.are k.are)
+one_of_words words (Changed q) (Changed r) h k = ap Changed (one_changed words q r h k)
+one_of_words words (Changed q) Watermark h k = absurd (differ _ _ _ _ words refl h.are k)
+one_of_words words (Changed q) (Durable d) h k = absurd (differ _ _ _ _ words refl h.are k.are)
 one_of_words words Watermark (Question (Rows r)) h k = absurd (differ _ _ _ _ words refl h k.are)
 one_of_words words Watermark (Question (Events r)) h k = absurd (differ _ _ _ _ words refl h k.are)
+one_of_words words Watermark (Changed r) h k = absurd (differ _ _ _ _ words refl h k.are)
 one_of_words words Watermark Watermark h k = refl
 one_of_words words Watermark (Durable d) h k = absurd (differ _ _ _ _ words refl h k.are)
 one_of_words words (Durable c) (Question (Rows r)) h k = absurd (differ _ _ _ _ words refl h.are k.are)
 one_of_words words (Durable c) (Question (Events r)) h k = absurd (differ _ _ _ _ words refl h.are k.are)
+one_of_words words (Durable c) (Changed r) h k = absurd (differ _ _ _ _ words refl h.are k.are)
 one_of_words words (Durable c) Watermark h k = absurd (differ _ _ _ _ words refl h.are k)
 one_of_words words (Durable c) (Durable d) h k = ap Durable (one_durable words c d h k)
 

@@ -9,6 +9,8 @@ use Rattle.route_meaning.specs.declared.question.Row.{Row}
 use Rattle.route_meaning.specs.declared.question.RowsAnswer.{RowsAnswer}
 use Rattle.route_meaning.specs.declared.question.Event.{Event}
 use Rattle.route_meaning.specs.declared.question.EventsAnswer.{EventsAnswer}
+use Rattle.route_meaning.specs.declared.question.Spot.{Spot}
+use Rattle.route_meaning.specs.declared.question.ChangedAnswer.{ChangedAnswer}
 use Rattle.interleaving_core.specs.declared.query.Query.{Query}
 use Rattle.interleaving_core.specs.declared.query.Query.TheVariants.{Rows, Events}
 use Rattle.interleaving_core.specs.declared.query.Answer.{Answer}
@@ -27,19 +29,19 @@ place_text peer prefix =
 abbrev pub row_line : Row → List ℕ
 row_line row = codes "R|" ++ place_text row.peer row.prefix ++ codes "|" ++ route_text row.route ++ line_end
 
--- the rows are all that there are: how many
-abbrev pub end_line : List Row → List ℕ
-end_line rows = codes "E|" ++ decimal (length rows) ++ line_end
+-- nothing follows: how many lines there are
+abbrev pub end_line : ℕ → List ℕ
+end_line count = codes "E|" ++ decimal count ++ line_end
 
--- more rows follow: the place of the last row
-abbrev pub more_line : Row → List ℕ
-more_line row = codes "M|" ++ place_text row.peer row.prefix ++ line_end
+-- more places follow: the last one
+abbrev pub more_line : Peer → IpPrefix → List ℕ
+more_line peer prefix = codes "M|" ++ place_text peer prefix ++ line_end
 
 -- whether more rows follow, with the last row, if there is one
 abbrev pub ending : List Row → Bool → Option Row → List ℕ
-ending rows false last = end_line rows
-ending rows true None = end_line rows
-ending rows true (Some row) = more_line row
+ending rows false last = end_line (length rows)
+ending rows true None = end_line (length rows)
+ending rows true (Some row) = more_line row.peer row.prefix
 
 -- a line for each row, in their order, and then whether more follow
 abbrev pub answer_text : RowsAnswer → List ℕ
@@ -61,12 +63,26 @@ event_line e = change_line e.time e.change
 
 -- how many events there are, if no more follow; else how many the next question skips, of which this one skipped this many
 abbrev pub events_ending : ℕ → List Event → Bool → List ℕ
-events_ending skip events false = codes "E|" ++ decimal (length events) ++ line_end
+events_ending skip events false = end_line (length events)
 events_ending skip events true = codes "M|" ++ decimal (skip + length events) ++ line_end
 
 -- a line for each event, in their order, and then whether more follow
 abbrev pub events_text : ℕ → EventsAnswer → List ℕ
 events_text skip a = flat_map event_line a.events.items ++ events_ending skip a.events.items a.more
+
+-- a place that changed
+abbrev pub changed_line : Spot → List ℕ
+changed_line spot = codes "C|" ++ place_text spot.peer spot.prefix ++ line_end
+
+-- whether more places follow, with the last one, if there is one
+abbrev pub changed_ending : List Spot → Bool → Option Spot → List ℕ
+changed_ending spots false last = end_line (length spots)
+changed_ending spots true None = end_line (length spots)
+changed_ending spots true (Some spot) = more_line spot.peer spot.prefix
+
+-- a line for each place that changed, in their order, and then whether more follow
+abbrev pub changed_text : ChangedAnswer → List ℕ
+changed_text a = flat_map changed_line a.spots.items ++ changed_ending a.spots.items a.more (slice_get a.spots.items (length a.spots.items - 1))
 
 -- how many events a question skips
 abbrev pub skip_of : Query → ℕ

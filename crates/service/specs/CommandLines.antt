@@ -16,6 +16,8 @@ use Rattle.service.specs.declared.invocation.Question.{Question}
 use Rattle.service.specs.declared.invocation.Serving.{Serving}
 use Rattle.service.specs.declared.invocation.Checking.{Checking}
 use Rattle.service.specs.declared.invocation.Examining.{Examining}
+use Rattle.service.specs.declared.invocation.Target.{Target}
+use Rattle.service.specs.declared.invocation.Target.TheVariants.{Folder, Server}
 use Rattle.service.specs.declared.invocation.Dumping.{Dumping}
 use Rattle.service.specs.declared.invocation.Listing.{Listing}
 use Rattle.service.specs.declared.invocation.Comparing.{Comparing}
@@ -143,25 +145,29 @@ checking = of_archive (codes "check")
 abbrev pub examining : App
 examining = with_rule (of_archive (codes "info")) (flag_rule (codes "json"))
 
--- NAME DIR [--wait SECONDS] [--at T], of the table of one moment
-abbrev pub of_moment : List ℕ → App
-of_moment name = with_rule (of_archive name) (text_rule (codes "at"))
+-- a command of this name, of the archive of a folder, or of one that is served
+abbrev pub of_source : List ℕ → App
+of_source name = with_rule (of_archive name) (flag_rule (codes "connect"))
 
--- dump DIR [--wait SECONDS] [--at T] [--peer COLLECTOR ADDRESS AS] [--format FORM]
+-- NAME DIR [--wait SECONDS] [--connect] [--at T], of the table of one moment
+abbrev pub of_moment : List ℕ → App
+of_moment name = with_rule (of_source name) (text_rule (codes "at"))
+
+-- dump DIR [--wait SECONDS] [--connect] [--at T] [--peer COLLECTOR ADDRESS AS] [--format FORM]
 abbrev pub dumping : App
 dumping = with_rule (with_rule (of_moment (codes "dump")) peer_rule) (text_or_rule (codes "format") (codes "lines"))
 
--- peers DIR [--wait SECONDS] [--at T]
+-- peers DIR [--wait SECONDS] [--connect] [--at T]
 abbrev pub listing : App
 listing = of_moment (codes "peers")
 
--- diff DIR [--wait SECONDS] FROM TO [--within PREFIX]
+-- diff DIR [--wait SECONDS] [--connect] FROM TO [--within PREFIX]
 abbrev pub comparing : App
-comparing = with_rule (with_rule (with_rule (of_archive (codes "diff")) (word_rule (codes "FROM"))) (word_rule (codes "TO"))) (text_rule (codes "within"))
+comparing = with_rule (with_rule (with_rule (of_source (codes "diff")) (word_rule (codes "FROM"))) (word_rule (codes "TO"))) (text_rule (codes "within"))
 
--- find DIR [--wait SECONDS] PREFIX [--exact] [--more] [--less]
+-- find DIR [--wait SECONDS] [--connect] PREFIX [--exact] [--more] [--less]
 abbrev pub finding_in_scope : App
-finding_in_scope = with_rule (with_rule (with_rule (with_rule (of_archive (codes "find")) (word_rule (codes "PREFIX"))) (flag_rule (codes "exact"))) (flag_rule (codes "more"))) (flag_rule (codes "less"))
+finding_in_scope = with_rule (with_rule (with_rule (with_rule (of_source (codes "find")) (word_rule (codes "PREFIX"))) (flag_rule (codes "exact"))) (flag_rule (codes "more"))) (flag_rule (codes "less"))
 
 -- find DIR PREFIX [--exact] [--more] [--less] [--since A] [--until B] [--origin AS] [--via AS]
 abbrev pub finding : App
@@ -267,9 +273,14 @@ pub record IsExamining (rows : List Row) (e : Examining) : Type 0 where
   pub wait : IsNumber 0 1000000 (first_of (codes "wait") rows) e.wait
   pub json : IsThere (one_of (codes "json") rows) e.json
 
+-- where the archive is: in the folder that the first word names, or with --connect at the address and port in that word
+abbrev pub IsTarget : List Row → Target → Type 0
+IsTarget rows (Folder folder) = IsThere (one_of (codes "connect") rows) false × (folder.now ≡ word_in (codes "DIR") rows)
+IsTarget rows (Server place) = IsThere (one_of (codes "connect") rows) true × IsListenText (word_in (codes "DIR") rows) place
+
 -- what is read of the arguments of `dump`
 pub record IsDumping (rows : List Row) (d : Dumping) : Type 0 where
-  pub folder : d.folder.now ≡ word_in (codes "DIR") rows
+  pub target : IsTarget rows d.target
   pub wait : IsNumber 0 1000000 (first_of (codes "wait") rows) d.wait
   pub moment : option_map (λ t. t.now) d.at ≡ first_of (codes "at") rows
   pub peer : map (λ t. t.now) d.peer.items ≡ unwrap_or (all_of (codes "peer") rows) []
@@ -277,13 +288,13 @@ pub record IsDumping (rows : List Row) (d : Dumping) : Type 0 where
 
 -- what is read of the arguments of `peers`
 pub record IsListing (rows : List Row) (l : Listing) : Type 0 where
-  pub folder : l.folder.now ≡ word_in (codes "DIR") rows
+  pub target : IsTarget rows l.target
   pub wait : IsNumber 0 1000000 (first_of (codes "wait") rows) l.wait
   pub moment : option_map (λ t. t.now) l.at ≡ first_of (codes "at") rows
 
 -- what is read of the arguments of `diff`
 pub record IsComparing (rows : List Row) (c : Comparing) : Type 0 where
-  pub folder : c.folder.now ≡ word_in (codes "DIR") rows
+  pub target : IsTarget rows c.target
   pub wait : IsNumber 0 1000000 (first_of (codes "wait") rows) c.wait
   pub first : c.from.now ≡ word_in (codes "FROM") rows
   pub second : c.to.now ≡ word_in (codes "TO") rows
@@ -291,7 +302,7 @@ pub record IsComparing (rows : List Row) (c : Comparing) : Type 0 where
 
 -- what is read of the arguments of `find`
 pub record IsFinding (rows : List Row) (f : Finding) : Type 0 where
-  pub folder : f.folder.now ≡ word_in (codes "DIR") rows
+  pub target : IsTarget rows f.target
   pub wait : IsNumber 0 1000000 (first_of (codes "wait") rows) f.wait
   pub named : f.prefix.now ≡ word_in (codes "PREFIX") rows
   pub exact : IsThere (one_of (codes "exact") rows) f.exact
@@ -335,3 +346,11 @@ HasNoHttp rows = (listen : SocketAddrV4) × IsListenText (word_in (codes "listen
 -- the words are accepted as those of `serve`, but the text after `--http` is none that can be listened on too
 abbrev pub HasBadHttp : List (List ℕ) → Type 0
 HasBadHttp words = (rows : List Row) × AreWordsOf (codes "serve") words rows × HasNoHttp rows
+
+-- with --connect the first word is that of no address and port
+abbrev pub HasNoServer : List Row → Type 0
+HasNoServer rows = IsThere (one_of (codes "connect") rows) true × IsNoListenText (word_in (codes "DIR") rows)
+
+-- the words are accepted as those of a command, but with --connect the first word is that of no address and port
+abbrev pub HasBadConnect : List (List ℕ) → Type 0
+HasBadConnect words = (name : List ℕ) × (rows : List Row) × AreWordsOf name words rows × HasNoServer rows

@@ -1,18 +1,21 @@
 -- What a history answers to a request line.
 use Rattle.std.specs.Prelude.{◌≡◌, ◌⊎◌, true, false, ℕ, ◌<◌, ◌≤◌, List, Some, length, slice_get}
 use Rattle.service.specs.Outputs.{OutputState, Reports}
+use Rattle.route_meaning.specs.declared.question.ChangedAnswer.{ChangedAnswer}
+use Rattle.route_meaning.specs.declared.question.ChangedQuestion.{ChangedQuestion}
+use Rattle.route_meaning.specs.Changed.{IsChangedAnswer}
 use Rattle.route_meaning.specs.History.{History, Intake, applied, settled}
 use Rattle.interleaving_core.specs.declared.query.Query.{Query}
 use Rattle.interleaving_core.specs.declared.query.Answer.{Answer}
 use Rattle.interleaving_core.specs.Does.{last_moment}
 use Rattle.interleaving_core.specs.Headline.{IsAnswered}
 use Rattle.interleaving_core.specs.Steps.{IsCollector}
-use Rattle.service.specs.AnswerLines.{skip_of, reply_text, watermark_line, count_line}
+use Rattle.service.specs.AnswerLines.{skip_of, reply_text, changed_text, watermark_line, count_line}
 use Rattle.service.specs.Refusals.{refusal_line, ReportsFailure}
 use Rattle.service.specs.Requests.{IsRequestLine}
 use Rattle.service.specs.Faults.{of_unanswered}
 use Rattle.service.specs.declared.request.Request.{Request}
-use Rattle.service.specs.declared.request.Request.TheVariants.{Question, Watermark, Durable}
+use Rattle.service.specs.declared.request.Request.TheVariants.{Question, Changed, Watermark, Durable}
 use Rattle.service.specs.declared.status.Status.{Status}
 use Rattle.service.specs.declared.status.Status.TheVariants as statuses
 use Rattle.service.specs.declared.faults.Unanswered.{Unanswered}
@@ -24,6 +27,13 @@ pub record IsAnswerText (h : History) (query : Query) (text : List ℕ) : Type 0
   pub below : last_moment query < settled h
   pub answered : IsAnswered (applied h) query answer
   pub reported : text ≡ reply_text (skip_of query) answer
+
+-- the span's last moment is below the settled watermark, and this is the text of the places that changed, over what is applied
+pub record IsChangedText (h : History) (q : ChangedQuestion) (text : List ℕ) : Type 0 where
+  pub answer : ChangedAnswer
+  pub below : q.to < settled h
+  pub answered : IsChangedAnswer (applied h) q answer.spots.items answer.more
+  pub reported : text ≡ changed_text answer
 
 -- there is a collector of this number, and this many of its records are admitted
 pub record IsDurable (h : History) (collector count : ℕ) : Type 0 where
@@ -40,6 +50,7 @@ pub record IsCountText (h : History) (collector : ℕ) (text : List ℕ) : Type 
 -- this is the text of the reply to the request
 abbrev pub IsReplyTo : History → Request → List ℕ → Type 0
 IsReplyTo h (Question query) text = IsAnswerText h query text
+IsReplyTo h (Changed q) text = IsChangedText h q text
 IsReplyTo h Watermark text = text ≡ watermark_line (settled h)
 IsReplyTo h (Durable collector) text = IsCountText h collector text
 
@@ -49,11 +60,18 @@ pub record IsReplyText (h : History) (line text : List ℕ) : Type 0 where
   pub asked : IsRequestLine line request
   pub replied : IsReplyTo h request text
 
+-- the request asks of a moment that isn't below the settled watermark
+abbrev pub AsksAbove : History → Request → Type 0
+AsksAbove h (Question query) = settled h ≤ last_moment query
+AsksAbove h (Changed q) = settled h ≤ q.to
+AsksAbove h Watermark = ⊥
+AsksAbove h (Durable collector) = ⊥
+
 -- the line asks of a moment that isn't below the settled watermark, which is this one
 pub record IsUnsettled (h : History) (line : List ℕ) (watermark : ℕ) : Type 0 where
-  pub query : Query
-  pub asked : IsRequestLine line (Question query)
-  pub above : settled h ≤ last_moment query
+  pub request : Request
+  pub asked : IsRequestLine line request
+  pub above : AsksAbove h request
   pub watermark_is : watermark ≡ settled h
 
 -- the line asks of a collector that isn't there

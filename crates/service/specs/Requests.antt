@@ -9,12 +9,13 @@ use Rattle.route_meaning.specs.declared.question.Select.TheVariants.{Route, ByPr
 use Rattle.route_meaning.specs.declared.question.Spot.{Spot}
 use Rattle.route_meaning.specs.declared.question.RowsQuestion.{RowsQuestion}
 use Rattle.route_meaning.specs.declared.question.EventsQuestion.{EventsQuestion}
+use Rattle.route_meaning.specs.declared.question.ChangedQuestion.{ChangedQuestion}
 use Rattle.route_text.specs.AddressText.{IsAddressText}
 use Rattle.route_text.specs.PrefixText.{IsPrefixText}
 use Rattle.route_text.specs.MomentText.{IsMomentText}
 use Rattle.interleaving_core.specs.declared.query.Query.TheVariants.{Rows, Events}
 use Rattle.service.specs.declared.request.Request.{Request}
-use Rattle.service.specs.declared.request.Request.TheVariants.{Question, Watermark, Durable}
+use Rattle.service.specs.declared.request.Request.TheVariants.{Question, Changed, Watermark, Durable}
 
 -- the words of a line: the texts before, between and after its spaces
 abbrev pub words_of : List ℕ → List (List ℕ)
@@ -124,6 +125,20 @@ pub record AreEventsWords (words : List (List ℕ)) (q : EventsQuestion) : Type 
   pub prefix_is : IsPrefixText prefix q.prefix
   pub skip_is : AreSkipWords beyond q.skip
 
+-- `changed FROM TO LOW HIGH`, and perhaps `after PEER PREFIX`
+pub record AreChangedWords (words : List (List ℕ)) (q : ChangedQuestion) : Type 0 where
+  pub from : List ℕ
+  pub to : List ℕ
+  pub low : List ℕ
+  pub high : List ℕ
+  pub beyond : List (List ℕ)
+  pub are : words ≡ codes "changed" ∷ from ∷ to ∷ low ∷ high ∷ beyond
+  pub from_is : IsMomentText from q.from
+  pub to_is : IsMomentText to q.to
+  pub low_is : IsPrefixText low q.low
+  pub high_is : IsPrefixText high q.high
+  pub after_is : AreAfterWords beyond q.after
+
 -- `durable C`
 pub record AreDurableWords (words : List (List ℕ)) (collector : ℕ) : Type 0 where
   pub named : List (List ℕ)
@@ -134,6 +149,7 @@ pub record AreDurableWords (words : List (List ℕ)) (collector : ℕ) : Type 0 
 abbrev pub AreRequestWords : List (List ℕ) → Request → Type 0
 AreRequestWords words (Question (Rows q)) = AreRowsWords words q
 AreRequestWords words (Question (Events q)) = AreEventsWords words q
+AreRequestWords words (Changed q) = AreChangedWords words q
 AreRequestWords words Watermark = words ≡ codes "watermark" ∷ []
 AreRequestWords words (Durable collector) = AreDurableWords words collector
 

@@ -1,7 +1,7 @@
 //! The lines of an answer.
 
 ghost use Rattle.std.specs.Prelude.{◌≡◌, ◌++◌, ◌-◌, OnOk, string_bytes, length, slice_get};
-ghost use Rattle.service.specs.AnswerLines.{place_text, row_line, ending, answer_text};
+ghost use Rattle.service.specs.AnswerLines.{place_text, row_line, end_line, more_line, ending, answer_text};
 
 use route_meaning::{Row, RowsAnswer};
 use route_model::{Peer, Prefix};
@@ -32,20 +32,29 @@ pub fn write_row(out: &mut String, row: &Row) -> Result<(), AllocError>
     out.push('\n')
 }
 
+/// `E|` and how many lines there are: nothing follows. After an error `out` may have any text.
+pub(crate) fn write_end(out: &mut String, count: usize) -> Result<(), AllocError>
+    ensures line { OnOk result (string_bytes out.new ≡ string_bytes out.old ++ end_line count) }
+{
+    writeln!(out, "E|{count}")
+}
+
+/// `M|` and the last place: more follow. After an error `out` may have any text.
+pub(crate) fn write_more(out: &mut String, peer: &Peer, prefix: &Prefix) -> Result<(), AllocError>
+    ensures line { OnOk result (string_bytes out.new ≡ string_bytes out.old ++ more_line peer.now prefix.now) }
+{
+    out.push_str("M|")?;
+    write_place(out, peer, prefix)?;
+    out.push('\n')
+}
+
 /// `E|ROWS`, or if more rows follow, `M` and the place of the last one. After an error `out` may have any text.
 pub fn write_ending(out: &mut String, answer: &RowsAnswer) -> Result<(), AllocError>
     ensures line { OnOk result (string_bytes out.new ≡ string_bytes out.old ++ ending answer.now.rows.items answer.now.more (slice_get answer.now.rows.items (length answer.now.rows.items - 1))) }
 {
     match answer.rows.last() {
-        Some(row) if answer.more => {
-            out.push_str("M|")?;
-            write_place(out, &row.peer, &row.prefix)?;
-            out.push('\n')
-        }
-        _ => {
-            let rows = answer.rows.len();
-            writeln!(out, "E|{rows}")
-        }
+        Some(row) if answer.more => write_more(out, &row.peer, &row.prefix),
+        _ => write_end(out, answer.rows.len()),
     }
 }
 

@@ -4,7 +4,7 @@ ghost use Rattle.std.specs.Prelude.{◌≡◌, IfOk, false, codes};
 ghost use Rattle.clap.specs.Simple.{app_of};
 ghost use Rattle.clap.specs.Walk.{rule_of};
 ghost use Rattle.clap.specs.declared.builder.command.Command.TheViews.{out-Command};
-ghost use Rattle.service.specs.CommandLines.{listen_rule, files_rule, words_rule, word_rule, number_rule, number_or_rule, of_folder, of_archive, creation_of_rings, creation, loading_of_batches, loading_to_mark, loading, question, serving_by_workers, serving_on_port, serving, checking, examining, flag_rule, text_rule, text_or_rule, peer_rule, of_moment, dumping, listing, comparing, finding_in_scope, finding, bare_program, archive_program, program};
+ghost use Rattle.service.specs.CommandLines.{listen_rule, files_rule, words_rule, word_rule, number_rule, number_or_rule, of_folder, of_archive, creation_of_rings, creation, loading_of_batches, loading_to_mark, loading, question, serving_by_workers, serving_on_port, serving, checking, examining, flag_rule, text_rule, text_or_rule, peer_rule, of_source, of_moment, dumping, listing, comparing, finding_in_scope, finding, bare_program, archive_program, program};
 
 use crate::help;
 use clap::builder::ValueParser;
@@ -345,7 +345,22 @@ fn examining<'a>(alloc: Global) -> Result<Command<'a>, AllocError>
     of_archive(alloc, "info", about, help::INFO)?.arg(flag(alloc, "json", json))
 }
 
-/// `NAME DIR [--wait SECONDS] [--at T]`, of the table of one moment
+/// `NAME DIR [--wait SECONDS] [--connect]`, of an archive that is there, or is served
+fn of_source<'a>(
+    alloc: Global,
+    name: &'a str,
+    about: &'a str,
+    help: &'a str,
+) -> Result<Command<'a>, AllocError>
+    ensures app { IfOk result (λ c. app_of c ≡ of_source name.entry.now) }
+    ensures own { IfOk result (λ c. (out-Command c).has_globals ≡ false) }
+{
+    let connect =
+        "Asks a server: DIR is the ADDRESS:PORT of its --listen, and --wait has no effect";
+    of_archive(alloc, name, about, help)?.arg(flag(alloc, "connect", connect))
+}
+
+/// `NAME DIR [--wait SECONDS] [--connect] [--at T]`, of the table of one moment
 fn of_moment<'a>(
     alloc: Global,
     name: &'a str,
@@ -356,10 +371,10 @@ fn of_moment<'a>(
     ensures own { IfOk result (λ c. (out-Command c).has_globals ≡ false) }
 {
     let at = "The moment of the table; without it the last that is settled";
-    of_archive(alloc, name, about, help)?.arg(text(alloc, "at", "T", at))
+    of_source(alloc, name, about, help)?.arg(text(alloc, "at", "T", at))
 }
 
-/// `dump DIR [--wait SECONDS] [--at T] [--peer COLLECTOR ADDRESS AS] [--format FORM]`
+/// `dump DIR [--wait SECONDS] [--connect] [--at T] [--peer COLLECTOR ADDRESS AS] [--format FORM]`
 fn dumping<'a>(alloc: Global) -> Result<Command<'a>, AllocError>
     ensures app { IfOk result (λ c. app_of c ≡ dumping) }
     ensures own { IfOk result (λ c. (out-Command c).has_globals ≡ false) }
@@ -369,7 +384,7 @@ fn dumping<'a>(alloc: Global) -> Result<Command<'a>, AllocError>
         .arg(format(alloc))
 }
 
-/// `peers DIR [--wait SECONDS] [--at T]`
+/// `peers DIR [--wait SECONDS] [--connect] [--at T]`
 fn listing<'a>(alloc: Global) -> Result<Command<'a>, AllocError>
     ensures app { IfOk result (λ c. app_of c ≡ listing) }
     ensures own { IfOk result (λ c. (out-Command c).has_globals ≡ false) }
@@ -378,12 +393,12 @@ fn listing<'a>(alloc: Global) -> Result<Command<'a>, AllocError>
     of_moment(alloc, "peers", about, help::PEERS)
 }
 
-/// `diff DIR [--wait SECONDS] FROM TO [--within PREFIX]`
+/// `diff DIR [--wait SECONDS] [--connect] FROM TO [--within PREFIX]`
 fn comparing<'a>(alloc: Global) -> Result<Command<'a>, AllocError>
     ensures app { IfOk result (λ c. app_of c ≡ comparing) }
     ensures own { IfOk result (λ c. (out-Command c).has_globals ≡ false) }
 {
-    of_archive(
+    of_source(
         alloc,
         "diff",
         "Compares the tables of two moments",
@@ -394,13 +409,13 @@ fn comparing<'a>(alloc: Global) -> Result<Command<'a>, AllocError>
     .arg(text(alloc, "within", "PREFIX", "Only prefixes inside this one"))
 }
 
-/// `find DIR [--wait SECONDS] PREFIX [--exact] [--more] [--less]`
+/// `find DIR [--wait SECONDS] [--connect] PREFIX [--exact] [--more] [--less]`
 fn finding_in_scope<'a>(alloc: Global) -> Result<Command<'a>, AllocError>
     ensures app { IfOk result (λ c. app_of c ≡ finding_in_scope) }
     ensures own { IfOk result (λ c. (out-Command c).has_globals ≡ false) }
 {
     let about = "Finds what happened to a prefix, or which routes it has";
-    of_archive(alloc, "find", about, help::FIND)?
+    of_source(alloc, "find", about, help::FIND)?
         .arg(word(alloc, "PREFIX", "The prefix, as 10.0.0.0/8"))?
         .arg(flag(alloc, "exact", "This prefix alone, as without an option"))?
         .arg(flag(alloc, "more", "All prefixes inside it, too"))?

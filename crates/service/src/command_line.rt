@@ -8,9 +8,9 @@ ghost use Rattle.clap.specs.Simple.{subcommand_rows_of};
 ghost use Rattle.clap.specs.Walk.{Row, rows_of, first_of, one_of, all_of};
 ghost use Rattle.clap.specs.Values.{kind_of};
 ghost use Rattle.clap.specs.declared.error.Error.{Error};
-ghost use Rattle.service.specs.CommandLines.{program, spaced, word_in, IsMarkIf, IsNoMark, IsNumber, IsThere, IsThereOr, IsCreation, IsLoading, IsQuestion, IsServing, IsChecking, IsExamining, IsDumping, IsListing, IsComparing, IsFinding, IsInvocation, HasBadMark, HasBadListen, HasBadHttp, HasNoHttp};
+ghost use Rattle.service.specs.CommandLines.{program, spaced, word_in, IsMarkIf, IsNoMark, IsNumber, IsThere, IsThereOr, IsCreation, IsLoading, IsQuestion, IsServing, IsChecking, IsExamining, IsTarget, IsDumping, IsListing, IsComparing, IsFinding, IsInvocation, HasBadMark, HasBadListen, HasBadHttp, HasBadConnect, HasNoHttp, HasNoServer};
 ghost use Rattle.service.specs.Listening.{IsNoListenText};
-ghost use Rattle.service.specs.inner.Naming.{AsksFor, IsCommand, NamesNoHttp, NamesNoListen, NamesNoMark};
+ghost use Rattle.service.specs.inner.Naming.{AsksFor, IsCommand, NamesNoHttp, NamesNoListen, NamesNoMark, NamesNoServer};
 
 use crate::arguments::{
     LAST_COLLECTOR, MAX_BATCH, MAX_COLLECTORS, MAX_IDLE, MAX_RING, MAX_SIZE, MAX_WAIT, MAX_WORKERS,
@@ -18,7 +18,7 @@ use crate::arguments::{
 };
 use crate::invocation::{
     Checking, CommandError, Comparing, Creation, Dumping, Examining, Finding, Invocation, Listing,
-    Loading, Question, Serving,
+    Loading, Question, Serving, Target,
 };
 use crate::listening::{read_http, read_listen};
 use clap::ArgMatches;
@@ -219,51 +219,74 @@ fn examining_of<'a>(matches: &ArgMatches<'a>) -> Examining<'a>
     }
 }
 
-/// What the arguments of `dump` ask for.
-fn dumping_of<'a>(alloc: Global, matches: &ArgMatches<'a>) -> Result<Dumping<'a>, AllocError>
+/// Where the archive is that the arguments name: in a folder, or, with `--connect`, at the address and port of a server.
+fn target_of<'a>(matches: &ArgMatches<'a>) -> Result<Target<'a>, BadText>
+    ensures found { IfOk result (IsTarget (rows_of (found_of matches.now))) }
+    ensures none { OnErr result (HasNoServer (rows_of (found_of matches.now))) }
+{
+    let word = word_of(matches, "DIR");
+    if !is_there(matches, "connect") {
+        return Ok(Target::Folder(word));
+    }
+    let Ok(place) = read_listen(word) else {
+        return Err(BadText);
+    };
+    Ok(Target::Server(place))
+}
+
+/// What the arguments of `dump` ask for, of this archive.
+fn dumping_of<'a>(
+    alloc: Global,
+    matches: &ArgMatches<'a>,
+    target: Target<'a>,
+) -> Result<Dumping<'a>, AllocError>
+    requires target { IsTarget (rows_of (found_of matches.now)) target }
     ensures found { IfOk result (IsDumping (rows_of (found_of matches.now))) }
 {
     let peer = texts_of(alloc, matches, "peer")?;
     Ok(Dumping {
         wait: number_of(matches, "wait", 0, MAX_WAIT),
-        folder: word_of(matches, "DIR"),
+        target,
         at: text_of(matches, "at"),
         peer,
         format: word_of(matches, "format"),
     })
 }
 
-/// What the arguments of `peers` ask for.
-fn listing_of<'a>(matches: &ArgMatches<'a>) -> Listing<'a>
+/// What the arguments of `peers` ask for, of this archive.
+fn listing_of<'a>(matches: &ArgMatches<'a>, target: Target<'a>) -> Listing<'a>
+    requires target { IsTarget (rows_of (found_of matches.now)) target }
     ensures found { IsListing (rows_of (found_of matches.now)) result }
 {
     Listing {
         wait: number_of(matches, "wait", 0, MAX_WAIT),
-        folder: word_of(matches, "DIR"),
+        target,
         at: text_of(matches, "at"),
     }
 }
 
-/// What the arguments of `diff` ask for.
-fn comparing_of<'a>(matches: &ArgMatches<'a>) -> Comparing<'a>
+/// What the arguments of `diff` ask for, of this archive.
+fn comparing_of<'a>(matches: &ArgMatches<'a>, target: Target<'a>) -> Comparing<'a>
+    requires target { IsTarget (rows_of (found_of matches.now)) target }
     ensures found { IsComparing (rows_of (found_of matches.now)) result }
 {
     Comparing {
         wait: number_of(matches, "wait", 0, MAX_WAIT),
-        folder: word_of(matches, "DIR"),
+        target,
         from: word_of(matches, "FROM"),
         to: word_of(matches, "TO"),
         within: text_of(matches, "within"),
     }
 }
 
-/// What the arguments of `find` ask for.
-fn finding_of<'a>(matches: &ArgMatches<'a>) -> Finding<'a>
+/// What the arguments of `find` ask for, of this archive.
+fn finding_of<'a>(matches: &ArgMatches<'a>, target: Target<'a>) -> Finding<'a>
+    requires target { IsTarget (rows_of (found_of matches.now)) target }
     ensures found { IsFinding (rows_of (found_of matches.now)) result }
 {
     Finding {
         wait: number_of(matches, "wait", 0, MAX_WAIT),
-        folder: word_of(matches, "DIR"),
+        target,
         prefix: word_of(matches, "PREFIX"),
         exact: is_there(matches, "exact"),
         more: is_there(matches, "more"),
@@ -286,6 +309,7 @@ fn invocation_of<'a>(
     ensures bad_mark { result ≡ Err CommandError.BadMark → NamesNoMark (subcommand_rows_of matches.now) }
     ensures bad_listen { result ≡ Err CommandError.BadListen → NamesNoListen (subcommand_rows_of matches.now) }
     ensures bad_http { result ≡ Err CommandError.BadHttp → NamesNoHttp (subcommand_rows_of matches.now) }
+    ensures bad_connect { result ≡ Err CommandError.BadConnect → NamesNoServer (subcommand_rows_of matches.now) }
 {
     if let Some(matches) = matches.subcommand_matches("create") {
         return Ok(Invocation::Create(creation_of(matches)));
@@ -319,21 +343,33 @@ fn invocation_of<'a>(
         return Ok(Invocation::Info(examining_of(matches)));
     }
     if let Some(matches) = matches.subcommand_matches("dump") {
-        return match dumping_of(alloc, matches) {
-            Ok(dumping) => Ok(Invocation::Dump(dumping)),
-            Err(_) => Err(CommandError::OutOfMemory),
+        return match target_of(matches) {
+            Ok(target) => match dumping_of(alloc, matches, target) {
+                Ok(dumping) => Ok(Invocation::Dump(dumping)),
+                Err(_) => Err(CommandError::OutOfMemory),
+            },
+            Err(BadText) => Err(CommandError::BadConnect),
         };
     }
     if let Some(matches) = matches.subcommand_matches("peers") {
-        return Ok(Invocation::Peers(listing_of(matches)));
+        return match target_of(matches) {
+            Ok(target) => Ok(Invocation::Peers(listing_of(matches, target))),
+            Err(BadText) => Err(CommandError::BadConnect),
+        };
     }
     if let Some(matches) = matches.subcommand_matches("diff") {
-        return Ok(Invocation::Diff(comparing_of(matches)));
+        return match target_of(matches) {
+            Ok(target) => Ok(Invocation::Diff(comparing_of(matches, target))),
+            Err(BadText) => Err(CommandError::BadConnect),
+        };
     }
     let Some(matches) = matches.subcommand_matches("find") else {
         unreachable!()
     };
-    Ok(Invocation::Find(finding_of(matches)))
+    match target_of(matches) {
+        Ok(target) => Ok(Invocation::Find(finding_of(matches, target))),
+        Err(BadText) => Err(CommandError::BadConnect),
+    }
 }
 
 /// What an error of `clap` is.
@@ -355,16 +391,16 @@ fn usage(error: clap::Error) -> CommandError
 /// - `rha serve DIR --listen ADDRESS:PORT --workers N [--read-only] [--close-on-http] [--admin PATH] [--http ADDRESS:PORT] [--idle SECONDS]`
 /// - `rha check DIR`
 /// - `rha info DIR [--json]`
-/// - `rha dump DIR [--at T] [--peer COLLECTOR ADDRESS AS] [--format FORM]`
-/// - `rha peers DIR [--at T]`
-/// - `rha diff DIR FROM TO [--within PREFIX]`
-/// - `rha find DIR PREFIX [--exact] [--more] [--less] [--since A] [--until B] [--origin AS] [--via AS]`
+/// - `rha dump DIR [--connect] [--at T] [--peer COLLECTOR ADDRESS AS] [--format FORM]`
+/// - `rha peers DIR [--connect] [--at T]`
+/// - `rha diff DIR [--connect] FROM TO [--within PREFIX]`
+/// - `rha find DIR [--connect] PREFIX [--exact] [--more] [--less] [--since A] [--until B] [--origin AS] [--via AS]`
 ///
 /// Each but `create` takes `--wait SECONDS` too, 0 to 1000000; in `ask` before the first WORD. The default is 0.
 ///
 /// `clap` reads the words, and each number within its limits; an option that isn't there has its default: 1 collector, a ring of 4096
 /// pages, 10000000 pages, 100000000 blocks, batches of 1000, 300 idle seconds. `--read-only` implies `--close-on-http`. Then M is read as a mark, ADDRESS as an IPv4 address and PORT as a number
-/// of at most 65535, and the WORDs are joined to a line with one space between two; the texts of `dump`, `peers`, `diff` and
+/// of at most 65535, and so is DIR with `--connect`; the WORDs are joined to a line with one space between two; the texts of `dump`, `peers`, `diff` and
 /// `find` aren't read here. All arguments after the first WORD are WORDs too, even
 /// if they look like options.
 ///
@@ -372,13 +408,14 @@ fn usage(error: clap::Error) -> CommandError
 ///
 /// `Usage` if `clap` doesn't accept the words, or they ask for help. `BadMark` if M isn't a mark,
 /// `BadListen` if ADDRESS:PORT isn't an address and port, `BadHttp` if that of `--http` isn't, or is that of `--listen` (and the
-/// port isn't 0), and `OutOfMemory` if an allocation failed.
+/// port isn't 0), `BadConnect` if DIR isn't with `--connect`, and `OutOfMemory` if an allocation failed.
 pub fn command<'a, S: AsStr>(alloc: Global, words: &'a [S]) -> Result<Invocation<'a>, CommandError>
     ensures found { IfOk result (IsInvocation (map S.text words.now)) }
     ensures usage { (e : Error) → result ≡ Err (CommandError.Usage e) → IsAmong (kind_of e) (fault_of program (map S.text words.now)) }
     ensures bad_mark { result ≡ Err CommandError.BadMark → HasBadMark (map S.text words.now) }
     ensures bad_listen { result ≡ Err CommandError.BadListen → HasBadListen (map S.text words.now) }
     ensures bad_http { result ≡ Err CommandError.BadHttp → HasBadHttp (map S.text words.now) }
+    ensures bad_connect { result ≡ Err CommandError.BadConnect → HasBadConnect (map S.text words.now) }
 {
     let Ok(program) = program(alloc) else {
         return Err(CommandError::OutOfMemory);

@@ -3,6 +3,7 @@
 ghost use Rattle.std.specs.Prelude.{◌≡◌, ◌++◌, OnOk, string_bytes};
 ghost use Rattle.service.specs.AnswerLines.{timed_text, change_line, events_ending, events_text};
 
+use crate::answer_lines::write_end;
 use route_meaning::EventsAnswer;
 use route_model::{Change, Moment};
 use route_text::{write_moment, write_route};
@@ -52,7 +53,7 @@ pub fn write_events_ending(
         let next = u128::from(skip) + count as u128;
         writeln!(out, "M|{next}")
     } else {
-        writeln!(out, "E|{count}")
+        write_end(out, count)
     }
 }
 

@@ -69,14 +69,15 @@ pub(crate) const ASK: &str = "The words are one request line:
   at T peer PEER                   all routes of the peer
   at T all                         all routes of all peers
   history FROM TO PEER PREFIX      what the peer announced and withdrew, FROM and TO included
+  changed FROM TO LOW HIGH         which prefixes from LOW to HIGH each peer announced or withdrew then
   watermark                        the settled watermark
   durable COLLECTOR                how many records of the collector are admitted
-The last four of `at` may end with `after PEER PREFIX`, which goes on after that row, and `history` with
-`skip N`, which leaves the first N events out: an answer has 256 rows or events at most. With --all each next line
-is asked, and the answer has all rows or events and one end, `E|COUNT`. With --human moments are dates, and
-communities are texts (65001:7); programs read the lines without it.
-PEER is COLLECTOR ADDRESS AS, and PREFIX is ADDRESS/LENGTH. T, FROM and TO are moments: seconds since 1970,
-or timestamps as 2024-01-01T00:00:00Z. T and TO have to be below the settled watermark.
+The last four of `at`, and `changed`, may end with `after PEER PREFIX`, which goes on after that row or place, and
+`history` with `skip N`, which leaves the first N events out: an answer has 256 of them at most. With --all each next
+line is asked, and the answer has all and one end, `E|COUNT`. With --human moments are dates, and communities are
+texts (65001:7); programs read the lines without it.
+PEER is COLLECTOR ADDRESS AS; PREFIX, LOW and HIGH are ADDRESS/LENGTH. T, FROM and TO are moments: seconds since
+1970, or timestamps as 2024-01-01T00:00:00Z. T and TO have to be below the settled watermark.
 
 Examples:
   rha ask a at 2024-01-01T00:10:00Z prefix 10.0.0.0/8
@@ -90,8 +91,8 @@ isn't accepted.";
 pub(crate) const SERVE: &str =
     "Prints `listening ADDRESS:PORT` as soon as connections are accepted, and with --http after it ` http ADDRESS:PORT`;
 the system chooses a free port if PORT is 0. No other command can open the archive meanwhile: what is to be
-loaded is fed through a connection. Each of N workers serves one connection to its end, and further ones wait: a
-client that stays connected keeps a worker.
+loaded is fed through a connection, and dump, peers, diff and find ask with --connect ADDRESS:PORT. Each of N workers
+serves one connection to its end, and further ones wait: a client that stays connected keeps a worker.
 
 A connection sends request lines (`rha ask --help`), of which `watermark` and `durable` wait for nobody, and:
   mark COLLECTOR M                 raises the collector's mark, applies what may be applied, and replies S|SETTLED
@@ -157,6 +158,7 @@ T has to be below the settled watermark; without --at it is the last moment that
 Examples:
   rha dump a --at 2024-01-01T00:10:00Z --format bgpdump
   rha dump a --peer 0 192.0.2.1 64496
+  rha dump --connect 127.0.0.1:17900 --format json
 
 Exit status: 0 if the whole table is written; 1 if something was refused or couldn't be written (on standard
 error as `rha: NUMBER NAME`, or the last line is `X|NUMBER|NAME`); 2 if the command line isn't accepted.";
@@ -204,6 +206,7 @@ settled watermark; without --until it is the last moment that is.
 Examples:
   rha find a 10.0.0.0/8 --more --origin 64496
   rha find a 10.0.0.0/8 --since 2024-01-01T00:00:00Z --until 2024-01-01T00:10:00Z
+  rha find --connect 127.0.0.1:17900 10.0.0.0/8 --more
 
 Exit status: 0 if all is printed; 1 if something was refused or couldn't be written (on standard error as
 `rha: NUMBER NAME`, or the last line is `X|NUMBER|NAME`); 2 if the command line isn't accepted.";

@@ -62,13 +62,22 @@ pub struct Question<'a> {
     pub line: String,
 }
 
+/// Where the archive is that a command reads.
+#[derive(Clone, Copy, Debug, PartialEq, Eq)]
+pub enum Target<'a> {
+    /// In the files of this folder.
+    Folder(&'a str),
+    /// At a server, at this address and port.
+    Server(SocketAddrV4),
+}
+
 /// What `dump` is given: texts, as on the command line.
 #[derive(Debug, Drop)]
 pub struct Dumping<'a> {
-    /// How many seconds to wait for the archive while it is in use, 0 to 1000000.
+    /// How many seconds to wait for the archive of a folder while it is in use, 0 to 1000000.
     pub wait: u64,
-    /// The folder of the archive.
-    pub folder: &'a str,
+    /// Where the archive is.
+    pub target: Target<'a>,
     /// The moment of the table.
     pub at: Option<&'a str>,
     /// The peer whose table it is, by three words; none for the table of all peers.
@@ -80,10 +89,10 @@ pub struct Dumping<'a> {
 /// What `peers` is given.
 #[derive(Debug, Drop)]
 pub struct Listing<'a> {
-    /// How many seconds to wait for the archive while it is in use, 0 to 1000000.
+    /// How many seconds to wait for the archive of a folder while it is in use, 0 to 1000000.
     pub wait: u64,
-    /// The folder of the archive.
-    pub folder: &'a str,
+    /// Where the archive is.
+    pub target: Target<'a>,
     /// The text of the moment.
     pub at: Option<&'a str>,
 }
@@ -91,10 +100,10 @@ pub struct Listing<'a> {
 /// What `diff` is given: texts, as on the command line.
 #[derive(Debug, Drop)]
 pub struct Comparing<'a> {
-    /// How many seconds to wait for the archive while it is in use, 0 to 1000000.
+    /// How many seconds to wait for the archive of a folder while it is in use, 0 to 1000000.
     pub wait: u64,
-    /// The folder of the archive.
-    pub folder: &'a str,
+    /// Where the archive is.
+    pub target: Target<'a>,
     /// The first moment.
     pub from: &'a str,
     /// The second moment.
@@ -106,10 +115,10 @@ pub struct Comparing<'a> {
 /// What `find` is given: texts, as on the command line.
 #[derive(Debug, Drop)]
 pub struct Finding<'a> {
-    /// How many seconds to wait for the archive while it is in use, 0 to 1000000.
+    /// How many seconds to wait for the archive of a folder while it is in use, 0 to 1000000.
     pub wait: u64,
-    /// The folder of the archive.
-    pub folder: &'a str,
+    /// Where the archive is.
+    pub target: Target<'a>,
     /// The prefix.
     pub prefix: &'a str,
     /// Whether the prefix alone is meant.
@@ -211,6 +220,9 @@ pub enum CommandError {
     /// The text after `--http` isn't an IPv4 address and port, or has those of `--listen`.
     #[error("the text after --http is that of no address and port, or of those of --listen")]
     BadHttp,
+    /// With `--connect` the first word isn't an IPv4 address and port.
+    #[error("the first word is that of no address and port")]
+    BadConnect,
     /// An allocation failed.
     #[error("out of memory")]
     OutOfMemory,
@@ -225,6 +237,7 @@ impl CommandError {
         ensures bad_mark { self.now ≡ CommandError.BadMark → result ≡ 1 }
         ensures bad_listen { self.now ≡ CommandError.BadListen → result ≡ 1 }
         ensures bad_http { self.now ≡ CommandError.BadHttp → result ≡ 1 }
+        ensures bad_connect { self.now ≡ CommandError.BadConnect → result ≡ 1 }
         ensures memory { self.now ≡ CommandError.OutOfMemory → result ≡ 1 }
     {
         match self {
@@ -233,6 +246,7 @@ impl CommandError {
             CommandError::BadMark
             | CommandError::BadListen
             | CommandError::BadHttp
+            | CommandError::BadConnect
             | CommandError::OutOfMemory => 1,
         }
     }

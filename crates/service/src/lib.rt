@@ -4,12 +4,12 @@
 //!     what comes     what is done with it                                        lines that are written
 //!     a feed         octets --> records --> admissions --> batches --> admit     B and L for each batch, X for a refused record, F at the end
 //!     files          a feed for each; then the mark, applying, flushing          those of each feed, and S
-//!     a request      words --> question --> answer                               R, or A, W and D; then E, or M if more follow; or S, N, X
+//!     a request      words --> question --> answer                               R, or A, W and D, or C; then E, or M if more follow; or S, N, X
 //!     a check        the archive reads all that it has                           ok
 //!     arguments      clap's reading --> an `Invocation`                          none, or usage, help, version
 //!
 //! Such a line is a letter, or `ok`, and fields with `|` before each, and ends in LF; X has the number and the name of a refusal. Times are
-//! written as seconds since 1970. An answer has 256 rows or events at most; M has what the next question goes on after.
+//! written as seconds since 1970. An answer has 256 rows, events or places at most; M has what the next question goes on after.
 //!
 //! A batch is offered once it has the most admissions that are asked for, before it would have more octets than the archive takes (each
 //! admission counts its encoding and 4 octets), and at the end of the feed. If the collector's ring is too full for it, what may be applied
@@ -22,8 +22,10 @@
 //! and written, else 1, or 2 if clap refuses the words.
 //!
 //!     intake, feeding, making_room, resuming, loading         feeds and loads; doubts: what holds a strict load back
-//!     request, request_words, rows_request, events_request    a line is read; replying and asking answer it
-//!     feed_lines, answer_lines, event_lines, refusal          lines that are written; faults: each error's place among refusals
+//!     request, request_words, rows_request, events_request,
+//!     changed_request                                         a line is read; replying and asking answer it
+//!     feed_lines, answer_lines, event_lines, changed_lines,
+//!     refusal                                                 lines that are written; faults: each error's place among refusals
 //!     arguments, command_line, invocation, listening          the command line; running, checking: once an archive is open
 //!     reporting                                               lines of standard error
 #![tactic(auto)]
@@ -31,6 +33,8 @@
 mod answer_lines;
 mod arguments;
 mod asking;
+mod changed_lines;
+mod changed_request;
 mod checking;
 mod command_line;
 mod doubts;
@@ -64,6 +68,7 @@ mod status;
 pub use answer_lines::{write_answer, write_ending, write_place, write_row};
 pub use arguments::VERSION;
 pub use asking::ask;
+pub use changed_lines::{write_changed, write_spots};
 pub use checking::check;
 pub use command_line::command;
 pub use doubts::{DAY, FeedDoubt, doubts_of, is_far};
@@ -74,7 +79,7 @@ pub use feeding::{report_batch, report_refused};
 pub use intake::{End, cut_of, feed, report_end, report_stop};
 pub use invocation::{
     Checking, CommandError, Comparing, Creation, Dumping, Examining, Finding, Invocation, Listing,
-    Loading, Question, Serving,
+    Loading, Question, Serving, Target,
 };
 pub use laws::{batches_share_a_feed, resumed_feeds_drop_the_first};
 pub use limits::BatchLimits;
@@ -84,7 +89,7 @@ pub use output::{Input, Output, read_through};
 pub use refusal::{
     Refusal, write_error, write_outside, write_reason, write_refusal, write_refused_record,
 };
-pub use replying::{answer_text, reply, skip_of};
+pub use replying::{answer_text, changed_text, reply, skip_of};
 pub use report::{FileLoad, LoadReport};
 pub use reporting::{
     report_lost, report_out_of_memory, report_outside, report_refusal, report_usage, report_with,

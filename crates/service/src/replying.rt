@@ -2,17 +2,20 @@
 
 ghost use Rattle.std.specs.Prelude.{◌≡◌, ◌++◌, OnOk, IfOk, IfErr, IfSome, IfNone, string_bytes};
 ghost use Rattle.route_meaning.specs.History.{History};
+ghost use Rattle.interleaving_core.specs.Does.{last_moment};
 ghost use Rattle.interleaving_core.specs.Steps.{IsCollector};
-ghost use Rattle.service.specs.AnswerLines.{skip_of, reply_text, number_line};
-ghost use Rattle.service.specs.Replies.{IsAnswerText, IsDurable, IsCountText, IsReplyTo, IsReplyText, IsRefused};
+ghost use Rattle.service.specs.AnswerLines.{skip_of, reply_text, changed_text, number_line};
+ghost use Rattle.service.specs.Replies.{IsAnswerText, IsChangedText, IsDurable, IsCountText, IsReplyTo, IsReplyText, IsRefused};
 ghost use Rattle.service.specs.inner.Asking.{of_ask, IsUnanswered, IsTrouble, IsUncounted, IsUnreplied};
 
 use crate::answer_lines::write_answer;
+use crate::changed_lines::write_changed;
 use crate::event_lines::write_events;
 use crate::faults::Unanswered;
 use crate::request::{Request, RequestError, read_request};
 use archive_calls::{AskError, RouteArchive, Trouble};
 use interleaving_core::{Answer, Query};
+use route_meaning::{ChangedAnswer, ChangedQuestion};
 use route_text::write_number;
 use std::alloc::{AllocError, Global};
 
@@ -41,6 +44,15 @@ pub fn answer_text(alloc: Global, skip: u64, answer: &Answer) -> Result<String, 
             Ok(text)
         }
     }
+}
+
+/// The lines of the places that changed. Only an allocation can fail.
+pub fn changed_text(alloc: Global, answer: &ChangedAnswer) -> Result<String, AllocError>
+    ensures text { IfOk result (λ text. string_bytes text ≡ changed_text answer.now) }
+{
+    let mut text = String::new(alloc);
+    write_changed(&mut text, answer)?;
+    Ok(text)
 }
 
 /// Writes a letter, a bar, the number and LF.
@@ -79,7 +91,7 @@ fn answer_question<A: RouteArchive>(
     query: Query,
 ) -> Result<String, Unanswered>
     ensures answered { (h : History) → A.represents archive.old h → IfOk result (λ text. IsAnswerText h query (string_bytes text)) }
-    ensures refused { (h : History) → A.represents archive.old h → IfErr result (IsUnanswered h query) }
+    ensures refused { (h : History) → A.represents archive.old h → IfErr result (IsUnanswered h (last_moment query)) }
     ensures kept { (h : History) → A.represents archive.old h → A.represents archive.new h }
 {
     let skip = skip_of(&query);
@@ -88,6 +100,26 @@ fn answer_question<A: RouteArchive>(
         Err(refusal) => return Err(unanswered(refusal)),
     };
     match answer_text(alloc, skip, &answer) {
+        Ok(text) => Ok(text),
+        Err(_) => Err(Unanswered::Trouble(Trouble::OutOfMemory)),
+    }
+}
+
+/// The lines of the places that changed.
+fn answer_changed<A: RouteArchive>(
+    alloc: Global,
+    archive: &mut A,
+    question: ChangedQuestion,
+) -> Result<String, Unanswered>
+    ensures answered { (h : History) → A.represents archive.old h → IfOk result (λ text. IsChangedText h question (string_bytes text)) }
+    ensures refused { (h : History) → A.represents archive.old h → IfErr result (IsUnanswered h question.to) }
+    ensures kept { (h : History) → A.represents archive.old h → A.represents archive.new h }
+{
+    let answer = match archive.changed(question) {
+        Ok(answer) => answer,
+        Err(refusal) => return Err(unanswered(refusal)),
+    };
+    match changed_text(alloc, &answer) {
         Ok(text) => Ok(text),
         Err(_) => Err(Unanswered::Trouble(Trouble::OutOfMemory)),
     }
@@ -145,6 +177,7 @@ fn reply_to<A: RouteArchive>(
 {
     match request {
         Request::Question(query) => answer_question(alloc, archive, query),
+        Request::Changed(question) => answer_changed(alloc, archive, question),
         Request::Watermark => report_watermark(alloc, archive),
         Request::Durable(collector) => report_count(alloc, archive, collector),
     }

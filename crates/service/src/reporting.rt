@@ -124,6 +124,7 @@ pub fn report_usage<R: Print + Eprint, E: Write>(
     ensures bad_mark { error.now ≡ CommandError.BadMark → (result ≡ 1) × Reports err.old err.new (error_line Refusal.BadText) }
     ensures bad_listen { error.now ≡ CommandError.BadListen → (result ≡ 1) × Reports err.old err.new (error_line Refusal.BadText) }
     ensures bad_http { error.now ≡ CommandError.BadHttp → (result ≡ 1) × Reports err.old err.new (error_line Refusal.BadText) }
+    ensures bad_connect { error.now ≡ CommandError.BadConnect → (result ≡ 1) × Reports err.old err.new (error_line Refusal.BadText) }
     ensures memory { error.now ≡ CommandError.OutOfMemory → (result ≡ 1) × Reports err.old err.new (error_line Refusal.OutOfMemory) }
 {
     match error {
@@ -135,9 +136,10 @@ pub fn report_usage<R: Print + Eprint, E: Write>(
                 }
             }
         }
-        CommandError::BadMark | CommandError::BadListen | CommandError::BadHttp => {
-            write_error(err, &Refusal::BadText)
-        }
+        CommandError::BadMark
+        | CommandError::BadListen
+        | CommandError::BadHttp
+        | CommandError::BadConnect => write_error(err, &Refusal::BadText),
         CommandError::OutOfMemory => write_error(err, &Refusal::OutOfMemory),
     }
     error.code()

@@ -4,10 +4,12 @@ ghost use Rattle.std.specs.Prelude.{◌≡◌, ◌∷◌, [], ℕ, codes, map, I
 ghost use Rattle.service.specs.Requests.{words_of, AreDurableWords, AreRequestWords, IsRequestLine};
 ghost use Rattle.service.specs.declared.request.Request.{Request};
 
+use crate::changed_request::read_changed;
 use crate::events_request::read_events;
 use crate::request_words::{LAST_COLLECTOR, read_only_number, words_after};
 use crate::rows_request::read_rows;
 use interleaving_core::Query;
+use route_meaning::ChangedQuestion;
 use route_text::BadText;
 use std::alloc::{AllocError, Global};
 use thiserror::Error;
@@ -17,6 +19,8 @@ use thiserror::Error;
 pub enum Request {
     /// A question of what is applied.
     Question(Query),
+    /// Which prefixes were announced or withdrawn in a span.
+    Changed(ChangedQuestion),
     /// The settled watermark.
     Watermark,
     /// How many records of the collector of this number are admitted.
@@ -77,6 +81,9 @@ fn read_words(words: &[&str]) -> Result<Request, BadText>
     if let Ok(question) = read_events(words) {
         return Ok(Request::Question(Query::Events(question)));
     }
+    if let Ok(question) = read_changed(words) {
+        return Ok(Request::Changed(question));
+    }
     if let Ok(()) = read_watermark(words) {
         return Ok(Request::Watermark);
     }
@@ -90,10 +97,11 @@ fn read_words(words: &[&str]) -> Result<Request, BadText>
 /// - `at T prefix PREFIX`, `at T cover ADDRESS`, `at T peer PEER` or `at T all`, and after it perhaps
 ///   `after PEER PREFIX`
 /// - `history FROM TO PEER PREFIX`, and after it perhaps `skip N`, N being at most 18,446,744,073,709,551,615
+/// - `changed FROM TO LOW HIGH`, and after it perhaps `after PEER PREFIX`
 /// - `watermark`
 /// - `durable COLLECTOR`
 ///
-/// where PEER is `COLLECTOR ADDRESS AS`, COLLECTOR is 0 to 15, and T, FROM and TO are moments: seconds or timestamps.
+/// where PEER is `COLLECTOR ADDRESS AS`, COLLECTOR is 0 to 15, LOW and HIGH are prefixes, and T, FROM and TO are moments: seconds or timestamps.
 pub fn read_request(alloc: Global, line: &str) -> Result<Request, RequestError>
     ensures found { IfOk result (IsRequestLine line.now) }
     ensures none { result ≡ Err RequestError.BadRequest → (request : Request) → IsRequestLine line.now request → ⊥ }

@@ -149,6 +149,7 @@ where
     A::Seen: Send,
     A::Errand: Send,
     A::Cursor: Send,
+    A::Walk: Send,
 {
     // A scope's `spawn` reports that a thread can't be made; `map_vec` would then run the jobs one after another.
     for job in jobs {
@@ -179,6 +180,7 @@ where
     A::Seen: Send,
     A::Errand: Send,
     A::Cursor: Send,
+    A::Walk: Send,
     requires { F.IsAlwaysCallable ready }
 {
     let (sender, receiver) = bounded(desk.alloc, QUEUE)?;
@@ -222,6 +224,7 @@ where
     A::Seen: Send,
     A::Errand: Send,
     A::Cursor: Send,
+    A::Walk: Send,
     requires { F.IsAlwaysCallable ready }
 {
     let ran = run_threads(desk, shared, pass, workers, ready);
@@ -280,6 +283,7 @@ where
     A::Seen: Send,
     A::Errand: Send,
     A::Cursor: Send,
+    A::Walk: Send,
     requires named { name_of opened ≡ N.table }
     requires some { 1 ≤ opened.collectors }
     requires disk { IsSome N.disk → N.disk ≡ Some (A.disk_of archive) }

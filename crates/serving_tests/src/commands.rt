@@ -40,7 +40,10 @@ fn is_asked(command: &Command, expected: Asked) -> bool {
         Asked::Feed(collector, limit) => *command == Command::Feed(collector, limit),
         Asked::Quit => *command == Command::Quit,
         Asked::Stop => *command == Command::Stop,
-        Asked::Question => matches!(command, Command::Request(Request::Question(_))),
+        Asked::Question => matches!(
+            command,
+            Command::Request(Request::Question(_) | Request::Changed(_))
+        ),
         Asked::Nothing => false,
     }
 }
@@ -55,7 +58,7 @@ fn is_read(alloc: Global, line: &[u8], expected: Asked) -> bool {
 }
 
 /// Lines, and what each asks.
-const LINES: [(&[u8], Asked); 38] = [
+const LINES: [(&[u8], Asked); 39] = [
     (b"at 1704067200 prefix 10.0.0.0/8", Asked::Question),
     (b"at 2024-01-01T00:00:00Z all", Asked::Question),
     (
@@ -64,6 +67,10 @@ const LINES: [(&[u8], Asked); 38] = [
     ),
     (
         b"history 0 1 0 192.0.2.1 65001 10.0.0.0/8 skip 256",
+        Asked::Question,
+    ),
+    (
+        b"changed 0 1 10.0.0.0/8 10.0.0.0/8 after 0 192.0.2.1 65001 10.0.0.0/8",
         Asked::Question,
     ),
     (b"at 1704067200 route 0 192.0.2.1 65001", Asked::Nothing),

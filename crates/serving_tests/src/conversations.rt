@@ -46,7 +46,7 @@ const CLOSES_HTTP: Port = Port {
 };
 
 /// Connections to one archive, one after another.
-const CONVERSATIONS: [Conversation; 12] = [
+const CONVERSATIONS: [Conversation; 13] = [
     Conversation {
         port: ALL,
         sent: b"watermark\ndurable 0\nat 0 all\nquit\nwatermark\n",
@@ -57,6 +57,12 @@ const CONVERSATIONS: [Conversation; 12] = [
         port: ALL,
         sent: b"mark 0 1704067201\r\nat 1704067200 all\r\nat 1704067201 all\r\nwatermark\r\n",
         reported: "S|1704067201\nE|0\nX|24|AboveWatermark|1704067201\nS|1704067201\n",
+        ending: Ending::Done,
+    },
+    Conversation {
+        port: READ_ONLY,
+        sent: b"changed 0 1704067200 10.0.0.0/8 10.0.0.0/8\nchanged 0 1704067201 10.0.0.0/8 10.0.0.0/8\n",
+        reported: "E|0\nX|24|AboveWatermark|1704067201\n",
         ending: Ending::Done,
     },
     Conversation {

@@ -176,11 +176,14 @@ static THREE: [Step; 15] = [
     Send(1, QUESTION),
     Send(
         1,
-        "durable 0\nat 1704067200 route 0 192.0.2.1 65001\nquit\n",
+        "durable 0\nat 1704067200 route 0 192.0.2.1 65001\nchanged 0 1704067200 10.0.0.0/8 10.0.0.0/8\nquit\n",
     ),
     Hear(1, "S|1704067201\n"),
     Hear(1, ANSWER),
-    HearLast(1, "N|1\nX|28|BadRequest\nok\n"),
+    HearLast(
+        1,
+        "N|1\nX|28|BadRequest\nC|0|192.0.2.1|65001|10.0.0.0/8\nE|1\nok\n",
+    ),
     Connect,
     Send(2, "stop\n"),
     HearLast(2, "ok\n"),

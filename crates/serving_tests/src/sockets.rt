@@ -50,6 +50,7 @@ where
     A::Seen: Send,
     A::Errand: Send,
     A::Cursor: Send,
+    A::Walk: Send,
     requires named { name_of opened ≡ B.table }
     requires some { 1 ≤ opened.collectors }
 {
@@ -111,6 +112,7 @@ where
     A::Seen: Send,
     A::Errand: Send,
     A::Cursor: Send,
+    A::Walk: Send,
     requires named { name_of opened ≡ B.table }
     requires some { 1 ≤ opened.collectors }
 {

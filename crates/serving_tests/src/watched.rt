@@ -1,10 +1,10 @@
 //! A server writes pages home while it serves.
 
-ghost use Rattle.disk_archive.specs.Cursors.{IsGathered, asks};
+ghost use Rattle.disk_archive.specs.Cursors.{IsGathered, IsWalked, asks};
 ghost use Rattle.disk_archive.specs.Descents.{IsErrandFor};
 ghost use Rattle.once_store.specs.Readers.{kept_blocks, reader_disk};
-ghost use Rattle.shared_archive.specs.Represented.{LocatedInPast, gathered_on};
-ghost use Rattle.shared_archive.specs.Held.{HeldFlushes, HeldReports, HoldsPast, disk_in, pages_in, right_held};
+ghost use Rattle.shared_archive.specs.Represented.{LocatedInPast, gathered_on, walked_on};
+ghost use Rattle.shared_archive.specs.Held.{HeldFlushes, HeldLookFails, HeldReports, HoldsPast, disk_in, pages_in, right_held};
 ghost use Rattle.shared_archive.specs.Reopened.{Reopens};
 ghost use Rattle.shared_archive.specs.Reported.{Misses};
 
@@ -24,6 +24,8 @@ use once_store::ShelfReader;
 use query_threads::{
     AdmitError, AskError, Flush, MarkError, NoGate, Step as Applying, Store, Trouble, Turn,
 };
+use route_history::ChangedCursor;
+use route_meaning::{ChangedAnswer, ChangedQuestion};
 use route_model::{Admission, Mark};
 use shared_archive::MemStore;
 use std::alloc::Global;
@@ -61,6 +63,8 @@ impl Store for WatchedStore {
 
     type Cursor = Cursor;
 
+    type Walk = ChangedCursor;
+
     ghost represents = { λ store p. HoldsPast store.inner.archive p };
 
     ghost pages = { λ store. pages_in store.inner.archive };
@@ -81,6 +85,10 @@ impl Store for WatchedStore {
 
     ghost gathered = { λ cursor h. IsGathered cursor h };
 
+    ghost walks = { λ walk. walk.question };
+
+    ghost walked = { λ walk h. IsWalked walk h };
+
     ghost fits = { λ errand cursor. IsErrandFor cursor errand };
 
     ghost located = { λ errand cursor disk p. LocatedInPast (⟦<MemOnce as OnceDisk>⟧.block_count disk) errand cursor p };
@@ -89,7 +97,11 @@ impl Store for WatchedStore {
 
     ghost stays = { λ cursor h g right begins below gathered. gathered_on cursor h g begins gathered };
 
+    ghost walk_stays = { λ walk h g right begins below walked. walked_on walk h g begins walked };
+
     ghost reports = { λ store trouble then. HeldReports store.inner.archive trouble then.inner.archive };
+
+    ghost fails = { λ store trouble then. HeldLookFails store.inner.archive trouble then.inner.archive };
 
     ghost reopens = { λ store returned then. Reopens store.inner.archive returned then.inner.archive };
 
@@ -162,6 +174,18 @@ impl Store for WatchedStore {
         cursor: &mut Cursor,
     ) -> Result<(), Trouble> {
         MemStore::finish(reader, seen, alloc, errand, cursor)
+    }
+
+    fn start_walk(alloc: Global, question: ChangedQuestion) -> ChangedCursor {
+        MemStore::start_walk(alloc, question)
+    }
+
+    fn look(
+        &mut self,
+        reader: &mut ShelfReader<MemOnce>,
+        walk: &mut ChangedCursor,
+    ) -> Result<Option<ChangedAnswer>, AskError> {
+        self.inner.look(reader, walk)
     }
 }
 

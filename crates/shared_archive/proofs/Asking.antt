@@ -1,6 +1,8 @@
 -- Questions over a past, and their errands.
 use Rattle.std.proofs.Common.{◌≡◌, ◌∙◌, ◌↔◌, ◌<◌, ◌≤◌, ℕ, Bool, false, List, Option, Result, Err, refl, sym, ap, subst}
+use Rattle.disk_models.specs.declared.erase.EraseDisk.{Ghosts as EraseGhosts}
 use Rattle.disk_models.specs.declared.once.OnceDisk.{Ghosts}
+use Rattle.disk_models.specs.Once.{OnceState}
 use Rattle.once_store.specs.declared.reader.ShelfReader.{ShelfReader}
 use Rattle.once_store.specs.Readers.{kept_blocks, reader_disk}
 use Rattle.route_meaning.specs.History.{History, settled}
@@ -8,17 +10,33 @@ use Rattle.interleaving_core.specs.declared.query.Query.{Query}
 use Rattle.interleaving_core.specs.Does.{last_moment}
 use Rattle.tsb_walk.specs.Inside.{KeepsInside}
 use Rattle.tsb_walk.specs.Knowing.{ReadsWell}
-use Rattle.board.specs.Past.{Past}
+use Rattle.board.specs.Past.{Past, Among}
 use Rattle.query_threads.specs.Looks.{AreSettled, AreTheSettled}
-use Rattle.query_threads.specs.Turns.{IsReported}
+use Rattle.query_threads.specs.Turns.{IsReported, IsReportedAt}
+use Rattle.disk_archive.specs.declared.archive.Archive.{Archive}
+use Rattle.disk_archive.specs.Archives.{once_of, once_state}
+use Rattle.disk_archive.specs.Reading.{ReadsFrom}
 use Rattle.disk_archive.specs.declared.ask_error.AskError.{AskError}
 use Rattle.disk_archive.specs.declared.ask_error.AskError.TheVariants as asks
 use Rattle.disk_archive.specs.declared.cursor.Cursor.{Cursor}
 use Rattle.disk_archive.specs.declared.errand.Errand.{Errand}
 use Rattle.disk_archive.specs.Descents.{Located, LocatedKnown}
-use Rattle.shared_archive.specs.Represented.{LocatedInPast}
+use Rattle.shared_archive.specs.Represented.{LocatedInPast, RepresentsPast}
 use Rattle.shared_archive.specs.inner.StoreCalls.{of_ask}
 use Rattle.shared_archive.proofs.Blocks.{block_of, entry_of}
+
+-- why what asks up to a moment isn't answered
+pub not_looked : {R : Type 0} (down : Bool) (h : History) (moment : ℕ) (e : AskError)
+    → ((mark : ℕ) → (◌≡◌ {A = Result R AskError} (Err e) (Err (asks.AboveWatermark mark))) ↔ ((down ≡ false) × (mark ≡ settled h) × (settled h ≤ moment)))
+    → ((page : ℕ) → e ≡ asks.BadNode page → ⊥)
+    → ((block : ℕ) → e ≡ asks.Damaged block → ⊥)
+    → IsReportedAt (of_ask e) h moment
+not_looked down h moment asks.NeedsRecovery above sound undamaged = tt
+not_looked down h moment (asks.AboveWatermark mark) above sound undamaged = let reported = (above mark).0 refl in (reported.1, reported.2)
+not_looked down h moment (asks.BadNode page) above sound undamaged = sound page refl
+not_looked down h moment (asks.Damaged block) above sound undamaged = undamaged block refl
+not_looked down h moment asks.Fault above sound undamaged = tt
+not_looked down h moment asks.OutOfMemory above sound undamaged = tt
 
 -- why a question isn't answered
 pub not_answered : {R : Type 0} (down : Bool) (h : History) (query : Query) (e : AskError)
@@ -26,12 +44,7 @@ pub not_answered : {R : Type 0} (down : Bool) (h : History) (query : Query) (e :
     → ((page : ℕ) → e ≡ asks.BadNode page → ⊥)
     → ((block : ℕ) → e ≡ asks.Damaged block → ⊥)
     → IsReported (of_ask e) h query
-not_answered down h query asks.NeedsRecovery above sound undamaged = tt
-not_answered down h query (asks.AboveWatermark mark) above sound undamaged = let reported = (above mark).0 refl in (reported.1, reported.2)
-not_answered down h query (asks.BadNode page) above sound undamaged = sound page refl
-not_answered down h query (asks.Damaged block) above sound undamaged = undamaged block refl
-not_answered down h query asks.Fault above sound undamaged = tt
-not_answered down h query asks.OutOfMemory above sound undamaged = tt
+not_answered {R} down h query e above sound undamaged = not_looked {R = R} down h (last_moment query) e above sound undamaged
 
 -- an errand that lies in settled blocks lies in those of the past, which are these
 pub located_past : (count : ℕ) (known : ℕ → Option (List ℕ)) (errand : Errand) (c : Cursor) (p : Past) → AreTheSettled count known p.blocks → Located count known errand c p.history → LocatedInPast count errand c p
@@ -64,3 +77,24 @@ module _ {O Pen Seen : Type 0} (device : Ghosts O Pen Seen) (reader : ShelfReade
   settled_still new seen' well inside disk known = λ n octets b.
       let k = entry_of (kept_blocks new) n octets b in
       (subst (λ (d : O). n < device.block_count d) disk (inside n octets k), ap (λ (f : ℕ → Option (List ℕ)). f n) (sym known) ∙ well.kept n octets k)
+
+-- ---- the reader of a walk
+
+module _ {E O Pen Seen : Type 0} {erase : EraseGhosts E} {once : Ghosts O Pen Seen} (a z : Archive E O Pen Seen erase once) (reader new : ShelfReader O Pen Seen once) (p : Past) (k : RepresentsPast a p) where
+  -- a reader of the past's blocks, on the archive's disk, is one of the archive
+  pub from_past : reader_disk reader ≡ once_of a → Among (kept_blocks reader) p.blocks → ReadsFrom a reader
+  from_past disk among = record { disk = disk; kept = λ n octets kept. ((k.blocks n octets).0 (among n octets (block_of (kept_blocks reader) n octets kept))).1 }
+
+  -- what such a reader keeps lies on its disk
+  inside : reader_disk reader ≡ once_of a → Among (kept_blocks reader) p.blocks → KeepsInside once reader
+  inside disk among n octets kept = subst (λ (d : O). n < once.block_count d) (sym disk) ((k.blocks n octets).0 (among n octets (block_of (kept_blocks reader) n octets kept))).0
+
+  -- what it keeps after a call that left the blocks as they were is of the past's blocks
+  pub among_then : once_of z ≡ once_of a → once_state z ≡ once_state a → reader_disk reader ≡ once_of a → Among (kept_blocks reader) p.blocks → ReadsFrom z new → (KeepsInside once reader → KeepsInside once new) → Among (kept_blocks new) p.blocks
+  among_then same state disk among from on_disk n octets b =
+      let kept = entry_of (kept_blocks new) n octets b in
+      (k.blocks n octets).1 (subst (λ (d : O). n < once.block_count d) (from.disk ∙ same) (on_disk (inside disk among) n octets kept), ap (λ (o : OnceState). o.settled n) (sym state) ∙ from.kept n octets kept)
+
+-- the same of one archive and one reader
+pub reads_from : {E O Pen Seen : Type 0} {erase : EraseGhosts E} {once : Ghosts O Pen Seen} (a : Archive E O Pen Seen erase once) (reader : ShelfReader O Pen Seen once) (p : Past) → RepresentsPast a p → reader_disk reader ≡ once_of a → Among (kept_blocks reader) p.blocks → ReadsFrom a reader
+reads_from a reader p k = from_past a a reader reader p k

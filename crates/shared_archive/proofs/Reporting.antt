@@ -22,8 +22,8 @@ use Rattle.disk_archive.specs.Archives.{GoesOn, Holds, IsHonest, erase_of, is_do
 use Rattle.disk_archive.specs.Blanks.{NoneBlank, unused_pages}
 use Rattle.disk_archive.specs.Checks.{HasPages, root_in}
 use Rattle.disk_archive.specs.Creations.{CountsOne}
-use Rattle.disk_archive.specs.Failures.{ReportsOne}
-use Rattle.shared_archive.specs.Reported.{Failed, Misses, StaysUp, Reports}
+use Rattle.disk_archive.specs.Failures.{ReportsFailure, ReportsOne}
+use Rattle.shared_archive.specs.Reported.{Failed, LookFails, Misses, Reports, StaysUp}
 use Rattle.shared_archive.specs.inner.StoreCalls.{of_admit, of_apply, of_ask, of_block, of_flush, of_mark}
 
 -- one of both disks counted a failure
@@ -117,6 +117,18 @@ module _ {E O Pen Seen : Type 0} {erase : EraseGhosts E} {once : OnceGhosts O Pe
   ask_reports (asks.Damaged block) down counted same sound undamaged = undamaged block refl
   ask_reports asks.Fault down counted same sound undamaged = inl (counted refl)
   ask_reports asks.OutOfMemory down counted same sound undamaged = stays_up asks.OutOfMemory asks.NeedsRecovery asks.Fault down (λ l r. absurd (turned l r same)) (λ i. cc) (λ i. cc)
+
+  pub look_fails : {R : Type 0} (disk : O) (e : AskError)
+      → ((◌≡◌ {A = Result R AskError} (Err e) (Err asks.NeedsRecovery)) ↔ (is_down a ≡ true))
+      → ReportsFailure a b disk (◌≡◌ {A = Result R AskError} (Err e) (Err asks.Fault))
+      → is_down b ≡ is_down a
+      → OnAskTrouble (λ t. LookFails a t b) (of_ask e)
+  look_fails disk asks.NeedsRecovery down failed same = down.0 refl
+  look_fails disk (asks.AboveWatermark mark) down failed same = tt
+  look_fails disk (asks.BadNode page) down failed same = stays_up (asks.BadNode page) asks.NeedsRecovery asks.Fault down (λ l r. absurd (turned l r same)) (λ i. cc) (λ i. cc)
+  look_fails disk (asks.Damaged block) down failed same = stays_up (asks.Damaged block) asks.NeedsRecovery asks.Fault down (λ l r. absurd (turned l r same)) (λ i. cc) (λ i. cc)
+  look_fails disk asks.Fault down failed same = (disk, record { quiet = λ never. absurd (never tt); counted = λ _. failed.counted refl })
+  look_fails disk asks.OutOfMemory down failed same = stays_up asks.OutOfMemory asks.NeedsRecovery asks.Fault down (λ l r. absurd (turned l r same)) (λ i. cc) (λ i. cc)
 
 -- a look counts the reads that fail, and no others
 pub block_misses : {R O Pen Seen : Type 0} (once : OnceGhosts O Pen Seen) (seen then : Seen) (e : BlockError)

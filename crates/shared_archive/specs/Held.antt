@@ -13,7 +13,7 @@ use Rattle.query_threads.specs.declared.refusal.Flush.{Flush}
 use Rattle.disk_archive.specs.Archives.{erase_of, once_of, pen_in}
 use Rattle.disk_archive.specs.Sites.{Site, IsNoted, Rests}
 use Rattle.shared_archive.specs.Represented.{RepresentsPast, right_going, ring_pages}
-use Rattle.shared_archive.specs.Reported.{Flushes, Reports}
+use Rattle.shared_archive.specs.Reported.{Flushes, LookFails, Reports}
 use Rattle.shared_archive.specs.declared.held.Disks.{Disks}
 use Rattle.shared_archive.specs.declared.held.Shut.{Shut}
 use Rattle.shared_archive.specs.declared.held.Held.{Held}
@@ -94,6 +94,12 @@ abbrev pub HeldReports : {E O Pen Seen : Type 0} {erase : EraseGhosts E} {once :
 HeldReports (Open a) trouble (Open b) = Reports a trouble b
 HeldReports (Open a) trouble (Closed t) = ⊥
 HeldReports (Closed s) trouble b = trouble ≡ NeedsRecovery
+
+-- the same of a look of a walk
+abbrev pub HeldLookFails : {E O Pen Seen : Type 0} {erase : EraseGhosts E} {once : OnceGhosts O Pen Seen} → Held E O Pen Seen erase once → Trouble → Held E O Pen Seen erase once → Type 0
+HeldLookFails (Open a) trouble (Open b) = LookFails a trouble b
+HeldLookFails (Open a) trouble (Closed t) = ⊥
+HeldLookFails (Closed s) trouble b = trouble ≡ NeedsRecovery
 
 -- a step of flushing did this, which it does of an archive that is open alone
 abbrev pub HeldFlushes : {E O Pen Seen : Type 0} {erase : EraseGhosts E} {once : OnceGhosts O Pen Seen} → Held E O Pen Seen erase once → Flush → Held E O Pen Seen erase once → Type 0

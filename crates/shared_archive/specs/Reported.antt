@@ -1,5 +1,5 @@
 -- What is known of an archive on disks of which a call returned a trouble, or that flushed.
-use Rattle.std.specs.Prelude.{◌≡◌, ◌<◌, ◌⊎◌, ◌+◌, ℕ, List, [], length, min, sum_by, true, false}
+use Rattle.std.specs.Prelude.{◌≡◌, ◌<◌, ◌⊎◌, ◌+◌, ℕ, List, [], length, min, sum_by, true, false, ⊤}
 use Rattle.disk_models.specs.declared.erase.EraseDisk.{Ghosts as EraseGhosts}
 use Rattle.disk_models.specs.declared.once.OnceDisk.{Ghosts as OnceGhosts}
 use Rattle.route_meaning.specs.History.{History, applied}
@@ -12,6 +12,7 @@ use Rattle.disk_archive.specs.declared.archive.Archive.{Archive}
 use Rattle.disk_archive.specs.Archives.{GoesOn, IsHonest, erase_of, is_down, pen_in}
 use Rattle.disk_archive.specs.Blanks.{NoneBlank, unused_pages}
 use Rattle.disk_archive.specs.Checks.{HasPages, root_in}
+use Rattle.disk_archive.specs.Failures.{ReportsFailure}
 use Rattle.disk_archive.specs.Homes.{IsHomed, closed_in, dirty_pages}
 
 -- a disk counted one failure more; a count that is 2^64 - 1 stays
@@ -36,6 +37,19 @@ Reports a TooHigh b = StaysUp a b × (IsHonest a → (pages : List (List ℕ)) �
 Reports a PagesFull b = StaysUp a b × (unused_pages a < 9)
 Reports a OnceFull b = StaysUp a b × (IsHonest a → NoneBlank b)
 Reports a OutOfMemory b = StaysUp a b
+
+-- A look of a walk returned this trouble: exactly one failure came, which one of the disks counted, or a read of blocks; or it must be opened
+-- again; or it was out of memory, or met damage, and needn't be opened again, before or after. What damage says of histories isn't stated here.
+abbrev pub LookFails : {E O Pen Seen : Type 0} {erase : EraseGhosts E} {once : OnceGhosts O Pen Seen} → Archive E O Pen Seen erase once → Trouble → Archive E O Pen Seen erase once → Type 0
+LookFails {O} a Fault b = (disk : O) × ReportsFailure a b disk ⊤
+LookFails a NeedsRecovery b = is_down a ≡ true
+LookFails a (DamagedPage page) b = StaysUp a b
+LookFails a (DamagedBlock block) b = StaysUp a b
+LookFails a CounterFull b = ⊥
+LookFails a TooHigh b = ⊥
+LookFails a PagesFull b = ⊥
+LookFails a OnceFull b = ⊥
+LookFails a OutOfMemory b = StaysUp a b
 
 -- a step of flushing wrote home the page that waited longest; or no page waited, and the whole journal is free
 abbrev pub Flushes : {E O Pen Seen : Type 0} {erase : EraseGhosts E} {once : OnceGhosts O Pen Seen} → Archive E O Pen Seen erase once → Flush → Archive E O Pen Seen erase once → Type 0

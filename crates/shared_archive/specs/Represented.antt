@@ -11,7 +11,8 @@ use Rattle.disk_archive.specs.declared.archive.Archive.{Archive}
 use Rattle.disk_archive.specs.declared.cursor.Cursor.{Cursor}
 use Rattle.disk_archive.specs.declared.errand.Errand.{Errand}
 use Rattle.disk_archive.specs.Archives.{GoesOn, once_of, once_state, settings_of}
-use Rattle.disk_archive.specs.Cursors.{IsGathered}
+use Rattle.route_history.specs.declared.changed.ChangedCursor.{ChangedCursor}
+use Rattle.disk_archive.specs.Cursors.{IsGathered, IsWalked}
 use Rattle.disk_archive.specs.Descents.{Located}
 
 -- The archive goes on with the past's history, or waits to be opened again with it; and exactly the past's blocks are settled on its
@@ -36,3 +37,7 @@ right_going a h (inr waits) = waits.reported.right
 -- what a question has gathered over a history holds over each later one
 abbrev pub gathered_on : (c : Cursor) (h g : History) → Begins h g → IsGathered c h → IsGathered c g
 gathered_on c h g begins gathered = λ k right on. gathered k right (Begins-trans h g k begins on)
+
+-- and so it is for a walk over what changed
+abbrev pub walked_on : (c : ChangedCursor) (h g : History) → Begins h g → IsWalked c h → IsWalked c g
+walked_on c h g begins walked = λ k right on. walked k right (Begins-trans h g k begins on)

@@ -1,17 +1,18 @@
 //! Calls on a held archive. While it isn't open, each one that needs its disks is refused, and nothing changes.
 
-ghost use Rattle.std.specs.Prelude.{◌≡◌, ◌<◌, ◌≤◌, ℕ, [], length, Err, IfErr, IfOk, IfSome, OnOk, ⊤};
+ghost use Rattle.std.specs.Prelude.{◌≡◌, ◌<◌, ◌≤◌, ℕ, [], length, Err, IfErr, IfOk, IfNone, IfSome, OnOk, ⊤};
+ghost use Rattle.route_meaning.specs.Changed.{IsChangedAnswer};
 ghost use Rattle.route_meaning.specs.History.{applied, settled};
 ghost use Rattle.interleaving_core.specs.Does.{last_moment};
 ghost use Rattle.interleaving_core.specs.Headline.{IsAnswered};
-ghost use Rattle.board.specs.Past.{Past, GoesOnAs, count_of};
+ghost use Rattle.board.specs.Past.{Past, Among, GoesOnAs, count_of};
 ghost use Rattle.query_threads.specs.Looks.{AreTheSettled};
 ghost use Rattle.query_threads.specs.Steps.{IsCrowded, DoesAdmit, DoesMark, DoesApply, DoesFlush};
 ghost use Rattle.query_threads.specs.Troubles.{IsOutside, OnAdmitTrouble, OnAskTrouble, OnMarkTrouble};
-ghost use Rattle.query_threads.specs.Turns.{TurnGives, IsReported};
+ghost use Rattle.query_threads.specs.Turns.{TurnGives, IsReported, IsReportedAt};
 ghost use Rattle.query_threads.specs.Usages.{AreLanes};
 ghost use Rattle.once_store.specs.Readers.{kept_blocks, reader_disk};
-ghost use Rattle.disk_archive.specs.Cursors.{IsGathered, asks};
+ghost use Rattle.disk_archive.specs.Cursors.{IsGathered, IsWalked, asks};
 ghost use Rattle.disk_archive.specs.Descents.{IsErrandFor};
 ghost use Rattle.shared_archive.specs.Represented.{LocatedInPast};
 
@@ -23,11 +24,13 @@ use disk_models::{EraseDisk, OnceDisk};
 use interleaving_core::BatchReply;
 use once_store::ShelfReader;
 use query_threads::{AdmitError, AskError, Flush, MarkError, Step, Trouble, Turn, Usage};
+use route_history::ChangedCursor;
+use route_meaning::ChangedAnswer;
 use route_model::{Admission, Mark};
 use std::alloc::Global;
 
 impl<E: EraseDisk + Drop, O: OnceDisk + Drop> Held<E, O> {
-    ghost use Rattle.shared_archive.specs.Held.{HeldFlushes, HeldReports, HoldsPast, disk_in, pages_in};
+    ghost use Rattle.shared_archive.specs.Held.{HeldFlushes, HeldLookFails, HeldReports, HoldsPast, disk_in, pages_in};
 
     /// How many collectors there are.
     pub fn collectors(&self) -> u8
@@ -167,6 +170,30 @@ impl<E: EraseDisk + Drop, O: OnceDisk + Drop> Held<E, O> {
         match self {
             Held::Open(archive) => turns::seen(archive),
             Held::Shut(_) => Err(Trouble::NeedsRecovery),
+        }
+    }
+
+    /// A look of a walk over what changed.
+    pub fn look(
+        &mut self,
+        reader: &mut ShelfReader<O>,
+        walk: &mut ChangedCursor,
+    ) -> Result<Option<ChangedAnswer>, AskError>
+        ensures represents { (p : Past) → HoldsPast self.old p → HoldsPast self.new p }
+        ensures walks { walk.new.question ≡ walk.old.question }
+        ensures settled { (p : Past) → HoldsPast self.old p → OnOk result (walk.old.question.to < settled p.history) }
+        ensures walked { (p : Past) → HoldsPast self.old p → reader_disk reader.old ≡ disk_in self.old → Among (kept_blocks reader.old) p.blocks → IsWalked walk.old p.history → IfOk result (λ found. IfNone found (IsWalked walk.new p.history)) }
+        ensures answer { (p : Past) → HoldsPast self.old p → reader_disk reader.old ≡ disk_in self.old → Among (kept_blocks reader.old) p.blocks → IsWalked walk.old p.history → IfOk result (λ found. IfSome found (λ answer. IsChangedAnswer (applied p.history) walk.old.question answer.spots.items answer.more)) }
+        ensures kept { (p : Past) → HoldsPast self.old p → reader_disk reader.old ≡ disk_in self.old → Among (kept_blocks reader.old) p.blocks → Among (kept_blocks reader.new) p.blocks }
+        ensures reported { (p : Past) → HoldsPast self.old p → reader_disk reader.old ≡ disk_in self.old → Among (kept_blocks reader.old) p.blocks → IfErr result (λ e. IsReportedAt e p.history walk.old.question.to) }
+        ensures trouble { IfErr result (OnAskTrouble (λ t. HeldLookFails self.old t self.new)) }
+        ensures reads { reader_disk reader.new ≡ reader_disk reader.old }
+        ensures disk { disk_in self.new ≡ disk_in self.old }
+        ensures pages { pages_in self.new ≡ pages_in self.old }
+    {
+        match self {
+            Held::Open(archive) => turns::look(archive, reader, walk),
+            Held::Shut(_) => Err(AskError::Trouble(Trouble::NeedsRecovery)),
         }
     }
 

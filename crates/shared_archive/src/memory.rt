@@ -1,22 +1,24 @@
 //! The archive on disks in memory, as threads share it.
 
 ghost use Rattle.std.specs.Prelude.{◌≡◌};
-ghost use Rattle.disk_archive.specs.Cursors.{IsGathered, asks};
+ghost use Rattle.disk_archive.specs.Cursors.{IsGathered, IsWalked, asks};
 ghost use Rattle.disk_archive.specs.Descents.{IsErrandFor};
 ghost use Rattle.once_store.specs.Readers.{kept_blocks, reader_disk};
-ghost use Rattle.shared_archive.specs.Represented.{LocatedInPast, gathered_on};
-ghost use Rattle.shared_archive.specs.Held.{HeldFlushes, HeldReports, HoldsPast, disk_in, pages_in, right_held};
+ghost use Rattle.shared_archive.specs.Represented.{LocatedInPast, gathered_on, walked_on};
+ghost use Rattle.shared_archive.specs.Held.{HeldFlushes, HeldLookFails, HeldReports, HoldsPast, disk_in, pages_in, right_held};
 ghost use Rattle.shared_archive.specs.Reopened.{Reopens};
 ghost use Rattle.shared_archive.specs.Reported.{Misses};
 
 use crate::held::Held;
 use crate::turns;
-use disk_archive::{Archive, Cursor, Errand};
+use disk_archive::{Archive, Cursor, Errand, start_walk};
 use disk_memory::{MemErase, MemOnce, MemSeen};
 use disk_models::OnceDisk;
 use interleaving_core::{BatchReply, Query};
 use once_store::ShelfReader;
 use query_threads::{AdmitError, AskError, Flush, MarkError, Step, Store, Trouble, Turn, Usage};
+use route_history::ChangedCursor;
+use route_meaning::{ChangedAnswer, ChangedQuestion};
 use route_model::{Admission, Mark};
 use std::alloc::Global;
 
@@ -49,6 +51,8 @@ impl Store for MemStore {
 
     type Cursor = Cursor;
 
+    type Walk = ChangedCursor;
+
     ghost represents = { λ store p. HoldsPast store.archive p };
 
     ghost pages = { λ store. pages_in store.archive };
@@ -69,6 +73,10 @@ impl Store for MemStore {
 
     ghost gathered = { λ cursor h. IsGathered cursor h };
 
+    ghost walks = { λ walk. walk.question };
+
+    ghost walked = { λ walk h. IsWalked walk h };
+
     ghost fits = { λ errand cursor. IsErrandFor cursor errand };
 
     ghost located = { λ errand cursor disk p. LocatedInPast (⟦<MemOnce as OnceDisk>⟧.block_count disk) errand cursor p };
@@ -77,7 +85,11 @@ impl Store for MemStore {
 
     ghost stays = { λ cursor h g right begins below gathered. gathered_on cursor h g begins gathered };
 
+    ghost walk_stays = { λ walk h g right begins below walked. walked_on walk h g begins walked };
+
     ghost reports = { λ store trouble then. HeldReports store.archive trouble then.archive };
+
+    ghost fails = { λ store trouble then. HeldLookFails store.archive trouble then.archive };
 
     ghost reopens = { λ store returned then. Reopens store.archive returned then.archive };
 
@@ -149,5 +161,17 @@ impl Store for MemStore {
         cursor: &mut Cursor,
     ) -> Result<(), Trouble> {
         turns::finish(reader, seen, alloc, errand, cursor)
+    }
+
+    fn start_walk(alloc: Global, question: ChangedQuestion) -> ChangedCursor {
+        start_walk(alloc, question)
+    }
+
+    fn look(
+        &mut self,
+        reader: &mut ShelfReader<MemOnce>,
+        walk: &mut ChangedCursor,
+    ) -> Result<Option<ChangedAnswer>, AskError> {
+        self.archive.look(reader, walk)
     }
 }

@@ -1,25 +1,28 @@
 //! Turns of questions, their errands, and what an archive returns, by its past.
 
-ghost use Rattle.std.specs.Prelude.{◌≡◌, ◌<◌, ◌≤◌, ℕ, List, [], IfErr, IfOk, OnOk, ⊤};
+ghost use Rattle.std.specs.Prelude.{◌≡◌, ◌<◌, ◌≤◌, ℕ, List, [], IfErr, IfNone, IfOk, IfSome, OnOk, ⊤};
+ghost use Rattle.route_meaning.specs.Changed.{IsChangedAnswer};
 ghost use Rattle.route_meaning.specs.History.{applied, settled};
 ghost use Rattle.interleaving_core.specs.Does.{last_moment};
 ghost use Rattle.interleaving_core.specs.Headline.{IsAnswered};
-ghost use Rattle.board.specs.Past.{Past, count_of};
+ghost use Rattle.board.specs.Past.{Past, Among, count_of};
 ghost use Rattle.query_threads.specs.Looks.{AreSettled, AreTheSettled, IsErrandOn};
-ghost use Rattle.query_threads.specs.Turns.{TurnGives, IsReported};
+ghost use Rattle.query_threads.specs.Turns.{TurnGives, IsReported, IsReportedAt};
 ghost use Rattle.query_threads.specs.Troubles.{IsOutside, OnAskTrouble};
 ghost use Rattle.once_store.specs.Readers.{kept_blocks, reader_disk};
 ghost use Rattle.disk_archive.specs.Archives.{once_of};
-ghost use Rattle.disk_archive.specs.Cursors.{IsGathered, asks};
+ghost use Rattle.disk_archive.specs.Cursors.{IsGathered, IsWalked, asks};
 ghost use Rattle.disk_archive.specs.Descents.{IsErrandFor};
 ghost use Rattle.shared_archive.specs.Represented.{RepresentsPast, LocatedInPast, ring_pages};
-ghost use Rattle.shared_archive.specs.Reported.{Misses, Reports};
+ghost use Rattle.shared_archive.specs.Reported.{LookFails, Misses, Reports};
 
 use crate::refusals::{ask_refusal, block_trouble};
 use disk_archive::{Archive, Cursor, Descent, Errand};
 use disk_models::{EraseDisk, OnceDisk};
 use once_store::ShelfReader;
 use query_threads::{AskError, Trouble, Turn};
+use route_history::ChangedCursor;
+use route_meaning::ChangedAnswer;
 use std::alloc::Global;
 
 /// How many admissions of a collector there are, 0 of one that there isn't.
@@ -112,5 +115,29 @@ pub(crate) fn finish<O: OnceDisk + Drop>(
     match errand.finish(alloc, reader, seen, cursor) {
         Ok(()) => Ok(()),
         Err(refusal) => Err(block_trouble(refusal)),
+    }
+}
+
+/// A look of a walk over what changed.
+pub(crate) fn look<E: EraseDisk + Drop, O: OnceDisk + Drop>(
+    archive: &mut Archive<E, O>,
+    reader: &mut ShelfReader<O>,
+    walk: &mut ChangedCursor,
+) -> Result<Option<ChangedAnswer>, AskError>
+    ensures represents { (p : Past) → RepresentsPast archive.old p → RepresentsPast archive.new p }
+    ensures walks { walk.new.question ≡ walk.old.question }
+    ensures settled { (p : Past) → RepresentsPast archive.old p → OnOk result (walk.old.question.to < settled p.history) }
+    ensures walked { (p : Past) → RepresentsPast archive.old p → reader_disk reader.old ≡ once_of archive.old → Among (kept_blocks reader.old) p.blocks → IsWalked walk.old p.history → IfOk result (λ found. IfNone found (IsWalked walk.new p.history)) }
+    ensures answer { (p : Past) → RepresentsPast archive.old p → reader_disk reader.old ≡ once_of archive.old → Among (kept_blocks reader.old) p.blocks → IsWalked walk.old p.history → IfOk result (λ found. IfSome found (λ answer. IsChangedAnswer (applied p.history) walk.old.question answer.spots.items answer.more)) }
+    ensures kept { (p : Past) → RepresentsPast archive.old p → reader_disk reader.old ≡ once_of archive.old → Among (kept_blocks reader.old) p.blocks → Among (kept_blocks reader.new) p.blocks }
+    ensures reported { (p : Past) → RepresentsPast archive.old p → reader_disk reader.old ≡ once_of archive.old → Among (kept_blocks reader.old) p.blocks → IfErr result (λ e. IsReportedAt e p.history walk.old.question.to) }
+    ensures trouble { IfErr result (OnAskTrouble (λ t. LookFails archive.old t archive.new)) }
+    ensures reads { reader_disk reader.new ≡ reader_disk reader.old }
+    ensures disk { once_of archive.new ≡ once_of archive.old }
+    ensures pages { ring_pages archive.new ≡ ring_pages archive.old }
+{
+    match archive.changed_look(reader, walk) {
+        Ok(found) => Ok(found),
+        Err(refusal) => Err(ask_refusal(refusal)),
     }
 }

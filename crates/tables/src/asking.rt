@@ -2,25 +2,20 @@
 
 ghost use Rattle.route_meaning.specs.History.{History};
 
-use crate::ending::{of_memory, refusal_of};
+use crate::ending::{end_first, of_memory};
 use crate::events::{write_events, write_history};
 use crate::form::Form;
 use crate::headings::{Columns, write_heading};
 use crate::lines::RowWriter;
 use crate::pages::{events_page, rows_page};
+use crate::places::{write_first_places, write_places};
 use crate::rows::write_table;
-use archive_calls::{AskError, RouteArchive};
+use archive_calls::{AskError, RouteArchive, RouteSource};
 use interleaving_core::Query;
-use route_meaning::{EventsQuestion, RowsQuestion};
-use service::{
-    Output, Request, Status, ask, read_request, reported, write_ending, write_events_ending,
-    write_refusal,
-};
+use route_meaning::{ChangedQuestion, EventsQuestion, RowsQuestion};
+use service::{Output, Request, Status, ask, read_request, write_ending, write_events_ending};
 use std::alloc::Global;
 use std::io::Write;
-
-/// What is on standard error if an answer for a person doesn't have all rows or events.
-const MORE: &str = "rha: 256 lines shown, and more follow; --all prints all\n";
 
 /// How much of an answer is asked for, and for whom.
 #[derive(Clone, Copy, Debug, PartialEq, Eq)]
@@ -40,7 +35,7 @@ impl Manner {
 }
 
 /// The first rows for a person, and whether more follow.
-fn first_rows<A: RouteArchive>(
+fn first_rows<A: RouteSource>(
     alloc: Global,
     archive: &mut A,
     form: Form,
@@ -57,7 +52,7 @@ fn first_rows<A: RouteArchive>(
 }
 
 /// The first events for a person, and whether more follow.
-fn first_events<A: RouteArchive>(
+fn first_events<A: RouteSource>(
     alloc: Global,
     archive: &mut A,
     form: Form,
@@ -74,7 +69,7 @@ fn first_events<A: RouteArchive>(
 }
 
 /// Answers a question for a person: its first rows or events.
-fn answer_first<A: RouteArchive, W: Write, E: Write>(
+fn answer_first<A: RouteSource, W: Write, E: Write>(
     alloc: Global,
     archive: &mut A,
     form: Form,
@@ -89,23 +84,11 @@ fn answer_first<A: RouteArchive, W: Write, E: Write>(
         Query::Rows(question) => first_rows(alloc, archive, form, question, &mut text),
         Query::Events(question) => first_events(alloc, archive, form, question, &mut text),
     };
-    match answered {
-        Ok(more) => {
-            out.text(text.as_str());
-            if more {
-                err.text(MORE);
-            }
-            reported(alloc, Status::Done, out, err)
-        }
-        Err(why) => {
-            write_refusal(out, &refusal_of(why));
-            reported(alloc, Status::Refused, out, err)
-        }
-    }
+    end_first(alloc, text.as_str(), answered, out, err)
 }
 
 /// Answers a question with all its rows or events.
-fn answer_all<A: RouteArchive, W: Write, E: Write>(
+fn answer_all<A: RouteSource, W: Write, E: Write>(
     alloc: Global,
     archive: &mut A,
     form: Form,
@@ -129,7 +112,50 @@ fn columns_of(query: &Query) -> Columns {
     }
 }
 
-/// Answers a question in a manner that [`ask`] doesn't know: with all its rows or events and one end, or for a person. Other lines are
+/// Answers a question with all its rows or events, or for a person.
+fn answer_question<A: RouteSource, W: Write, E: Write>(
+    alloc: Global,
+    archive: &mut A,
+    query: Query,
+    manner: Manner,
+    out: &mut Output<W>,
+    err: &mut Output<E>,
+) -> Status
+    ensures kept { (h : History) → A.represents archive.old h → A.represents archive.new h }
+{
+    let form = manner.form();
+    if manner.terminal {
+        write_heading(columns_of(&query), form, err);
+    }
+    if manner.all {
+        answer_all(alloc, archive, form, query, out, err)
+    } else {
+        answer_first(alloc, archive, form, query, out, err)
+    }
+}
+
+/// Answers which places changed: with all of them, or for a person.
+fn answer_changed<A: RouteSource, W: Write, E: Write>(
+    alloc: Global,
+    archive: &mut A,
+    question: ChangedQuestion,
+    manner: Manner,
+    out: &mut Output<W>,
+    err: &mut Output<E>,
+) -> Status
+    ensures kept { (h : History) → A.represents archive.old h → A.represents archive.new h }
+{
+    if manner.terminal {
+        write_heading(Columns::Places, manner.form(), err);
+    }
+    if manner.all {
+        write_places(alloc, archive, question, out, err)
+    } else {
+        write_first_places(alloc, archive, question, out, err)
+    }
+}
+
+/// Answers a question in a manner that [`ask`] doesn't know: with all its rows, events or places and one end, or for a person. Other lines are
 /// answered as `ask` does.
 pub(crate) fn ask_for<A: RouteArchive, W: Write, E: Write>(
     alloc: Global,
@@ -141,16 +167,11 @@ pub(crate) fn ask_for<A: RouteArchive, W: Write, E: Write>(
 ) -> Status
     ensures kept { (h : History) → A.represents archive.old h → A.represents archive.new h }
 {
-    let form = manner.form();
-    let Ok(Request::Question(query)) = read_request(alloc, line) else {
-        return ask(alloc, archive, line, out, err);
-    };
-    if manner.terminal {
-        write_heading(columns_of(&query), form, err);
-    }
-    if manner.all {
-        answer_all(alloc, archive, form, query, out, err)
-    } else {
-        answer_first(alloc, archive, form, query, out, err)
+    match read_request(alloc, line) {
+        Ok(Request::Question(query)) => { answer_question(alloc, archive, query, manner, out, err) }
+        Ok(Request::Changed(question)) => {
+            answer_changed(alloc, archive, question, manner, out, err)
+        }
+        _ => ask(alloc, archive, line, out, err),
     }
 }

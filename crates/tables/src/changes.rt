@@ -5,7 +5,7 @@ ghost use Rattle.route_meaning.specs.History.{History};
 use crate::cursor::Cursor;
 use crate::ending::of_memory;
 use crate::scope::{Scope, last_inside, shortened};
-use archive_calls::{AskError, RouteArchive, Trouble};
+use archive_calls::{AskError, RouteSource, Trouble};
 use route_meaning::{ChangedQuestion, Spot};
 use route_model::{Moment, Prefix, SharedRoute};
 use std::alloc::Global;
@@ -33,7 +33,7 @@ fn question_of(span: &Span, low: &Prefix, high: &Prefix, after: &Option<Spot>) -
 }
 
 /// Adds the spots of the prefixes from one to another that changed, page after page.
-fn add_changed<A: RouteArchive>(
+fn add_changed<A: RouteSource>(
     archive: &mut A,
     span: &Span,
     low: &Prefix,
@@ -55,7 +55,7 @@ fn add_changed<A: RouteArchive>(
 }
 
 /// Adds the spots that changed of each prefix that contains this one.
-fn add_containing<A: RouteArchive>(
+fn add_containing<A: RouteSource>(
     archive: &mut A,
     span: &Span,
     prefix: &Prefix,
@@ -71,7 +71,7 @@ fn add_containing<A: RouteArchive>(
 }
 
 /// The spots that changed, of the prefixes that are asked for.
-pub(crate) fn changed_spots<A: RouteArchive>(
+pub(crate) fn changed_spots<A: RouteSource>(
     alloc: Global,
     archive: &mut A,
     span: &Span,
@@ -96,7 +96,7 @@ fn moment_before(moment: Moment) -> Option<Moment> {
 }
 
 /// The routes of the prefixes that are asked for which held when a moment began.
-pub(crate) fn held_before<A: RouteArchive>(
+pub(crate) fn held_before<A: RouteSource>(
     alloc: Global,
     archive: &mut A,
     moment: Moment,

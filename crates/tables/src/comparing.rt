@@ -6,7 +6,7 @@ use crate::cursor::Cursor;
 use crate::ending::{end_lines, of_memory};
 use crate::reading::Comparison;
 use crate::scope::Scope;
-use archive_calls::{AskError, RouteArchive, Trouble};
+use archive_calls::{AskError, RouteSource, Trouble};
 use route_meaning::{Row, Spot};
 use route_text::write_route;
 use service::{Output, Status, write_place};
@@ -87,7 +87,7 @@ fn write_next(
 }
 
 /// Writes a line for each place where the tables differ: how many there are. Once a write failed no more rows are asked for.
-fn write_lines<A: RouteArchive, W: Write>(
+fn write_lines<A: RouteSource, W: Write>(
     alloc: Global,
     archive: &mut A,
     old: &mut Cursor,
@@ -130,7 +130,7 @@ fn scope_of(asked: &Comparison) -> Option<Scope> {
 
 /// Writes the line of each place where the tables of two moments differ, of all prefixes or of those inside one, and then `E|LINES`; a
 /// refusal is the last line. How many lines were written.
-pub(crate) fn write_differences<A: RouteArchive, W: Write, E: Write>(
+pub(crate) fn write_differences<A: RouteSource, W: Write, E: Write>(
     alloc: Global,
     archive: &mut A,
     asked: &Comparison,

@@ -4,7 +4,7 @@ ghost use Rattle.route_meaning.specs.History.{History};
 
 use crate::ending::{end_lines, of_memory};
 use crate::pages::{question_after, rows_page};
-use archive_calls::{AskError, RouteArchive, Trouble};
+use archive_calls::{AskError, RouteSource, Trouble};
 use route_meaning::{Row, RowsQuestion, Select};
 use route_model::{Moment, Peer};
 use route_text::write_address;
@@ -81,7 +81,7 @@ fn take_page(out: &mut String, so_far: &mut Counting, rows: &[Row]) -> Result<()
 }
 
 /// Writes a line for each peer, page after page: how many there are. Once a write failed no more rows are asked for.
-fn write_counts<A: RouteArchive, W: Write>(
+fn write_counts<A: RouteSource, W: Write>(
     alloc: Global,
     archive: &mut A,
     moment: Moment,
@@ -124,7 +124,7 @@ fn write_counts<A: RouteArchive, W: Write>(
 
 /// Writes `P|COLLECTOR|ADDRESS|AS|ROUTES` for each peer that has a route at the moment, in the order of peers, and `E|PEERS` after them. A
 /// refusal is the last line.
-pub(crate) fn write_peers<A: RouteArchive, W: Write, E: Write>(
+pub(crate) fn write_peers<A: RouteSource, W: Write, E: Write>(
     alloc: Global,
     archive: &mut A,
     moment: Moment,

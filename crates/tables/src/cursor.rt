@@ -4,7 +4,7 @@ ghost use Rattle.route_meaning.specs.History.{History};
 
 use crate::pages::{question_after, rows_page};
 use crate::scope::Scope;
-use archive_calls::{AskError, RouteArchive, Trouble};
+use archive_calls::{AskError, RouteSource, Trouble};
 use route_meaning::{Row, RowsAnswer, RowsQuestion, Select};
 use route_model::Moment;
 use std::alloc::Global;
@@ -66,7 +66,7 @@ impl Cursor {
     }
 
     /// Takes the next row, or none after the last one.
-    pub(crate) fn take<A: RouteArchive>(&mut self, archive: &mut A) -> Result<Option<Row>, AskError>
+    pub(crate) fn take<A: RouteSource>(&mut self, archive: &mut A) -> Result<Option<Row>, AskError>
         ensures kept { (h : History) → A.represents archive.old h → A.represents archive.new h }
     {
         'pages: for _ in 0..u64::MAX {

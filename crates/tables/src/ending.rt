@@ -31,6 +31,32 @@ pub(crate) fn refusal_of(why: AskError) -> Refusal
     }
 }
 
+/// What is on standard error if an answer for a person doesn't have all lines.
+const MORE: &str = "rha: 256 lines shown, and more follow; --all prints all\n";
+
+/// Writes the first lines of an answer, and for a person whether more follow, or the line of the refusal.
+pub(crate) fn end_first<W: Write, E: Write>(
+    alloc: Global,
+    lines: &str,
+    answered: Result<bool, AskError>,
+    out: &mut Output<W>,
+    err: &mut Output<E>,
+) -> Status {
+    match answered {
+        Ok(more) => {
+            out.text(lines);
+            if more {
+                err.text(MORE);
+            }
+            reported(alloc, Status::Done, out, err)
+        }
+        Err(why) => {
+            write_refusal(out, &refusal_of(why));
+            reported(alloc, Status::Refused, out, err)
+        }
+    }
+}
+
 /// Writes how many lines there were, if they were all written, or the line of the refusal after which none follow.
 pub(crate) fn end_lines<W: Write, E: Write>(
     alloc: Global,

@@ -9,7 +9,7 @@ use crate::ending::{end_lines, of_memory};
 use crate::form::Form;
 use crate::human;
 use crate::pages::events_page;
-use archive_calls::{AskError, RouteArchive, Trouble};
+use archive_calls::{AskError, RouteSource, Trouble};
 use route_meaning::{Event, EventsQuestion};
 use service::{Output, Status, write_change};
 use std::alloc::{AllocError, Global};
@@ -34,7 +34,7 @@ pub(crate) fn write_events(
 }
 
 /// Writes the lines of the first events of a question: how many these are, and whether there are more.
-fn write_page<A: RouteArchive, W: Write>(
+fn write_page<A: RouteSource, W: Write>(
     alloc: Global,
     archive: &mut A,
     form: Form,
@@ -63,7 +63,7 @@ fn skipping(question: &EventsQuestion, skip: u64) -> EventsQuestion {
 }
 
 /// Writes a line for each event, page after page: how many there are. Once a write failed no more events are asked for.
-fn write_pages<A: RouteArchive, W: Write>(
+fn write_pages<A: RouteSource, W: Write>(
     alloc: Global,
     archive: &mut A,
     form: Form,
@@ -94,7 +94,7 @@ fn write_pages<A: RouteArchive, W: Write>(
 }
 
 /// Writes all events of a question, and `E|EVENTS` after them. A refusal is the last line.
-pub(crate) fn write_history<A: RouteArchive, W: Write, E: Write>(
+pub(crate) fn write_history<A: RouteSource, W: Write, E: Write>(
     alloc: Global,
     archive: &mut A,
     form: Form,

@@ -7,7 +7,7 @@ use crate::ending::of_memory;
 use crate::matching::Numbers;
 use crate::pages::events_page;
 use crate::scope::Scope;
-use archive_calls::{AskError, RouteArchive, Trouble};
+use archive_calls::{AskError, RouteSource, Trouble};
 use route_meaning::{Event, EventsQuestion, Spot};
 use route_model::{Change, Moment, Peer, SharedRoute};
 use std::alloc::{AllocError, Global};
@@ -90,7 +90,7 @@ fn add_events(
 }
 
 /// Adds all events of a spot in the span, page after page; `held` is the route that held before.
-fn find_at<A: RouteArchive>(
+fn find_at<A: RouteSource>(
     archive: &mut A,
     span: &Span,
     spot: &Spot,
@@ -118,7 +118,7 @@ fn find_at<A: RouteArchive>(
 }
 
 /// Adds what happened at the spots that changed. Their routes are taken out of those that held before.
-fn find_changed<A: RouteArchive>(
+fn find_changed<A: RouteSource>(
     archive: &mut A,
     span: &Span,
     spots: &[Spot],
@@ -136,7 +136,7 @@ fn find_changed<A: RouteArchive>(
 }
 
 /// When the first session of a peer ended in the span, if one did. At a spot that didn't change no other event happened.
-fn first_end<A: RouteArchive>(
+fn first_end<A: RouteSource>(
     archive: &mut A,
     span: &Span,
     spot: &Spot,
@@ -158,7 +158,7 @@ struct PeerEnd {
 }
 
 /// The end of the peer that the spot has; it is asked for only if the last one is another peer's.
-fn end_at<A: RouteArchive>(
+fn end_at<A: RouteSource>(
     archive: &mut A,
     span: &Span,
     spot: &Spot,
@@ -195,7 +195,7 @@ fn add_end(
 }
 
 /// Adds the ends of the routes that held before the span, at spots that didn't change in it.
-fn find_ended<A: RouteArchive>(
+fn find_ended<A: RouteSource>(
     archive: &mut A,
     span: &Span,
     held: Held,
@@ -214,7 +214,7 @@ fn find_ended<A: RouteArchive>(
 }
 
 /// What happened to the prefixes that are asked for, in the order of time; in one second by place, and at one place as it happened.
-pub(crate) fn find_all<A: RouteArchive>(
+pub(crate) fn find_all<A: RouteSource>(
     alloc: Global,
     archive: &mut A,
     span: &Span,

@@ -12,6 +12,8 @@ pub(crate) enum Columns {
     Rows,
     /// What happened to one route.
     Events,
+    /// Places that changed.
+    Places,
     /// Peers, and how many routes each has.
     Peers,
     /// Places where two tables differ.
@@ -32,6 +34,8 @@ const EVENTS: &str =
 const DATED_EVENTS: &str =
     "A, W or D|TIME|PATH|ORIGIN|NEXT HOP|MED|LOCAL PREF|AGGREGATE|AGGREGATOR|COMMUNITIES|EXTENDED|LARGE|OTHERS\n";
 
+const PLACES: &str = "C|COLLECTOR|PEER|AS|PREFIX\n";
+
 const PEERS: &str = "P|COLLECTOR|PEER|AS|ROUTES\n";
 
 const DIFFERENCES: &str =
@@ -44,6 +48,7 @@ const FOUND: &str =
 fn heading_of(columns: Columns, form: Form) -> &'static str {
     match (form, columns) {
         (Form::Bgpdump | Form::Json, _) => "",
+        (_, Columns::Places) => PLACES,
         (_, Columns::Peers) => PEERS,
         (_, Columns::Differences) => DIFFERENCES,
         (_, Columns::Found) => FOUND,

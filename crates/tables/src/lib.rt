@@ -8,8 +8,8 @@
 //!     find      routes of some prefixes, or what changed   R, or A, W and D with their places                  0, 1
 //!
 //! An answer has 256 rows at most; here the next question is asked until none are left, and rows are written once they are found, so
-//! memory doesn't grow with the table. The next question begins after the place of the last row, or skips the events that were found
-//! (`pages`, `events`). All questions of a call are of one history: questions don't change the archive that the process has locked.
+//! memory doesn't grow with the table. The next question begins after the place of the last row, or after the last place that changed, or
+//! skips the events that were found (`pages`, `places`, `events`). All questions of a call are of one history: questions don't change the archive that the process has locked.
 //!
 //! Rows come in the order of peers, and of prefixes for each peer. So `peers` needs one count at a time, and `diff` goes through two tables
 //! side by side (`cursor`, `comparing`): the lesser place has a route at one moment alone, `-` for the first and `+` for the second; at the
@@ -49,6 +49,7 @@ mod known;
 mod lines;
 mod matching;
 mod pages;
+mod places;
 mod reading;
 mod rows;
 mod running;

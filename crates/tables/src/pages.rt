@@ -6,12 +6,12 @@ ghost use Rattle.route_meaning.specs.History.{History, applied, settled};
 ghost use Rattle.route_meaning.specs.Rows.{IsAnswer};
 ghost use Rattle.route_meaning.specs.Events.{IsEventsAnswer};
 
-use archive_calls::{AskError, RouteArchive, Trouble};
+use archive_calls::{AskError, RouteSource, Trouble};
 use interleaving_core::{Answer, Query};
 use route_meaning::{EventsAnswer, EventsQuestion, RowsAnswer, RowsQuestion, Spot};
 
 /// The first rows of a question, 256 at most, and whether more follow.
-pub(crate) fn rows_page<A: RouteArchive>(
+pub(crate) fn rows_page<A: RouteSource>(
     archive: &mut A,
     question: RowsQuestion,
 ) -> Result<RowsAnswer, AskError>
@@ -28,7 +28,7 @@ pub(crate) fn rows_page<A: RouteArchive>(
 }
 
 /// The first events of a question, 256 at most, and whether more follow.
-pub(crate) fn events_page<A: RouteArchive>(
+pub(crate) fn events_page<A: RouteSource>(
     archive: &mut A,
     question: EventsQuestion,
 ) -> Result<EventsAnswer, AskError>

@@ -7,7 +7,7 @@ ghost use Rattle.tables.specs.Tables.{moment_in};
 use crate::form::Form;
 use crate::matching::Numbers;
 use crate::scope::Scope;
-use archive_calls::RouteArchive;
+use archive_calls::RouteSource;
 use route_meaning::Select;
 use route_model::{Moment, Prefix};
 use route_text::{BadText, read_moment, read_number, read_prefix};
@@ -152,7 +152,7 @@ pub fn read_search(asked: &Finding<'_>) -> Result<Search, BadArgument> {
 }
 
 /// The moment that is asked for, or else the last that is settled; if none is, the first of all, which is refused then.
-pub fn moment_of<A: RouteArchive>(archive: &A, at: Option<Moment>) -> Moment
+pub fn moment_of<A: RouteSource>(archive: &A, at: Option<Moment>) -> Moment
     ensures moment { (h : History) → A.represents archive.now h → result ≡ moment_in h at }
 {
     if let Some(moment) = at {

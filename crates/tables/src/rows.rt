@@ -6,14 +6,14 @@ use crate::ending::{end_lines, of_memory, refusal_of};
 use crate::form::Form;
 use crate::lines::RowWriter;
 use crate::pages::{question_after, rows_page};
-use archive_calls::{AskError, RouteArchive, Trouble};
+use archive_calls::{AskError, RouteSource, Trouble};
 use route_meaning::RowsQuestion;
 use service::{Output, Status, reported, write_error};
 use std::alloc::Global;
 use std::io::Write;
 
 /// Writes the lines of the first rows of a question: how many rows these are, and the question of the rest, if there are more.
-fn write_page<A: RouteArchive, W: Write>(
+fn write_page<A: RouteSource, W: Write>(
     alloc: Global,
     archive: &mut A,
     writer: &RowWriter,
@@ -32,7 +32,7 @@ fn write_page<A: RouteArchive, W: Write>(
 }
 
 /// Writes a line for each row, page after page: how many there are. Once a write failed no more rows are asked for.
-fn write_rows<A: RouteArchive, W: Write>(
+fn write_rows<A: RouteSource, W: Write>(
     alloc: Global,
     archive: &mut A,
     form: Form,
@@ -64,7 +64,7 @@ fn write_rows<A: RouteArchive, W: Write>(
 
 /// Writes all rows of a question in a form, and, if the form has lines, `E|ROWS` after them. A refusal is the last line if the form
 /// has lines, and else a line of standard error.
-pub(crate) fn write_table<A: RouteArchive, W: Write, E: Write>(
+pub(crate) fn write_table<A: RouteSource, W: Write, E: Write>(
     alloc: Global,
     archive: &mut A,
     form: Form,

@@ -11,7 +11,7 @@ use crate::headings::{Columns, write_heading};
 use crate::reading::{Comparison, Search, Table, moment_of};
 use crate::rows::write_table;
 use crate::searching::write_search;
-use archive_calls::RouteArchive;
+use archive_calls::{RouteArchive, RouteSource};
 use route_meaning::RowsQuestion;
 use route_model::Moment;
 use service::{Output, Question, ask_line, finish};
@@ -44,7 +44,7 @@ pub fn ask<A: RouteArchive, W: Write, E: Write>(
 }
 
 /// Writes a table, on a terminal under the names of its columns.
-pub fn dump<A: RouteArchive, W: Write, E: Write>(
+pub fn dump<A: RouteSource, W: Write, E: Write>(
     alloc: Global,
     archive: &mut A,
     table: &Table,
@@ -67,7 +67,7 @@ pub fn dump<A: RouteArchive, W: Write, E: Write>(
 }
 
 /// Counts the routes of each peer at a moment, or at the last that is settled, on a terminal under the names of the columns.
-pub fn peers<A: RouteArchive, W: Write, E: Write>(
+pub fn peers<A: RouteSource, W: Write, E: Write>(
     alloc: Global,
     archive: &mut A,
     at: Option<Moment>,
@@ -90,7 +90,7 @@ pub const TROUBLE: u8 = 2;
 
 /// Compares the tables of two moments. The exit status is that of diff(1): 0 if nothing differs, 1 if something does, and [`TROUBLE`]
 /// if something was refused or not all could be written. On a terminal the names of the columns stand before.
-pub fn diff<A: RouteArchive, W: Write, E: Write>(
+pub fn diff<A: RouteSource, W: Write, E: Write>(
     alloc: Global,
     archive: &mut A,
     asked: &Comparison,
@@ -112,7 +112,7 @@ pub fn diff<A: RouteArchive, W: Write, E: Write>(
 
 /// Writes what is found of some prefixes: the routes that hold at a moment, or what happened from one moment to another. On a terminal the
 /// names of the columns stand before.
-pub fn find<A: RouteArchive, W: Write, E: Write>(
+pub fn find<A: RouteSource, W: Write, E: Write>(
     alloc: Global,
     archive: &mut A,
     search: &Search,

@@ -8,7 +8,7 @@ use crate::ending::{end_lines, of_memory};
 use crate::finding::{Found, find_all};
 use crate::matching::Numbers;
 use crate::reading::Search;
-use archive_calls::{AskError, RouteArchive, Trouble};
+use archive_calls::{AskError, RouteSource, Trouble};
 use route_model::{Change, Moment};
 use route_text::{write_moment, write_route};
 use service::{Output, Status, write_place, write_row};
@@ -39,7 +39,7 @@ fn write_found(out: &mut String, found: &Found) -> Result<(), AllocError> {
 }
 
 /// Writes the lines of what happened in a span: how many there are.
-fn write_events<A: RouteArchive, W: Write>(
+fn write_events<A: RouteSource, W: Write>(
     alloc: Global,
     archive: &mut A,
     span: &Span,
@@ -59,7 +59,7 @@ fn write_events<A: RouteArchive, W: Write>(
 }
 
 /// Writes the rows of a cursor whose routes are asked for: how many there are. Once a write failed no more rows are asked for.
-fn write_routes<A: RouteArchive, W: Write>(
+fn write_routes<A: RouteSource, W: Write>(
     alloc: Global,
     archive: &mut A,
     cursor: &mut Cursor,
@@ -92,7 +92,7 @@ fn write_routes<A: RouteArchive, W: Write>(
 
 /// Writes what is found until a moment: what happened since another one, or if there is none, the routes that hold; and then `E|LINES`. A
 /// refusal is the last line.
-pub(crate) fn write_search<A: RouteArchive, W: Write, E: Write>(
+pub(crate) fn write_search<A: RouteSource, W: Write, E: Write>(
     alloc: Global,
     archive: &mut A,
     search: &Search,

@@ -13,12 +13,14 @@ use crate::made::{BLOCKS, empty_archive, load};
 use crate::signals::Signals;
 use disk_archive::{
     AdmitError as Refusal, Archive, AskError as Unanswered, Cursor, Descent, Errand,
-    MarkError as Unmarked, Step as Applying,
+    MarkError as Unmarked, Step as Applying, start_walk,
 };
 use disk_memory::{MemErase, MemOnce, MemSeen};
 use interleaving_core::{BatchReply, Query};
 use once_store::ShelfReader;
 use query_threads::{AdmitError, AskError, Flush, MarkError, Step, Store, Trouble, Turn};
+use route_history::ChangedCursor;
+use route_meaning::{ChangedAnswer, ChangedQuestion};
 use route_model::{Admission, Mark};
 use std::alloc::Global;
 use std::sync::Arc;
@@ -90,6 +92,8 @@ impl Store for ArmedStore {
 
     type Cursor = Cursor;
 
+    type Walk = ChangedCursor;
+
     ghost represents = { λ _ _. ⊥ };
 
     ghost pages = { λ store. (settings_of store.archive).ring };
@@ -110,6 +114,10 @@ impl Store for ArmedStore {
 
     ghost gathered = { λ _ _. Unit {0} };
 
+    ghost walks = { λ walk. walk.question };
+
+    ghost walked = { λ _ _. Unit {0} };
+
     ghost fits = { λ errand cursor. IsErrandFor cursor errand };
 
     ghost located = { λ _ _ _ _. ⊥ };
@@ -118,7 +126,11 @@ impl Store for ArmedStore {
 
     ghost stays = { λ _ _ _ _ _ _ gathered. gathered };
 
+    ghost walk_stays = { λ _ _ _ _ _ _ walked. walked };
+
     ghost reports = { λ _ _ _. ⊤ };
+
+    ghost fails = { λ _ _ _. ⊤ };
 
     ghost reopens = { λ _ _ _. ⊤ };
 
@@ -216,6 +228,21 @@ impl Store for ArmedStore {
         match errand.finish(alloc, reader, seen, cursor) {
             Ok(()) => Ok(()),
             Err(_) => Err(Trouble::Fault),
+        }
+    }
+
+    fn start_walk(alloc: Global, question: ChangedQuestion) -> ChangedCursor {
+        start_walk(alloc, question)
+    }
+
+    fn look(
+        &mut self,
+        reader: &mut ShelfReader<ArmedOnce>,
+        walk: &mut ChangedCursor,
+    ) -> Result<Option<ChangedAnswer>, AskError> {
+        match self.archive.changed_look(reader, walk) {
+            Ok(found) => Ok(found),
+            Err(refusal) => Err(refusal_of(refusal)),
         }
     }
 }

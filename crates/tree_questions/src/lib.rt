@@ -47,7 +47,7 @@ mod taking;
 mod touched;
 mod touching;
 
-pub use changed_walk::changed;
+pub use changed_walk::changed_look;
 pub use events_turns::events_turn;
 pub use events_walk::events;
 pub use rows_turns::rows_turn;

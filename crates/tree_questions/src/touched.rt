@@ -9,6 +9,7 @@ ghost use Rattle.version_model.specs.Shows.{Shows};
 ghost use Rattle.version_model.specs.Versions.{Version};
 ghost use Rattle.tsb_node.specs.Views.{PageSays};
 ghost use Rattle.tsb_walk.specs.AllVersions.{VersionsRefusal};
+ghost use Rattle.tsb_walk.specs.Inside.{KeepsInside};
 ghost use Rattle.tsb_walk.specs.Knowing.{ReadsWell, StandsKnown};
 ghost use Rattle.tsb_walk.specs.PageWays.{IsNoLeaf};
 ghost use Rattle.tsb_walk.specs.Refusals.{LookRefusal, OnlyReads};
@@ -102,6 +103,7 @@ fn take_past<O: OnceDisk + Drop>(
     ensures from { gathering.new.from ≡ gathering.old.from }
     ensures reads { (all : List Version) → StandsKnown O.OnceDisk reader.old seen.old all place.now → ReadsWell O.OnceDisk reader.new seen.new }
     ensures never { (all : List Version) → StandsKnown O.OnceDisk reader.old seen.old all place.now → (block : ℕ) → result ≡ Err (BlockError.Damaged block) → ⊥ }
+    ensures on_disk { KeepsInside O.OnceDisk reader.old → KeepsInside O.OnceDisk reader.new }
     ensures known { O.honest_seen (reader_disk reader.old) seen.old → O.known seen.new ≡ O.known seen.old }
     ensures disk { reader_disk reader.new ≡ reader_disk reader.old }
     ensures capacity { capacity_of reader.new ≡ capacity_of reader.old }
@@ -143,6 +145,7 @@ fn take_part<P: Pages, O: OnceDisk + Drop>(
     ensures blames { (all : List Version) → ReadsTree P.Pages pages.old O.OnceDisk reader.old seen.old root.now burnt all → IfErr result BlamesNone }
     ensures refused { IfErr result (VersionsRefusal (P.down pages.old)) }
     ensures same { OnlyReads P.Pages pages.old pages.new (result ≡ Err NodeError.Fault) }
+    ensures on_disk { KeepsInside O.OnceDisk reader.old → KeepsInside O.OnceDisk reader.new }
     ensures known { O.honest_seen (reader_disk reader.old) seen.old → O.known seen.new ≡ O.known seen.old }
     ensures disk { reader_disk reader.new ≡ reader_disk reader.old }
     ensures capacity { capacity_of reader.new ≡ capacity_of reader.old }
@@ -198,6 +201,7 @@ pub(crate) fn touched_keys<P: Pages, O: OnceDisk + Drop>(
     ensures blames { (all : List Version) → ReadsTree P.Pages pages.old O.OnceDisk reader.old seen.old root.now burnt all → IfErr result BlamesNone }
     ensures refused { IfErr result (VersionsRefusal (P.down pages.old)) }
     ensures same { OnlyReads P.Pages pages.old pages.new (result ≡ Err NodeError.Fault) }
+    ensures on_disk { KeepsInside O.OnceDisk reader.old → KeepsInside O.OnceDisk reader.new }
     ensures known { O.honest_seen (reader_disk reader.old) seen.old → O.known seen.new ≡ O.known seen.old }
     ensures disk { reader_disk reader.new ≡ reader_disk reader.old }
     ensures capacity { capacity_of reader.new ≡ capacity_of reader.old }

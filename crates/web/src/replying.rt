@@ -41,6 +41,7 @@ fn read_question(alloc: Global, line: &str) -> Result<Query, Unanswered>
 {
     match read_request(alloc, line) {
         Ok(Request::Question(query)) => Ok(query),
+        Ok(Request::Changed(_)) => Err(Unanswered::BadRequest),
         Ok(Request::Watermark) => Err(Unanswered::BadRequest),
         Ok(Request::Durable(_)) => Err(Unanswered::BadRequest),
         Err(RequestError::BadRequest) => Err(Unanswered::BadRequest),

@@ -124,6 +124,12 @@ status 1
 $ rha ask a history 0 1704067201 0 192.0.2.1 65001 10.0.0.0/8
 X|24|AboveWatermark|1704067201
 status 1
+$ rha ask a changed 0 1704067201 10.0.0.0/8 10.0.0.0/8
+X|24|AboveWatermark|1704067201
+status 1
+$ rha ask a changed 0 1704067200 10.0.0.0/8
+X|28|BadRequest
+status 1
 $ rha ask a at 1704067200 route 0 192.0.2.1 65001
 X|28|BadRequest
 status 1

@@ -1,7 +1,6 @@
 -- Replies to requests. Contracts of private functions alone cite this file.
 use Rattle.std.specs.Prelude.{◌≡◌, ◌≤◌, ℕ}
 use Rattle.route_meaning.specs.History.{History, settled}
-use Rattle.interleaving_core.specs.declared.query.Query.{Query}
 use Rattle.interleaving_core.specs.Does.{last_moment}
 use Rattle.interleaving_core.specs.Steps.{IsCollector}
 use Rattle.archive_calls.specs.declared.refusal.AskError.{AskError}
@@ -9,19 +8,19 @@ use Rattle.archive_calls.specs.declared.refusal.AskError.TheVariants as asks
 use Rattle.service.specs.declared.faults.Unanswered.{Unanswered}
 use Rattle.service.specs.declared.faults.Unanswered.TheVariants as whys
 use Rattle.service.specs.declared.request.Request.{Request}
-use Rattle.service.specs.declared.request.Request.TheVariants.{Question, Watermark, Durable}
+use Rattle.service.specs.declared.request.Request.TheVariants.{Question, Changed, Watermark, Durable}
 
 -- why a question isn't answered, as its line has it
 abbrev pub of_ask : AskError → Unanswered
 of_ask (asks.AboveWatermark settled) = whys.AboveWatermark settled
 of_ask (asks.Trouble trouble) = whys.Trouble trouble
 
--- why a question isn't answered: its last moment isn't below the settled watermark, which is printed, or the archive had a trouble
-abbrev pub IsUnanswered : History → Query → Unanswered → Type 0
-IsUnanswered h query whys.BadRequest = ⊥
-IsUnanswered h query (whys.AboveWatermark watermark) = (settled h ≤ last_moment query) × (watermark ≡ settled h)
-IsUnanswered h query whys.NoCollector = ⊥
-IsUnanswered h query (whys.Trouble trouble) = Unit {0}
+-- why a question with this last moment isn't answered: it isn't below the settled watermark, which is printed, or the archive had a trouble
+abbrev pub IsUnanswered : History → ℕ → Unanswered → Type 0
+IsUnanswered h moment whys.BadRequest = ⊥
+IsUnanswered h moment (whys.AboveWatermark watermark) = (settled h ≤ moment) × (watermark ≡ settled h)
+IsUnanswered h moment whys.NoCollector = ⊥
+IsUnanswered h moment (whys.Trouble trouble) = Unit {0}
 
 -- there is nothing but a trouble
 abbrev pub IsTrouble : Unanswered → Type 0
@@ -39,6 +38,7 @@ IsUncounted h collector (whys.Trouble trouble) = Unit {0}
 
 -- why there is no reply to a request
 abbrev pub IsUnreplied : History → Request → Unanswered → Type 0
-IsUnreplied h (Question query) why = IsUnanswered h query why
+IsUnreplied h (Question query) why = IsUnanswered h (last_moment query) why
+IsUnreplied h (Changed q) why = IsUnanswered h q.to why
 IsUnreplied h Watermark why = IsTrouble why
 IsUnreplied h (Durable collector) why = IsUncounted h collector why

@@ -1,7 +1,7 @@
 -- What the command that is named asks for. Contracts of private functions alone cite this file.
 use Rattle.std.specs.Prelude.{◌≡◌, ◌⊎◌, ℕ, List, Option, Some, codes}
 use Rattle.clap.specs.Walk.{Row, first_of}
-use Rattle.service.specs.CommandLines.{IsCreation, IsLoading, IsQuestion, IsServing, IsChecking, IsExamining, IsDumping, IsListing, IsComparing, IsFinding, IsNoMark, HasNoHttp, word_in}
+use Rattle.service.specs.CommandLines.{IsCreation, IsLoading, IsQuestion, IsServing, IsChecking, IsExamining, IsDumping, IsListing, IsComparing, IsFinding, IsNoMark, HasNoHttp, HasNoServer, word_in}
 use Rattle.service.specs.Listening.{IsNoListenText}
 use Rattle.service.specs.declared.invocation.Invocation.{Invocation}
 use Rattle.service.specs.declared.invocation.Invocation.TheVariants.{Create, Load, Ask, Serve, Check, Info, Dump, Peers, Diff, Find}
@@ -34,3 +34,7 @@ NamesNoListen named = (rows : List Row) × (named ≡ Some (codes "serve", rows)
 -- `serve` is named, and the text after `--http` is that of no address and port, or of those of `--listen`
 abbrev pub NamesNoHttp : Option (List ℕ × List Row) → Type 0
 NamesNoHttp named = (rows : List Row) × (named ≡ Some (codes "serve", rows)) × HasNoHttp rows
+
+-- a command is named with --connect, and its first word is that of no address and port
+abbrev pub NamesNoServer : Option (List ℕ × List Row) → Type 0
+NamesNoServer named = (name : List ℕ) × (rows : List Row) × (named ≡ Some (name, rows)) × HasNoServer rows

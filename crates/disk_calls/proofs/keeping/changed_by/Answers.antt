@@ -9,12 +9,7 @@ pub returns-in-Some-clause-answered : goal.returns-in-Some-clause-answered
 returns-in-Some-clause-answered g c =
     let a = c.args.archive.now in
     let q = c.args.question in
-    subst (λ o. IfOk c.changed_with.result (λ answer. IsHonest a → (h : History) → Holds a h → KeepsFrom a o → IsChangedAnswer (applied h) q answer.spots.items answer.more)) (sym c.in-Some.is) c.changed_with.ensures.answered
+    subst (λ o. IfOk c.walk.result (λ answer. IsHonest a → (h : History) → Holds a h → KeepsFrom a o → IsChangedAnswer (applied h) q answer.spots.items answer.more)) (sym c.in-Some.is) c.walk.ensures.answered
 
 pub returns-in-Some-clause-reads : goal.returns-in-Some-clause-reads
-returns-in-Some-clause-reads g c = λ honest h holds reads. c.changed_with.ensures.reads honest h holds (subst (λ o. KeepsFrom c.args.archive.now o) c.in-Some.is reads)
-
-pub returns-in-Some-clause-above : goal.returns-in-Some-clause-above
-returns-in-Some-clause-above g c = λ honest h holds mark reported.
-    let f = (c.changed_with.ensures.above honest h holds mark).0 reported in
-    (f.1, f.2)
+returns-in-Some-clause-reads g c = λ honest h holds reads. c.walk.ensures.reads honest h holds (subst (λ o. KeepsFrom c.args.archive.now o) c.in-Some.is reads)

@@ -2,7 +2,7 @@ use Rattle.std.proofs.Common.{◌≡◌, Result, Err}
 use Rattle.std.proofs.lemmas.Result.{IfOk-weaker}
 use Rattle.service.specs.declared.invocation.CommandError.{CommandError}
 use Rattle.service.specs.declared.invocation.Invocation.{Invocation}
-use Rattle.service.proofs.CommandLines.{IsMet, asked_by, command_met, no_http_by, no_listen_by, no_mark_by, shown_kind}
+use Rattle.service.proofs.CommandLines.{IsMet, asked_by, command_met, no_http_by, no_listen_by, no_mark_by, no_server_by, shown_kind}
 use Rattle.service.proofs.command_line.command.Goals as goal
 
 -- src/command_line.rt:195:24
@@ -29,6 +29,10 @@ returns-in-Ok-try_get_matches_from-clause-bad_listen g c = λ bad. no_listen_by 
 pub returns-in-Ok-try_get_matches_from-clause-bad_http :
     goal.returns-in-Ok-try_get_matches_from-clause-bad_http
 returns-in-Ok-try_get_matches_from-clause-bad_http g c = λ bad. no_http_by _ _ _ (record { is = c.in-Ok.ensures.app; accepted = c.in-Ok-try_get_matches_from.ensures.kinds; matches = c.in-Ok-try_get_matches_from.ensures.matches }) (c.invocation_of.ensures.bad_http bad)
+
+pub returns-in-Ok-try_get_matches_from-clause-bad_connect :
+    goal.returns-in-Ok-try_get_matches_from-clause-bad_connect
+returns-in-Ok-try_get_matches_from-clause-bad_connect g c = λ bad. no_server_by _ _ _ (record { is = c.in-Ok.ensures.app; accepted = c.in-Ok-try_get_matches_from.ensures.kinds; matches = c.in-Ok-try_get_matches_from.ensures.matches }) (c.invocation_of.ensures.bad_connect bad)
 
 err_is : (a b : CommandError) → ◌≡◌ {A = Result Invocation CommandError} (Err a) (Err b) → a ≡ b
 err_is a b e = cc

@@ -50,7 +50,7 @@ returns-in-Err g c = record {
         Refused c.in-Err.why,
         c.as_reported-in-Err.ensures.reported,
         0,
-        given_up_reported c.args.how.rule c.args.how.collector c.args.dropping.now (limits_for c.args.how (g.A.RouteArchive.most c.args.archive.now)) h up.0 _ (g.A.RouteArchive.represents c.take_in.new.archive) _ _ _ c.in-Err.why up.2 c.report_stop.ensures.reported c.in-Err.ensures.uncounted,
+        given_up_reported c.args.how.rule c.args.how.collector c.args.dropping.now (limits_for c.args.how (g.A.RouteArchive.most c.args.archive.now)) h up.0 _ (g.A.RouteSource.represents c.take_in.new.archive) _ _ _ c.in-Err.why up.2 c.report_stop.ensures.reported c.in-Err.ensures.uncounted,
         record {
           outside = λ e. ⊎_elim (λ failed. inl failed) (λ failed. inr (c.report_stop.ensures.reported.stays failed).0) (c.in-Err.ensures.outside (ap Err (same_stop c.in-Err.why e)));
           inside = λ none. c.in-Err.ensures.sound (λ e. none (ap (λ (t : FeedStop). Refused t) (err_is c.in-Err.why e)));

@@ -15,10 +15,10 @@ returns g c = record {
       let dropped = c.args.dropping.now in
       let limit : BatchLimits = limits_for c.args.how (g.A.RouteArchive.most c.args.archive.now) in
       let was = c.args.out.now in
-      let begun = reads_none rule k dropped limit h c.new-framer.result c.new-feeding.result (g.A.RouteArchive.represents c.args.archive.now) was c.new-framer.ensures.empty (c.new-feeding.ensures.begins h was represented) in
+      let begun = reads_none rule k dropped limit h c.new-framer.result c.new-feeding.result (g.A.RouteSource.represents c.args.archive.now) was c.new-framer.ensures.empty (c.new-feeding.ensures.begins h was represented) in
       let read = c.in_ok-take_stream.ensures.read rule k dropped limit h [] was begun in
       let fed =
-      all_fed rule k dropped c.left_out.result limit h read.0 c.take_stream.new.framer c.cut_of-cut.result c.take_stream.new.self c.offer_rest.new.self (g.A.RouteArchive.represents c.take_stream.new.archive) (g.A.RouteArchive.represents c.offer_rest.new.archive) was _ _ _
+      all_fed rule k dropped c.left_out.result limit h read.0 c.take_stream.new.framer c.cut_of-cut.result c.take_stream.new.self c.offer_rest.new.self (g.A.RouteSource.represents c.take_stream.new.archive) (g.A.RouteSource.represents c.offer_rest.new.archive) was _ _ _
       read.2 c.cut_of-cut.ensures.cut c.offer_rest.ensures.same (λ turns same d. c.in_ok-offer_rest.ensures.done k h turns was same d) c.report_end.ensures.reported c.left_out.ensures in
       (read.0, read.1, fed.0, fed.1);
   given_up = λ h represented. tt;
@@ -36,7 +36,7 @@ returns-in_err-take_stream-clause-given_up g c = λ h represented.
     let dropped = c.args.dropping.now in
     let limit : BatchLimits = limits_for c.args.how (g.A.RouteArchive.most c.args.archive.now) in
     let was = c.args.out.now in
-    let begun = reads_none rule k dropped limit h c.new-framer.result c.new-feeding.result (g.A.RouteArchive.represents c.args.archive.now) was c.new-framer.ensures.empty (c.new-feeding.ensures.begins h was represented) in
+    let begun = reads_none rule k dropped limit h c.new-framer.result c.new-feeding.result (g.A.RouteSource.represents c.args.archive.now) was c.new-framer.ensures.empty (c.new-feeding.ensures.begins h was represented) in
     rw p.1 (rw p.2 (c.in_err-take_stream.ensures.given_up rule k dropped limit h [] was begun))
 
 pub returns-in_err-offer_rest-clause-given_up : goal.returns-in_err-offer_rest-clause-given_up
@@ -47,12 +47,12 @@ returns-in_err-offer_rest-clause-given_up g c = λ h represented.
     let dropped = c.args.dropping.now in
     let limit : BatchLimits = limits_for c.args.how (g.A.RouteArchive.most c.args.archive.now) in
     let was = c.args.out.now in
-    let begun = reads_none rule k dropped limit h c.new-framer.result c.new-feeding.result (g.A.RouteArchive.represents c.args.archive.now) was c.new-framer.ensures.empty (c.new-feeding.ensures.begins h was represented) in
+    let begun = reads_none rule k dropped limit h c.new-framer.result c.new-feeding.result (g.A.RouteSource.represents c.args.archive.now) was c.new-framer.ensures.empty (c.new-feeding.ensures.begins h was represented) in
     let read = c.in_ok-take_stream.ensures.read rule k dropped limit h [] was begun in
     let r = read.2.1.reads in
     rw p.1 (rw p.2 (
       read.0,
       read.1,
-      stops_last rule k dropped limit h read.0 _ c.take_stream.new.self (g.A.RouteArchive.represents c.take_stream.new.archive) (g.A.RouteArchive.represents c.offer_rest.new.archive) was _ _ _ r
+      stops_last rule k dropped limit h read.0 _ c.take_stream.new.self (g.A.RouteSource.represents c.take_stream.new.archive) (g.A.RouteSource.represents c.offer_rest.new.archive) was _ _ _ r
           (c.in_err-offer_rest.ensures.given_up k h (turns_for limit 0 [] r.beyond.results) was r.beyond.collector r.beyond.counted r.beyond.done),
     ))

@@ -16,7 +16,7 @@ loop-place-init g c = record {
   reads = refl;
   most = refl;
   stands = λ h represented.
-      subst (λ (n : ℕ). IsAt c.args.how (g.A.RouteArchive.most c.args.archive.now) (dropped_where c.args.how.resume (intake_in h.intakes c.args.how.feed.collector)) n h (map (λ f. record { input = f.input; report = f.report }) c.args.files.now) (map (λ f. record { input = f.input; report = f.report }) c.args.files.now) 0 (g.A.RouteArchive.represents c.args.archive.now) c.args.out.now c.args.out.now c.args.err.now c.args.err.now)
+      subst (λ (n : ℕ). IsAt c.args.how (g.A.RouteArchive.most c.args.archive.now) (dropped_where c.args.how.resume (intake_in h.intakes c.args.how.feed.collector)) n h (map (λ f. record { input = f.input; report = f.report }) c.args.files.now) (map (λ f. record { input = f.input; report = f.report }) c.args.files.now) 0 (g.A.RouteSource.represents c.args.archive.now) c.args.out.now c.args.out.now c.args.err.now c.args.err.now)
       (sym (c.dropped_where-dropping.ensures.dropped h represented)) (at_first _ _ _ h _ _ _ _ represented);
 }
 
@@ -34,7 +34,7 @@ returns-then-not-goes_on-clause-ended g c = λ h represented.
     (λ e. eqb-true (k + 1) (length c.args.files.now) e ∙ sym counted) (λ e. let other = eqb-false (k + 1) (length c.args.files.now) e in omega (arith, other, counted, test)) in
     let last : c.load_next-status.result ≡ statuses.Done → drop (k + 1) files ≡ [] = λ done. none_after k files (eqb-true (k + 1) (length c.args.files.now) (c.goes_on.ensures.ends c.if-not-goes_on.true done) ∙ sym counted) in
     inr
-    (subst (λ (t : List FileState). IsLoadedTo c.args.how (g.A.RouteArchive.most c.args.archive.now) (dropped_where c.args.how.resume (intake_in h.intakes c.args.how.feed.collector)) h files t c.load_next-status.result (g.A.RouteArchive.represents c.load_next-status.new.archive) c.args.out.now c.load_next-status.new.out c.args.err.now c.load_next-status.new.err)
+    (subst (λ (t : List FileState). IsLoadedTo c.args.how (g.A.RouteArchive.most c.args.archive.now) (dropped_where c.args.how.resume (intake_in h.intakes c.args.how.feed.collector)) h files t c.load_next-status.result (g.A.RouteSource.represents c.load_next-status.new.archive) c.args.out.now c.load_next-status.new.out c.args.err.now c.load_next-status.new.err)
     (sym (map-set (λ f. record { input = f.input; report = f.report }) c.loop-place.files k c.load_next-status.new.file))
     (ended_at c.args.how c.with_mark_if.result _ _ _ _ _ h files _ k _ _ c.load_next-status.result _ _ _ _ _ _ _ _ a there marked inv.most last (c.load_next-status.ensures.ended a.next a.represented)))
 
@@ -62,7 +62,7 @@ loop-place-preserved g c =
           let lt : k < length files = omega (arith, test, counted) in
           let there = next_file _ _ _ _ h files _ k _ _ _ _ _ _ _ a lt (file_at (λ f. record { input = f.input; report = f.report }) c.loop-place.files k c.index-files-place.result) in
           let e = c.load_next-status.ensures.ended a.next a.represented in
-          subst (λ (t : List FileState). IsAt c.args.how (g.A.RouteArchive.most c.args.archive.now) (dropped_where c.args.how.resume (intake_in h.intakes c.args.how.feed.collector)) c.load_next-status.new.dropping h files t (k + 1) (g.A.RouteArchive.represents c.load_next-status.new.archive) c.args.out.now c.load_next-status.new.out c.args.err.now c.load_next-status.new.err)
+          subst (λ (t : List FileState). IsAt c.args.how (g.A.RouteArchive.most c.args.archive.now) (dropped_where c.args.how.resume (intake_in h.intakes c.args.how.feed.collector)) c.load_next-status.new.dropping h files t (k + 1) (g.A.RouteSource.represents c.load_next-status.new.archive) c.args.out.now c.load_next-status.new.out c.args.err.now c.load_next-status.new.err)
           (sym (map-set (λ f. record { input = f.input; report = f.report }) c.loop-place.files k c.load_next-status.new.file))
           (at_next c.args.how _ _ _ _ h files _ k _ _ _ _ _ _ _ _ _ _ a lt there (e.0, e.1, done_next c.load_next-status.result c.args.how c.with_mark_if.result _ _ _ _ _ _ _ _ _ _ _ _ _ _ (c.with_mark_if.ensures.other on.0) inv.most done e.2));
     }

@@ -40,7 +40,7 @@ returns-then-collector-collectors g c = record {
           plain = c.reported.result;
           status_is = ap (λ (b : Bool). refused_if b c.reported.result) (sym c.new.ensures.held);
           ended =
-              load_nowhere c.reported.result how.feed.rule how.feed.collector c.args.dropping.now (limits_for how.feed most) _ h given.0 sums c.args.reader.now.failed (g.A.RouteArchive.represents c.args.archive.now) c.args.out.now c.args.err.now c.write_error.new.out c.reported.new.err (λ here. absurd (omega (arith, here, count, few))) represented refl c.reported.ensures.status (record { reported = c.reported.ensures.reported; quiet = c.reported.ensures.quiet })
+              load_nowhere c.reported.result how.feed.rule how.feed.collector c.args.dropping.now (limits_for how.feed most) _ h given.0 sums c.args.reader.now.failed (g.A.RouteSource.represents c.args.archive.now) c.args.out.now c.args.err.now c.write_error.new.out c.reported.new.err (λ here. absurd (omega (arith, here, count, few))) represented refl c.reported.ensures.status (record { reported = c.reported.ensures.reported; quiet = c.reported.ensures.quiet })
               (inl (rw c.from.ensures at c.write_error.ensures.line));
         },
       );
@@ -71,14 +71,14 @@ returns-in-Ok g c = record {
             counts = refl;
             left_out = refl;
             drops = c.saturating_sub-dropped.ensures;
-            held = weighed fed.2 how.strict held how.mark less how.feed.rule k c.args.dropping.now limit h fed.0 sums (g.A.RouteArchive.represents c.feed-end.new.archive) c.args.out.now c.feed-end.new.out fed.5
+            held = weighed fed.2 how.strict held how.mark less how.feed.rule k c.args.dropping.now limit h fed.0 sums (g.A.RouteSource.represents c.feed-end.new.archive) c.args.out.now c.feed-end.new.out fed.5
                 (λ past stands. subst (λ (n : ℕ). IsTrue held ↔ IsHeld how.strict how.mark c.feed-end.new.counts less n) (c.present_mark-present.ensures.present past stands) c.is_held-held.ensures.held);
           };
           plain = c.reported-in-Ok.result;
           status_is = c.refused_if.ensures.status;
           ended =
-              load_ends fed.2 c.reported-in-Ok.result how.feed.rule k c.args.dropping.now limit (mark_unless held how.mark) h fed.0 sums c.args.reader.now.failed c.feed-end.new.reader.failed (g.A.RouteArchive.represents c.feed-end.new.archive) (g.A.RouteArchive.represents c.settle.new.archive) c.args.out.now c.feed-end.new.out c.write_settled.new.out c.args.err.now c.reported-in-Ok.new.err here fed.5 fed.6
-              (subst (λ (m : Option ℕ). (past : History) → g.A.RouteArchive.represents c.feed-end.new.archive past → IsSettled (marked_if k m past).intakes (g.A.RouteArchive.represents c.settle.new.archive))
+              load_ends fed.2 c.reported-in-Ok.result how.feed.rule k c.args.dropping.now limit (mark_unless held how.mark) h fed.0 sums c.args.reader.now.failed c.feed-end.new.reader.failed (g.A.RouteSource.represents c.feed-end.new.archive) (g.A.RouteSource.represents c.settle.new.archive) c.args.out.now c.feed-end.new.out c.write_settled.new.out c.args.err.now c.reported-in-Ok.new.err here fed.5 fed.6
+              (subst (λ (m : Option ℕ). (past : History) → g.A.RouteSource.represents c.feed-end.new.archive past → IsSettled (marked_if k m past).intakes (g.A.RouteSource.represents c.settle.new.archive))
               (c.mark_after.ensures.mark ∙ ap (mark_after c.feed-end.result) c.mark_unless-mark.ensures.mark ∙ ap (λ (e : End). mark_after e (mark_unless held how.mark)) fed.3) c.in-Ok.ensures.settled)
               (λ past stands. subst (λ (n : ℕ). Reports c.feed-end.new.out c.write_settled.new.out (settled_line n)) (c.settled.ensures.settled past stands) c.write_settled.ensures.line)
               (c.reported-in-Ok.ensures.status ∙ ap (reported_as c.write_settled.new.out.failed c.args.err.now.failed) (c.status_after.ensures.status ∙ ap status_after fed.3)) (record { reported = c.reported-in-Ok.ensures.reported; quiet = c.reported-in-Ok.ensures.quiet });
@@ -113,14 +113,14 @@ returns-in-Err g c = record {
             counts = refl;
             left_out = refl;
             drops = c.saturating_sub-dropped.ensures;
-            held = weighed fed.2 how.strict held how.mark less rule k c.args.dropping.now limit h fed.0 sums (g.A.RouteArchive.represents c.feed-end.new.archive) c.args.out.now c.feed-end.new.out fed.5
+            held = weighed fed.2 how.strict held how.mark less rule k c.args.dropping.now limit h fed.0 sums (g.A.RouteSource.represents c.feed-end.new.archive) c.args.out.now c.feed-end.new.out fed.5
                 (λ past stands. subst (λ (n : ℕ). IsTrue held ↔ IsHeld how.strict how.mark c.feed-end.new.counts less n) (c.present_mark-present.ensures.present past stands) c.is_held-held.ensures.held);
           };
           plain = c.reported-in-Err.result;
           status_is = c.refused_if-in-Err.ensures.status;
           ended =
-              load_stops fed.2 c.reported-in-Err.result rule k c.args.dropping.now limit (mark_unless held how.mark) h fed.0 sums c.args.reader.now.failed c.feed-end.new.reader.failed (g.A.RouteArchive.represents c.feed-end.new.archive) (g.A.RouteArchive.represents c.settle.new.archive) c.args.out.now c.feed-end.new.out c.args.err.now c.report_trouble.new.err c.reported-in-Err.new.err (first_of c.feed-end.result c.in-Err.why) here fed.5 fed.6
-              (subst (λ (m : Option ℕ). (past : History) → g.A.RouteArchive.represents c.feed-end.new.archive past → HasNotSettled k m past (g.A.RouteArchive.represents c.settle.new.archive) (first_of c.feed-end.result c.in-Err.why))
+              load_stops fed.2 c.reported-in-Err.result rule k c.args.dropping.now limit (mark_unless held how.mark) h fed.0 sums c.args.reader.now.failed c.feed-end.new.reader.failed (g.A.RouteSource.represents c.feed-end.new.archive) (g.A.RouteSource.represents c.settle.new.archive) c.args.out.now c.feed-end.new.out c.args.err.now c.report_trouble.new.err c.reported-in-Err.new.err (first_of c.feed-end.result c.in-Err.why) here fed.5 fed.6
+              (subst (λ (m : Option ℕ). (past : History) → g.A.RouteSource.represents c.feed-end.new.archive past → HasNotSettled k m past (g.A.RouteSource.represents c.settle.new.archive) (first_of c.feed-end.result c.in-Err.why))
               (c.mark_after.ensures.mark ∙ ap (mark_after c.feed-end.result) c.mark_unless-mark.ensures.mark ∙ ap (λ (e : End). mark_after e (mark_unless held how.mark)) fed.3) (λ past stands. first_unsettled c.feed-end.result c.in-Err.why _ _ _ _ (c.in-Err.ensures.unsettled past stands)))
               c.reported-in-Err.ensures.status (record { reported = c.reported-in-Err.ensures.reported; quiet = c.reported-in-Err.ensures.quiet })
               (subst (λ (r : Refusal). ReportsError r c.args.err.now c.report_trouble.new.err) (c.from-refusal.ensures ∙ ap of_load c.first_of.ensures.first) c.report_trouble.ensures.reported);

@@ -5,6 +5,6 @@ use Rattle.service.proofs.making_room.apply_all.Given as goal
 
 abbrev pub invariant-loop : goal.invariant-loop
 invariant-loop g l = record {
-  stands : (h : History) → g.A.RouteArchive.represents l.initial.archive h → HasIntakes h.intakes (g.A.RouteArchive.represents l.archive);
+  stands : (h : History) → g.A.RouteSource.represents l.initial.archive h → HasIntakes h.intakes (g.A.RouteSource.represents l.archive);
   most : g.A.RouteArchive.most l.archive ≡ g.A.RouteArchive.most l.initial.archive;
 }

@@ -1,6 +1,7 @@
 use Rattle.std.proofs.Common.{◌∙◌, ℕ, Err, ap}
 use Rattle.route_meaning.specs.History.{History}
 use Rattle.interleaving_core.specs.declared.query.Query.{Query}
+use Rattle.interleaving_core.specs.Does.{last_moment}
 use Rattle.archive_calls.specs.Does.{IsAnswerOf}
 use Rattle.archive_calls.specs.declared.refusal.AskError.{AskError}
 use Rattle.archive_calls.specs.declared.refusal.AskError.TheVariants as asks
@@ -8,7 +9,7 @@ use Rattle.service.specs.AnswerLines.{reply_text}
 use Rattle.service.specs.inner.Asking.{of_ask, IsUnanswered}
 use Rattle.service.proofs.replying.answer_question.Goals as goal
 
-reported_above : (h : History) (query : Query) (e : AskError) → IsAnswerOf h query (Err e) → IsUnanswered h query (of_ask e)
+reported_above : (h : History) (query : Query) (e : AskError) → IsAnswerOf h query (Err e) → IsUnanswered h (last_moment query) (of_ask e)
 reported_above h query (asks.AboveWatermark mark) above = (above.1, above.0)
 reported_above h query (asks.Trouble trouble) above = tt
 

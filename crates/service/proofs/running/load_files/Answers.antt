@@ -13,7 +13,7 @@ returns g c =
         loaded_to = c.load-loaded.new.out;
         loaded_err = c.load-loaded.new.err;
         load =
-            subst (λ (how : LoadSettings). AreLoaded how (g.A.RouteArchive.most c.args.archive.now) h (map (λ f. record { input = f.input; report = f.report }) c.args.files.now) (map (λ f. record { input = f.input; report = f.report }) c.load-loaded.new.files) c.load-loaded.result (g.A.RouteArchive.represents c.load-loaded.new.archive) c.args.out.now c.load-loaded.new.out c.args.err.now c.load-loaded.new.err)
+            subst (λ (how : LoadSettings). AreLoaded how (g.A.RouteArchive.most c.args.archive.now) h (map (λ f. record { input = f.input; report = f.report }) c.args.files.now) (map (λ f. record { input = f.input; report = f.report }) c.load-loaded.new.files) c.load-loaded.result (g.A.RouteSource.represents c.load-loaded.new.archive) c.args.out.now c.load-loaded.new.out c.args.err.now c.load-loaded.new.err)
             c.settings_of.ensures.settings (c.load-loaded.ensures.ended h represented);
         written = written;
       };

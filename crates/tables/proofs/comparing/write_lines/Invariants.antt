@@ -2,4 +2,4 @@ use Rattle.route_meaning.specs.History.{History}
 use Rattle.tables.proofs.comparing.write_lines.Given as goal
 
 abbrev pub invariant-places : goal.invariant-places
-invariant-places g l = (h : History) → g.A.RouteArchive.represents l.initial.archive h → g.A.RouteArchive.represents l.archive h
+invariant-places g l = (h : History) → g.A.RouteSource.represents l.initial.archive h → g.A.RouteSource.represents l.archive h

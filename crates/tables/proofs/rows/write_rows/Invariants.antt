@@ -2,4 +2,4 @@ use Rattle.route_meaning.specs.History.{History}
 use Rattle.tables.proofs.rows.write_rows.Given as goal
 
 abbrev pub invariant-pages : goal.invariant-pages
-invariant-pages g l = (h : History) → g.A.RouteArchive.represents l.initial.archive h → g.A.RouteArchive.represents l.archive h
+invariant-pages g l = (h : History) → g.A.RouteSource.represents l.initial.archive h → g.A.RouteSource.represents l.archive h

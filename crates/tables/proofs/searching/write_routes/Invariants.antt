@@ -2,4 +2,4 @@ use Rattle.route_meaning.specs.History.{History}
 use Rattle.tables.proofs.searching.write_routes.Given as goal
 
 abbrev pub invariant-rows : goal.invariant-rows
-invariant-rows g l = (h : History) → g.A.RouteArchive.represents l.initial.archive h → g.A.RouteArchive.represents l.archive h
+invariant-rows g l = (h : History) → g.A.RouteSource.represents l.initial.archive h → g.A.RouteSource.represents l.archive h

@@ -16,6 +16,7 @@ parts-init g c = record {
   begun = omega (arith, c.new-gathering.ensures.first);
   upto = inr c.new-gathering.ensures.first;
   gathered = λ all r. c.new-gathering.ensures.nothing all;
+  on_disk = λ k. k;
   known = λ h. refl;
   disk = refl;
   capacity = refl;
@@ -36,6 +37,7 @@ parts-preserved g c =
       begun = (let on = c.in_ok-take_part.ensures.onward before in omega (arith, on, i.begun));
       upto = inl c.in_ok-take_part.ensures.upto;
       gathered = λ all r. c.in_ok-take_part.ensures.gathered all c.args.first (i.stays all r) i.begun (omega (arith, before)) (i.gathered all r);
+      on_disk = λ k. c.in_ok-take_part.ensures.on_disk (i.on_disk k);
       known = λ h. c.in_ok-take_part.ensures.known (subst (λ d. H d c.parts.seen) (sym i.disk) (i.honest.0 h)) ∙ i.known h;
       disk = c.in_ok-take_part.ensures.disk ∙ i.disk;
       capacity = c.in_ok-take_part.ensures.capacity ∙ i.capacity;
@@ -54,6 +56,9 @@ returns-clause-keys g c = λ all r.
     let past : c.args.end ≤ c.parts.gathering.at = not_before c.parts.gathering.at c.args.end c.is_before.result c.is_before.ensures c.parts-test.false in
     let t = c.in_ok-touched.ensures.keys all c.args.first (omega (arith, i.inside)) (i.gathered all r) in
     ends_at all c.args.first c.parts.gathering.at c.args.end c.args.from high keys past i.upto (subst (λ (n : ℕ). AreTouched all c.args.first c.parts.gathering.at n high keys) i.from t)
+
+pub returns-in_err-take_part-clause-on_disk : goal.returns-in_err-take_part-clause-on_disk
+returns-in_err-take_part-clause-on_disk g c k = c.take_part.ensures.on_disk (c.parts.invariant.on_disk k)
 
 pub returns-in_err-take_part-clause-blames : goal.returns-in_err-take_part-clause-blames
 returns-in_err-take_part-clause-blames g c = λ all r.

@@ -43,8 +43,8 @@ returns-in-Ok-clause-done g c = λ k h turns was place counted same d.
     let first = offer_where (ltb c.args.self.now.limit.octets (c.args.self.now.octets + (c.encoded_len-octets.result + 4))) c.args.self.now.gathered.items in
     on_ok_more _ _ _
     (c.offer_full.ensures.done k h (turns ++ first) was (c.push.ensures.same.collector ∙ c.make_room.ensures.same.collector ∙ same)
-    (subst (λ (t : FeedCounts). HasDone k h (turns ++ first) t (g.A.RouteArchive.represents c.make_room.new.archive) was c.make_room.new.out) (sym c.push.ensures.counts) room))
-    (λ e. subst (λ (t : List Turn). HasDone k h t c.offer_full.new.self.counts (g.A.RouteArchive.represents c.offer_full.new.archive) was c.offer_full.new.out)
+    (subst (λ (t : FeedCounts). HasDone k h (turns ++ first) t (g.A.RouteSource.represents c.make_room.new.archive) was c.make_room.new.out) (sym c.push.ensures.counts) room))
+    (λ e. subst (λ (t : List Turn). HasDone k h t c.offer_full.new.self.counts (g.A.RouteSource.represents c.offer_full.new.archive) was c.offer_full.new.out)
     (append_assoc turns first _ ∙ (λ i. turns ++ (offer_where (crowded i) c.args.self.now.gathered.items ++ offer_where (is_full (limits i) (now i)) (now i)))) e)
 
 pub returns-in_err-make_room-clause-given_up : goal.returns-in_err-make_room-clause-given_up
@@ -55,9 +55,9 @@ returns-in_err-make_room-clause-given_up g c = λ k h turns was place same count
     let j = waiting_with c.args.self.now.limit c.args.self.now.gathered.items c.args.admission in
     let second = offer_where (is_full c.args.self.now.limit j) j in
     rw p.1 (rw p.2
-    (subst (λ (t : List Turn). GivesUp k h t (g.A.RouteArchive.represents c.make_room.new.archive) was c.make_room.new.out c.in_err-make_room.field-0.0)
+    (subst (λ (t : List Turn). GivesUp k h t (g.A.RouteSource.represents c.make_room.new.archive) was c.make_room.new.out c.in_err-make_room.field-0.0)
     (append_assoc turns first second ∙ (λ i. turns ++ (offer_where (crowded i) c.args.self.now.gathered.items ++ second)))
-    (gives_more k h (turns ++ first) second (g.A.RouteArchive.represents c.make_room.new.archive) was _ _ (c.in_err-make_room.ensures.given_up k h turns was same counted d))))
+    (gives_more k h (turns ++ first) second (g.A.RouteSource.represents c.make_room.new.archive) was _ _ (c.in_err-make_room.ensures.given_up k h turns was same counted d))))
 
 pub returns-in-Ok-clause-given_up : goal.returns-in-Ok-clause-given_up
 returns-in-Ok-clause-given_up g c = λ k h turns was place same counted d.
@@ -74,10 +74,10 @@ returns-in-Ok-clause-given_up g c = λ k h turns was place same counted d.
     let more = counted_more c.make_room.new.self c.push.new.self c.args.admission c.encoded_len-octets.result counts c.encoded_len-octets.ensures.len c.push.ensures.same.limit fits_now c.in-Ok.ensures.gathered (c.in-Ok.ensures.octets (let most = room_few in omega (arith, fits, most))) in
     let room = c.in_ok-make_room.ensures.done k h turns was same d in
     let first = offer_where (ltb c.args.self.now.limit.octets (c.args.self.now.octets + (c.encoded_len-octets.result + 4))) c.args.self.now.gathered.items in
-    subst (λ (t : List Turn). IfErr c.offer_full.result (GivesUp k h t (g.A.RouteArchive.represents c.offer_full.new.archive) was c.offer_full.new.out))
+    subst (λ (t : List Turn). IfErr c.offer_full.result (GivesUp k h t (g.A.RouteSource.represents c.offer_full.new.archive) was c.offer_full.new.out))
     (append_assoc turns first _ ∙ (λ i. turns ++ (offer_where (crowded i) c.args.self.now.gathered.items ++ offer_where (is_full (limits i) (now i)) (now i))))
     (c.offer_full.ensures.given_up k h (turns ++ first) was (c.push.ensures.same.collector ∙ c.make_room.ensures.same.collector ∙ same) more
-    (subst (λ (t : FeedCounts). HasDone k h (turns ++ first) t (g.A.RouteArchive.represents c.make_room.new.archive) was c.make_room.new.out) (sym c.push.ensures.counts) room))
+    (subst (λ (t : FeedCounts). HasDone k h (turns ++ first) t (g.A.RouteSource.represents c.make_room.new.archive) was c.make_room.new.out) (sym c.push.ensures.counts) room))
 
 pub returns-in-Err-clause-given_up : goal.returns-in-Err-clause-given_up
 returns-in-Err-clause-given_up g c = λ k h turns was place same counted d.
@@ -85,6 +85,6 @@ returns-in-Err-clause-given_up g c = λ k h turns was place same counted d.
     let first = offer_where (ltb c.args.self.now.limit.octets (c.args.self.now.octets + (c.encoded_len-octets.result + 4))) c.args.self.now.gathered.items in
     let j = waiting_with c.args.self.now.limit c.args.self.now.gathered.items c.args.admission in
     let second = offer_where (is_full c.args.self.now.limit j) j in
-    subst (λ (t : List Turn). GivesUp k h t (g.A.RouteArchive.represents c.make_room.new.archive) was c.make_room.new.out (stops.Trouble troubles.OutOfMemory))
+    subst (λ (t : List Turn). GivesUp k h t (g.A.RouteSource.represents c.make_room.new.archive) was c.make_room.new.out (stops.Trouble troubles.OutOfMemory))
     (append_assoc turns first second ∙ (λ i. turns ++ (offer_where (crowded i) c.args.self.now.gathered.items ++ second)))
-    (gives_more k h (turns ++ first) second (g.A.RouteArchive.represents c.make_room.new.archive) was _ _ (gives_all k h (turns ++ first) c.make_room.new.self.counts (g.A.RouteArchive.represents c.make_room.new.archive) was _ (stops.Trouble troubles.OutOfMemory) tt (c.in_ok-make_room.ensures.done k h turns was same d)))
+    (gives_more k h (turns ++ first) second (g.A.RouteSource.represents c.make_room.new.archive) was _ _ (gives_all k h (turns ++ first) c.make_room.new.self.counts (g.A.RouteSource.represents c.make_room.new.archive) was _ (stops.Trouble troubles.OutOfMemory) tt (c.in_ok-make_room.ensures.done k h turns was same d)))

@@ -11,6 +11,6 @@ abbrev pub invariant-loop-item : goal.invariant-loop-item
 invariant-loop-item g l = record {
   most : g.A.RouteArchive.most l.archive ≡ g.A.RouteArchive.most l.initial.archive;
   beyond :
-      (rule : WithoutHop) (c dropped : ℕ) (limit : BatchLimits) (h : History) (records : List Reported) (was : OutputState) → IsAfter rule c dropped limit h records l.initial.self (g.A.RouteArchive.represents l.initial.archive) was l.initial.out
-      → IsAfter rule c dropped limit h (records ++ map reported (take l.item-index l.items)) l.self (g.A.RouteArchive.represents l.archive) was l.out;
+      (rule : WithoutHop) (c dropped : ℕ) (limit : BatchLimits) (h : History) (records : List Reported) (was : OutputState) → IsAfter rule c dropped limit h records l.initial.self (g.A.RouteSource.represents l.initial.archive) was l.initial.out
+      → IsAfter rule c dropped limit h (records ++ map reported (take l.item-index l.items)) l.self (g.A.RouteSource.represents l.archive) was l.out;
 }

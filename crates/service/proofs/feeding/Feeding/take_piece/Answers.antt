@@ -31,7 +31,7 @@ returns-in-Err g c = record {
   inside = λ e. absurd cc;
   most = refl;
   given_up = λ rule k dropped limit h bytes was r.
-      within_more rule k dropped limit h bytes c.args.piece.now (g.A.RouteArchive.represents c.args.archive.now) was _ (stops.Trouble troubles.OutOfMemory) (stops_after rule k dropped limit h bytes c.args.framer.now c.args.self.now (g.A.RouteArchive.represents c.args.archive.now) was _ (stops.Trouble troubles.OutOfMemory) (λ made. tt) r);
+      within_more rule k dropped limit h bytes c.args.piece.now (g.A.RouteSource.represents c.args.archive.now) was _ (stops.Trouble troubles.OutOfMemory) (stops_after rule k dropped limit h bytes c.args.framer.now c.args.self.now (g.A.RouteSource.represents c.args.archive.now) was _ (stops.Trouble troubles.OutOfMemory) (λ made. tt) r);
 }
 
 pub returns-in_err-take_all-clause-given_up : goal.returns-in_err-take_all-clause-given_up
@@ -45,4 +45,4 @@ returns-in_err-take_all-clause-given_up g c = λ rule k dropped limit h bytes wa
           (_, piece_framed bytes c.args.framer.now c.args.piece.now _ r.items c.new-items.result.items c.feed.new.out.items c.deref.result.now c.new-items.ensures.items c.deref.ensures.value ends.1 r.framed)
     ] in
     rw p.1 (rw p.2
-    (stops_within rule k dropped limit h (bytes ++ c.args.piece.now) framed.0 r.items c.deref.result.now (g.A.RouteArchive.represents c.take_all.new.archive) was _ _ framed.1 (c.in_err-take_all.ensures.given_up rule k dropped limit h (map reported r.items) was r.beyond)))
+    (stops_within rule k dropped limit h (bytes ++ c.args.piece.now) framed.0 r.items c.deref.result.now (g.A.RouteSource.represents c.take_all.new.archive) was _ _ framed.1 (c.in_err-take_all.ensures.given_up rule k dropped limit h (map reported r.items) was r.beyond)))

@@ -56,14 +56,14 @@ returns-then-has_failed-clause-given_up g c = λ rule k dropped limit h bytes wa
     taken_failed rule k dropped limit h bytes _ _ _ _ _ _ _ _ _ _ was _ _ _ c.in-Some.ensures.read (c.loop.invariant.taken rule k dropped limit h bytes was r) (λ seen s. c.in_ok-goes_on.ensures.read rule k dropped limit h seen was s)
 
 pub returns-in-None-clause-given_up : goal.returns-in-None-clause-given_up
-returns-in-None-clause-given_up g c = λ rule k dropped limit h bytes was r. taken_gives rule k dropped limit h bytes _ _ _ c.loop.self (g.A.RouteArchive.represents c.loop.archive) was _ stops.Outside (λ made. tt) (c.loop.invariant.taken rule k dropped limit h bytes was r)
+returns-in-None-clause-given_up g c = λ rule k dropped limit h bytes was r. taken_gives rule k dropped limit h bytes _ _ _ c.loop.self (g.A.RouteSource.represents c.loop.archive) was _ stops.Outside (λ made. tt) (c.loop.invariant.taken rule k dropped limit h bytes was r)
 
 pub returns-clause-given_up : goal.returns-clause-given_up
-returns-clause-given_up g c = λ rule k dropped limit h bytes was r. taken_gives rule k dropped limit h bytes _ _ _ c.loop.self (g.A.RouteArchive.represents c.loop.archive) was _ (stops.Trouble troubles.OutOfMemory) (λ made. tt) (c.loop.invariant.taken rule k dropped limit h bytes was r)
+returns-clause-given_up g c = λ rule k dropped limit h bytes was r. taken_gives rule k dropped limit h bytes _ _ _ c.loop.self (g.A.RouteSource.represents c.loop.archive) was _ (stops.Trouble troubles.OutOfMemory) (λ made. tt) (c.loop.invariant.taken rule k dropped limit h bytes was r)
 
 pub returns-in_err-goes_on-clause-given_up : goal.returns-in_err-goes_on-clause-given_up
 returns-in_err-goes_on-clause-given_up g c = λ rule k dropped limit h bytes was r.
     let p = err_from_is_err_and c.from_residual.result c.from_residual.ensures.1 in
     rw p.1 (rw p.2
-    (taken_piece_gives rule k dropped limit h bytes _ _ _ _ _ c.loop.self (g.A.RouteArchive.represents c.loop.archive) (g.A.RouteArchive.represents c.take_piece.new.archive) was _ _ _ c.in-Some.ensures.read (c.loop.invariant.taken rule k dropped limit h bytes was r)
+    (taken_piece_gives rule k dropped limit h bytes _ _ _ _ _ c.loop.self (g.A.RouteSource.represents c.loop.archive) (g.A.RouteSource.represents c.take_piece.new.archive) was _ _ _ c.in-Some.ensures.read (c.loop.invariant.taken rule k dropped limit h bytes was r)
     (λ seen s. c.in_err-goes_on.ensures.given_up rule k dropped limit h seen was s)))

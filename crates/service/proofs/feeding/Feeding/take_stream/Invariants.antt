@@ -12,6 +12,6 @@ invariant-loop g l = record {
   room : length l.piece ≡ 65536;
   most : g.A.RouteArchive.most l.archive ≡ g.A.RouteArchive.most l.initial.archive;
   sound : l.reader.failed ≡ l.initial.reader.failed;
-  taken : (rule : WithoutHop) (c dropped : ℕ) (limit : BatchLimits) (h : History) (bytes : List ℕ) (was : OutputState) → Reads rule c dropped limit h bytes l.initial.framer l.initial.self (g.A.RouteArchive.represents l.initial.archive) was l.initial.out
-      → Taken rule c dropped limit h bytes l.initial.reader.left l.reader.left l.framer l.self (g.A.RouteArchive.represents l.archive) was l.out;
+  taken : (rule : WithoutHop) (c dropped : ℕ) (limit : BatchLimits) (h : History) (bytes : List ℕ) (was : OutputState) → Reads rule c dropped limit h bytes l.initial.framer l.initial.self (g.A.RouteSource.represents l.initial.archive) was l.initial.out
+      → Taken rule c dropped limit h bytes l.initial.reader.left l.reader.left l.framer l.self (g.A.RouteSource.represents l.archive) was l.out;
 }
