@@ -63,4 +63,4 @@ pub use reading::{
     read_table,
 };
 pub use running::{TROUBLE, ask, diff, dump, find, peers};
-pub use scope::Scope;
+pub use scope::{Scope, last_inside};

@@ -73,8 +73,9 @@ fn last_with(address: Address, length: u8) -> Prefix {
     }
 }
 
-/// The last prefix inside this one, in the order of rows.
-pub(crate) fn last_inside(prefix: &Prefix) -> Prefix {
+/// The last prefix inside this one, in the order of rows. Those inside it are the prefixes from itself to the last: any other one whose address
+/// lies in it contains it, and so comes before it.
+pub fn last_inside(prefix: &Prefix) -> Prefix {
     last_with(prefix.address(), prefix.length())
 }
 

@@ -3,16 +3,17 @@
 //!     R|.. R|.. E|2     {"rows":[{..},{..}],"more":false}
 //!     R|.. R|.. E|2     {"peers":[{..}],"more":false}, of a question for peers
 //!     A|.. M|256        {"events":[{..}],"more":true,"next":"/api/history?..&skip=256"}
+//!     C|.. M|..         {"places":[{..}],"more":true,"next":"/api/find?..&after_collector=.."}
 
 use crate::dates::date_of;
 use crate::events::event_text;
 use crate::parameters::cut;
 use crate::replying::Reply;
-use crate::rows::{peer_text, place_of, row_text};
+use crate::rows::{peer_text, place_of, place_text, row_text};
 use crate::target::{Question, Shows};
 use std::alloc::{AllocError, Global};
 
-/// The target of the rows after the row at this place.
+/// The target of the rows, or places, after this place.
 fn rows_after(alloc: Global, first: &str, text: &str) -> Result<String, AllocError> {
     let place = place_of(text);
     let (collector, peer) = (place.collector, place.peer);
@@ -106,6 +107,27 @@ fn write_peer_line(
     }
 }
 
+/// Writes what a line of places is in the body.
+fn write_place_line(
+    alloc: Global,
+    body: &mut String,
+    first: &str,
+    line: &str,
+) -> Result<(), AllocError> {
+    let (letter, text) = cut(line, '|');
+    match letter {
+        "C" => {
+            let place = place_text(alloc, text)?;
+            write_object(body, place.as_str())
+        }
+        "M" => {
+            let next = rows_after(alloc, first, text)?;
+            write_more(alloc, body, &next)
+        }
+        _ => body.push_str("],\"more\":false}"),
+    }
+}
+
 /// Writes what a line of events is in the body.
 fn write_event_line(
     alloc: Global,
@@ -149,6 +171,14 @@ fn peers_body(alloc: Global, lines: &str, first: &str) -> Result<String, AllocEr
     Ok(body)
 }
 
+fn places_body(alloc: Global, lines: &str, first: &str) -> Result<String, AllocError> {
+    let mut body = String::from_str(alloc, "{\"places\":[")?;
+    for line in lines.lines() {
+        write_place_line(alloc, &mut body, first, line)?;
+    }
+    Ok(body)
+}
+
 fn events_body(alloc: Global, lines: &str, first: &str) -> Result<String, AllocError> {
     let mut body = String::from_str(alloc, "{\"events\":[")?;
     for line in lines.lines() {
@@ -164,11 +194,12 @@ pub(crate) fn body_of(
     question: &Question,
 ) -> Result<String, AllocError> {
     let (lines, first) = (reply.lines.as_str(), question.first.as_str());
-    match reply.time {
-        Some(time) => match question.shows {
-            Shows::Rows => rows_body(alloc, time, lines, first),
-            Shows::Peers => peers_body(alloc, lines, first),
+    match question.shows {
+        Shows::Places => places_body(alloc, lines, first),
+        Shows::Peers => peers_body(alloc, lines, first),
+        Shows::Rows => match reply.time {
+            Some(time) => rows_body(alloc, time, lines, first),
+            None => events_body(alloc, lines, first),
         },
-        None => events_body(alloc, lines, first),
     }
 }

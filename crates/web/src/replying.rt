@@ -1,9 +1,9 @@
 //! Lines that ask questions, and their replies.
 
 ghost use Rattle.std.specs.Prelude.{◌≡◌, IfOk, IfErr, IsSome, string_bytes};
-ghost use Rattle.interleaving_core.specs.declared.query.Query.{Query};
 ghost use Rattle.board.specs.Past.{Among};
 ghost use Rattle.query_threads.specs.Seeing.{Since};
+ghost use Rattle.service.specs.declared.request.Request.{Request};
 ghost use Rattle.web.specs.Asking.{AsksQuestion, IsReplyTo, IsUnansweredTo, IsUnread, time_of};
 
 use archive_calls::Trouble;
@@ -19,29 +19,30 @@ use std::sync::atomic::{AtomicU64, Ordering};
 /// What is replied to a question.
 #[derive(Debug, Drop)]
 pub struct Reply {
-    /// The moment that is asked for, in seconds; none if the question is of a history.
+    /// The moment that is asked for, in seconds; none if the question is of a span.
     pub time: Option<u64>,
     pub lines: String,
 }
 
 /// The moment of a question of one moment.
-fn time_of(query: &Query) -> Option<u64>
-    ensures time { result ≡ time_of query.now }
+fn time_of(request: &Request) -> Option<u64>
+    ensures time { result ≡ time_of request.now }
 {
-    match query {
-        Query::Rows(question) => Some(question.moment.seconds()),
-        Query::Events(_) => None,
+    match request {
+        Request::Question(Query::Rows(question)) => Some(question.moment.seconds()),
+        Request::Question(Query::Events(_)) => None,
+        Request::Changed(_) | Request::Watermark | Request::Durable(_) => None,
     }
 }
 
 /// The question that a line asks.
-fn read_question(alloc: Global, line: &str) -> Result<Query, Unanswered>
+fn read_question(alloc: Global, line: &str) -> Result<Request, Unanswered>
     ensures found { IfOk result (AsksQuestion line.now) }
     ensures none { IfErr result (IsUnread line.now) }
 {
     match read_request(alloc, line) {
-        Ok(Request::Question(query)) => Ok(query),
-        Ok(Request::Changed(_)) => Err(Unanswered::BadRequest),
+        Ok(Request::Question(query)) => Ok(Request::Question(query)),
+        Ok(Request::Changed(question)) => Ok(Request::Changed(question)),
         Ok(Request::Watermark) => Err(Unanswered::BadRequest),
         Ok(Request::Durable(_)) => Err(Unanswered::BadRequest),
         Err(RequestError::BadRequest) => Err(Unanswered::BadRequest),
@@ -62,24 +63,16 @@ pub fn reply_to_line<A: Store, N: Named + OnDisk<A::Disk>, G: Gate + Drop>(
     requires reader { IsSome N.disk → Among reader.old pass.old.past.blocks }
     ensures reader { IsSome N.disk → Among reader.new pass.new.past.blocks }
     ensures since { Since pass.old pass.new }
-    ensures replied { IfOk result (λ reply. (query : Query) × IsReplyTo (IsSome N.disk) pass.new line.now query reply.time (string_bytes reply.lines)) }
+    ensures replied { IfOk result (λ reply. (request : Request) × IsReplyTo (IsSome N.disk) pass.new line.now request reply.time (string_bytes reply.lines)) }
     ensures refused { IfErr result (IsUnansweredTo (IsSome N.disk) shared.now.collectors pass.new line.now) }
 {
-    let query = match read_question(alloc, line) {
-        Ok(query) => query,
+    let request = match read_question(alloc, line) {
+        Ok(request) => request,
         Err(why) => return Err(why),
     };
-    let time = time_of(&query);
+    let time = time_of(&request);
     let number = numbers.fetch_add(1, Ordering::SeqCst).wrapping_add(1);
-    match reply_to(
-        rt,
-        alloc,
-        shared,
-        pass,
-        reader,
-        number,
-        Request::Question(query),
-    ) {
+    match reply_to(rt, alloc, shared, pass, reader, number, request) {
         Ok(lines) => Ok(Reply { time, lines }),
         Err(why) => Err(why),
     }

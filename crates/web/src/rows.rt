@@ -1,4 +1,4 @@
-//! Rows as objects of JSON.
+//! Rows, their peers, and places that changed, as objects of JSON.
 
 use crate::parameters::cut;
 use crate::routes::{RouteObject, route_object};
@@ -25,6 +25,15 @@ struct PeerObject<'a> {
     collector: u64,
     peer: &'a str,
     as_number: u64,
+}
+
+/// What an object says of a place that changed.
+#[derive(Debug, Drop, Serialize)]
+struct PlaceObject<'a> {
+    collector: u64,
+    peer: &'a str,
+    as_number: u64,
+    prefix: &'a str,
 }
 
 /// What a line says of the place of a row, and the text after that.
@@ -63,6 +72,22 @@ fn text_of(alloc: Global, row: &RowObject<'_>) -> Option<String> {
 
 fn peer_object(alloc: Global, peer: &PeerObject<'_>) -> Option<String> {
     serde_json::to_string(alloc, peer).ok()
+}
+
+fn place_object(alloc: Global, place: &PlaceObject<'_>) -> Option<String> {
+    serde_json::to_string(alloc, place).ok()
+}
+
+/// The object of a place that changed, whose line has this text after `C|`.
+pub(crate) fn place_text(alloc: Global, text: &str) -> Result<String, AllocError> {
+    let place = place_of(text);
+    let object = PlaceObject {
+        collector: number_of(place.collector),
+        peer: place.peer,
+        as_number: number_of(place.as_number),
+        prefix: place.prefix,
+    };
+    place_object(alloc, &object).ok_or(AllocError)
 }
 
 /// The object of the peer of a row, whose line has this text after `R|`.

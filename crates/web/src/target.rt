@@ -7,7 +7,9 @@ ghost use Rattle.std.specs.Prelude.{◌≡◌, ◌↔◌, IsTrue, codes};
 
 use crate::fault::Fault;
 use crate::parameters::{cut, parameters_in, write_value};
+use route_text::{read_prefix, write_prefix};
 use std::alloc::{AllocError, Global};
+use tables::last_inside;
 
 /// What an answer shows of the rows of a reply.
 #[derive(Clone, Copy, Debug, PartialEq, Eq)]
@@ -16,9 +18,12 @@ pub(crate) enum Shows {
     Rows,
     /// Each peer that has one.
     Peers,
+    /// Each place that changed.
+    Places,
 }
 
-/// The words of a line; one with a colon before it stands for the parameter of this name.
+/// The words of a line; one with a colon before it stands for the parameter of this name, and one with a plus sign for the last prefix inside
+/// that of the parameter.
 #[derive(Clone, Copy, Debug)]
 struct Words {
     /// Those that the line always has.
@@ -46,6 +51,16 @@ fn asking(all: &'static str, further: &'static str) -> Option<Words> {
     })
 }
 
+/// The words of the lines that ask for places that changed: those of all prefixes inside one, which in their order are the ones from itself to
+/// the last.
+fn asking_places() -> Option<Words> {
+    Some(Words {
+        all: "changed :from :to :prefix +prefix",
+        further: AFTER,
+        shows: Shows::Places,
+    })
+}
+
 /// The words of the lines that ask for peers.
 fn asking_peers() -> Option<Words> {
     Some(Words {
@@ -63,12 +78,13 @@ fn words_of(path: &str) -> Option<Words> {
         "/api/cover" => asking("at :at cover :address", AFTER),
         "/api/peer" => asking("at :at peer :collector :peer :as", AFTER),
         "/api/peers" => asking_peers(),
+        "/api/find" => asking_places(),
         "/api/history" => asking("history :from :to :collector :peer :as :prefix", SKIP),
         _ => None,
     }
 }
 
-/// A question: its line, and the target that asks it from its first row or event on.
+/// A question: its line, and the target that asks it from its first row, event or place on.
 #[derive(Debug, Drop)]
 pub(crate) struct Question {
     pub(crate) line: String,
@@ -115,6 +131,30 @@ fn goes_on(words: Words, query: &str) -> bool {
     false
 }
 
+/// Writes the last prefix inside that of a parameter.
+fn write_last(alloc: Global, out: &mut String, query: &str, name: &str) -> Result<(), Fault> {
+    let mut text = String::new(alloc);
+    write_value(alloc, &mut text, query, name)?;
+    let Ok(prefix) = read_prefix(text.as_str()) else {
+        return Err(Fault::BadQuery);
+    };
+    write_prefix(out, &last_inside(&prefix))?;
+    Ok(())
+}
+
+/// Writes a word, or what stands for it: how many parameters it is.
+fn write_word(alloc: Global, out: &mut String, word: &str, query: &str) -> Result<usize, Fault> {
+    if let Some(name) = word.strip_prefix(':') {
+        write_value(alloc, out, query, name)?;
+        return Ok(1);
+    }
+    match word.strip_prefix('+') {
+        Some(name) => write_last(alloc, out, query, name)?,
+        None => out.push_str(word)?,
+    }
+    Ok(0)
+}
+
 /// Writes words with spaces between, and for parameters their values: how many of these there are.
 fn write_words(alloc: Global, out: &mut String, words: &str, query: &str) -> Result<usize, Fault> {
     let mut values = 0usize;
@@ -122,13 +162,8 @@ fn write_words(alloc: Global, out: &mut String, words: &str, query: &str) -> Res
         if !out.is_empty() {
             out.push(' ')?;
         }
-        match word.strip_prefix(':') {
-            Some(name) => {
-                write_value(alloc, out, query, name)?;
-                values = values.saturating_add(1);
-            }
-            None => out.push_str(word)?,
-        }
+        let written = write_word(alloc, out, word, query)?;
+        values = values.saturating_add(written);
     }
     Ok(values)
 }

@@ -10,7 +10,7 @@ pub(crate) struct Conversation {
 }
 
 /// Connections to one archive, one after another, each of which ends as its client or a request asks.
-pub(crate) const CONVERSATIONS: [Conversation; 33] = [
+pub(crate) const CONVERSATIONS: [Conversation; 35] = [
     Conversation {
         sent: b"GET /api/info HTTP/1.1\r\nHost: x\r\n\r\n",
         answers: 1,
@@ -156,6 +156,26 @@ pub(crate) const CONVERSATIONS: [Conversation; 33] = [
         ],
     },
     Conversation {
+        sent: b"GET /api/find?from=2024-01-01T00:00:01Z&to=1704067201&prefix=0.0.0.0%2f0 HTTP/1.1\r\nHost: x\r\n\r\n",
+        answers: 1,
+        each: "HTTP/1.1 200 OK",
+        parts: [
+            "\r\n\r\n{\"places\":[{\"collector\":0,\"peer\":\"192.0.2.1\",\"as_number\":65001,\"prefix\":\"10.0.0.0/8\"}],\"more\":false}",
+            "",
+            "",
+        ],
+    },
+    Conversation {
+        sent: b"GET /api/find?prefix=2001:db8::/32&to=1704067200&from=0 HTTP/1.1\r\nHost: x\r\n\r\nGET /api/find?prefix=2001:db8::/32&to=1704067201&from=0&after_collector=0&after_peer=192.0.2.1&after_as=65001&after_prefix=2001:db8::/32 HTTP/1.1\r\nHost: x\r\n\r\nGET /api/find?prefix=2001:db8::/33&to=1704067201&from=0 HTTP/1.1\r\nHost: x\r\n\r\nGET /api/find?prefix=10.0.0.0/8&to=1704067202&from=0 HTTP/1.1\r\nHost: x\r\n\r\n",
+        answers: 4,
+        each: "HTTP/1.1 ",
+        parts: [
+            "\"prefix\":\"2001:db8::/32\"}],\"more\":false}HTTP/1.1 200 OK",
+            "{\"places\":[],\"more\":false}HTTP/1.1 200 OK",
+            "{\"places\":[],\"more\":false}HTTP/1.1 409 Conflict",
+        ],
+    },
+    Conversation {
         sent: b"GET /? HTTP/1.1\r\nHost: x\r\n\r\nGET /api/all?at=0 HTTP/1.1\r\nHost: x\r\n\r\nGET /api/prefix/?at=0&prefix=10.0.0.0/8 HTTP/1.1\r\nHost: x\r\n\r\nGET http://x/api/info HTTP/1.1\r\nHost: x\r\n\r\nGET /api/Info HTTP/1.1\r\nHost: x\r\n\r\n",
         answers: 5,
         each: "HTTP/1.1 404 Not Found\r\n",
@@ -166,8 +186,8 @@ pub(crate) const CONVERSATIONS: [Conversation; 33] = [
         ],
     },
     Conversation {
-        sent: b"GET /api/prefix HTTP/1.1\r\nHost: x\r\n\r\nGET /api/prefix? HTTP/1.1\r\nHost: x\r\n\r\nGET /api/prefix?at=0 HTTP/1.1\r\nHost: x\r\n\r\nGET /api/prefix?at=0&prefix=10.0.0.0/8&x=1 HTTP/1.1\r\nHost: x\r\n\r\nGET /api/prefix?at=0&prefix=10.0.0.0/8&at=0 HTTP/1.1\r\nHost: x\r\n\r\nGET /api/prefix?at=0&prefix=10.0.0.0/8& HTTP/1.1\r\nHost: x\r\n\r\nGET /api/prefix?at=0%20all&prefix=10.0.0.0/8 HTTP/1.1\r\nHost: x\r\n\r\nGET /api/prefix?at=0&prefix=10.0.0.0/8%20after%200%20192.0.2.1%2065001%2010.0.0.0/8 HTTP/1.1\r\nHost: x\r\n\r\nGET /api/prefix?at=0&prefix= HTTP/1.1\r\nHost: x\r\n\r\nGET /api/prefix?at=0&prefix=%ff HTTP/1.1\r\nHost: x\r\n\r\nGET /api/prefix?at=0&prefix=10.0.0.0%2 HTTP/1.1\r\nHost: x\r\n\r\nGET /api/prefix?at=0&prefix=10.0.0.0/33 HTTP/1.1\r\nHost: x\r\n\r\nGET /api/prefix?at=0&prefix=10.0.0.0/8%0a HTTP/1.1\r\nHost: x\r\n\r\nGET /api/prefix?at=0&prefix=10.0.0.0/8&after_collector=0 HTTP/1.1\r\nHost: x\r\n\r\nGET /api/route?at=0&collector=0&peer=192.0.2.1&as=65001&prefix=10.0.0.0/8&after_collector=0&after_peer=192.0.2.1&after_as=65001&after_prefix=10.0.0.0/8 HTTP/1.1\r\nHost: x\r\n\r\nGET /api/peer?at=0&collector=16&peer=192.0.2.1&as=65001 HTTP/1.1\r\nHost: x\r\n\r\nGET /api/cover?at=0&address=10.0.0.0/8 HTTP/1.1\r\nHost: x\r\n\r\nGET /api/history?from=0&to=1704067201&collector=0&peer=192.0.2.1&as=65001&prefix=10.0.0.0/8&skip=18446744073709551616 HTTP/1.1\r\nHost: x\r\n\r\nGET /api/info?at=0 HTTP/1.1\r\nHost: x\r\n\r\nGET /metrics?x HTTP/1.1\r\nHost: x\r\n\r\n",
-        answers: 20,
+        sent: b"GET /api/prefix HTTP/1.1\r\nHost: x\r\n\r\nGET /api/prefix? HTTP/1.1\r\nHost: x\r\n\r\nGET /api/prefix?at=0 HTTP/1.1\r\nHost: x\r\n\r\nGET /api/prefix?at=0&prefix=10.0.0.0/8&x=1 HTTP/1.1\r\nHost: x\r\n\r\nGET /api/prefix?at=0&prefix=10.0.0.0/8&at=0 HTTP/1.1\r\nHost: x\r\n\r\nGET /api/prefix?at=0&prefix=10.0.0.0/8& HTTP/1.1\r\nHost: x\r\n\r\nGET /api/prefix?at=0%20all&prefix=10.0.0.0/8 HTTP/1.1\r\nHost: x\r\n\r\nGET /api/prefix?at=0&prefix=10.0.0.0/8%20after%200%20192.0.2.1%2065001%2010.0.0.0/8 HTTP/1.1\r\nHost: x\r\n\r\nGET /api/prefix?at=0&prefix= HTTP/1.1\r\nHost: x\r\n\r\nGET /api/prefix?at=0&prefix=%ff HTTP/1.1\r\nHost: x\r\n\r\nGET /api/prefix?at=0&prefix=10.0.0.0%2 HTTP/1.1\r\nHost: x\r\n\r\nGET /api/prefix?at=0&prefix=10.0.0.0/33 HTTP/1.1\r\nHost: x\r\n\r\nGET /api/prefix?at=0&prefix=10.0.0.0/8%0a HTTP/1.1\r\nHost: x\r\n\r\nGET /api/prefix?at=0&prefix=10.0.0.0/8&after_collector=0 HTTP/1.1\r\nHost: x\r\n\r\nGET /api/route?at=0&collector=0&peer=192.0.2.1&as=65001&prefix=10.0.0.0/8&after_collector=0&after_peer=192.0.2.1&after_as=65001&after_prefix=10.0.0.0/8 HTTP/1.1\r\nHost: x\r\n\r\nGET /api/peer?at=0&collector=16&peer=192.0.2.1&as=65001 HTTP/1.1\r\nHost: x\r\n\r\nGET /api/cover?at=0&address=10.0.0.0/8 HTTP/1.1\r\nHost: x\r\n\r\nGET /api/history?from=0&to=1704067201&collector=0&peer=192.0.2.1&as=65001&prefix=10.0.0.0/8&skip=18446744073709551616 HTTP/1.1\r\nHost: x\r\n\r\nGET /api/find?from=0&to=1704067201 HTTP/1.1\r\nHost: x\r\n\r\nGET /api/find?from=0&to=1704067201&prefix=10.0.0.0 HTTP/1.1\r\nHost: x\r\n\r\nGET /api/find?from=0&to=x&prefix=10.0.0.0/8 HTTP/1.1\r\nHost: x\r\n\r\nGET /api/find?from=0&to=1704067201&prefix=10.0.0.0/8&high=10.0.0.0/8 HTTP/1.1\r\nHost: x\r\n\r\nGET /api/info?at=0 HTTP/1.1\r\nHost: x\r\n\r\nGET /metrics?x HTTP/1.1\r\nHost: x\r\n\r\n",
+        answers: 24,
         each: "HTTP/1.1 400 Bad Request\r\n",
         parts: [
             "HTTP/1.1 400 Bad Request\r\nContent-Type: application/json\r\nContent-Length: 119\r\nCache-Control: no-store\r\nX-Content-Type-Options: nosniff\r\n\r\n{\"error\":{\"number\":28,\"name\":\"BadRequest\",\"message\":\"a parameter is unknown, missing, given twice or not of its kind\"}}",

@@ -6,7 +6,7 @@ ghost use Rattle.board.specs.Opened.{name_of};
 use crate::asked::{CONVERSATIONS, Conversation};
 use crate::be;
 use crate::made::{COLLECTORS, Stage, empty_store, give};
-use crate::pages::{ALL, answers_awaited, answers_head, count_of, ending_of, follow, refuses_head};
+use crate::pages::{answers_awaited, answers_head, count_of, ending_of, follows_all, refuses_head};
 use crate::playing::{Client, play};
 use board::{Named, Opened, Pass};
 use query_threads::{NoGate, Shared, Unpromised};
@@ -78,7 +78,7 @@ fn wrong_of<B: Named>(
     stage: &Stage<B>,
     first: &mut Pass<Unpromised<B>>,
 ) -> Option<&'static str> {
-    if follow(rt, alloc, stage, first) != Some(ALL) {
+    if !follows_all(rt, alloc, stage, first) {
         return Some("the rows of all answers");
     }
     if answers_head(rt, alloc, stage, first, 8192, "HTTP/1.1 200") != Some(true) {

@@ -9,21 +9,44 @@ use std::sync::Wait;
 use std::sync::atomic::AtomicU64;
 use web::{Ending, Status, answer_target};
 
-/// How many rows an answer has whose rest is asked for until there is none, and in how many answers.
+/// How many rows, or places, an answer has whose rest is asked for until there is none, and in how many answers.
 #[derive(Clone, Copy, Debug, PartialEq, Eq)]
-pub(crate) struct Followed {
-    pub(crate) rows: usize,
-    pub(crate) answers: usize,
+struct Followed {
+    rows: usize,
+    answers: usize,
 }
 
-/// All routes of the peer.
-const TABLE: &str = "/api/peer?at=1704067200&collector=0&peer=192.0.2.1&as=65001";
+/// A target, and what its answers have.
+#[derive(Clone, Copy, Debug)]
+struct Trail {
+    target: &'static str,
+    followed: Followed,
+}
 
-/// What they are: more than an answer has.
-pub(crate) const ALL: Followed = Followed {
-    rows: 259,
-    answers: 2,
-};
+/// All routes of the peer, and the places that changed inside two prefixes. An answer has 256 at most.
+const TRAILS: [Trail; 3] = [
+    Trail {
+        target: "/api/peer?at=1704067200&collector=0&peer=192.0.2.1&as=65001",
+        followed: Followed {
+            rows: 259,
+            answers: 2,
+        },
+    },
+    Trail {
+        target: "/api/find?from=0&to=1704067201&prefix=11.0.0.0/15",
+        followed: Followed {
+            rows: 257,
+            answers: 2,
+        },
+    },
+    Trail {
+        target: "/api/find?from=0&to=1704067201&prefix=11.0.0.0/16",
+        followed: Followed {
+            rows: 256,
+            answers: 1,
+        },
+    },
+];
 
 /// How often a text has another one.
 pub(crate) fn count_of(text: &str, part: &str) -> usize {
@@ -42,16 +65,17 @@ fn next_in(body: &str) -> Option<&str> {
 }
 
 /// Follows the answers to a target.
-pub(crate) fn follow<B: Named>(
+fn follow<B: Named>(
     rt: &impl Wait,
     alloc: Global,
     stage: &Stage<B>,
     first: &mut Pass<Unpromised<B>>,
+    asked: &str,
 ) -> Option<Followed> {
     let mut pass = stage.split(first);
     let mut reader = Reader::new(rt, alloc, stage, 8).ok()?;
     let numbers = AtomicU64::new(0);
-    let mut target = String::from_str(alloc, TABLE).ok()?;
+    let mut target = String::from_str(alloc, asked).ok()?;
     let mut rows = 0usize;
     for answers in 1..=9usize {
         let octets = target.as_bytes();
@@ -66,6 +90,21 @@ pub(crate) fn follow<B: Named>(
         target = String::from_str(alloc, next).ok()?;
     }
     None
+}
+
+/// Whether the answers of each trail have what they should.
+pub(crate) fn follows_all<B: Named>(
+    rt: &impl Wait,
+    alloc: Global,
+    stage: &Stage<B>,
+    first: &mut Pass<Unpromised<B>>,
+) -> bool {
+    for trail in &TRAILS {
+        if follow(rt, alloc, stage, first, trail.target) != Some(trail.followed) {
+            return false;
+        }
+    }
+    true
 }
 
 /// A request whose head has this many octets.
