@@ -8,4 +8,5 @@ pub mod Lines
 pub mod Answers
 pub mod Connections
 pub mod PortLaws
+pub mod Kinds
 pub mod inner

@@ -12,8 +12,9 @@ ghost use Rattle.server.specs.declared.command.Command.{Command};
 
 use crate::command::{Command, read_command};
 use crate::marking::set_mark;
+use crate::meters::Meters;
 use crate::port::Port;
-use crate::replying::{load_watermark, reply_to};
+use crate::replying::{load_watermark, reply_metered};
 use board::{Named, Pass};
 use query_threads::{Gate, OnDisk, Reader, Shared, Store};
 use route_model::Mark;
@@ -21,7 +22,7 @@ use service::{Output, Refusal, Request, RequestError, write_refusal};
 use std::alloc::Global;
 use std::io::Write;
 use std::sync::Wait;
-use std::sync::atomic::{AtomicU64, Ordering};
+use std::time::Clock;
 
 /// What a connection does after a line.
 #[derive(Clone, Copy, Debug, PartialEq, Eq)]
@@ -48,16 +49,6 @@ fn refusal_of(why: RequestError) -> Refusal
     }
 }
 
-/// The number of a question: the first has 1. Other requests have 0.
-fn number_of(numbers: &AtomicU64, request: &Request) -> u64 {
-    match request {
-        Request::Question(_) | Request::Changed(_) => {
-            numbers.fetch_add(1, Ordering::SeqCst).wrapping_add(1)
-        }
-        Request::Watermark | Request::Durable(_) => 0,
-    }
-}
-
 /// Writes a letter, a bar, the number and LF.
 fn write_number_line<W: Write>(out: &mut Output<W>, letter: &str, number: u64)
     ensures line { Reports out.old out.new (number_line letter.now number) }
@@ -70,12 +61,12 @@ fn write_number_line<W: Write>(out: &mut Output<W>, letter: &str, number: u64)
 
 /// Answers a request: writes the lines of the reply, or the line of the refusal.
 fn answer_request<A: Store, N: Named + OnDisk<A::Disk>, G: Gate + Drop, W: Write>(
-    rt: &impl Wait,
+    rt: &(impl Wait + Clock),
     alloc: Global,
     shared: &Shared<A, N, G>,
     pass: &mut Pass<N>,
     reader: &mut Reader<A, N>,
-    numbers: &AtomicU64,
+    meters: &Meters,
     request: Request,
     out: &mut Output<W>,
 )
@@ -83,8 +74,7 @@ fn answer_request<A: Store, N: Named + OnDisk<A::Disk>, G: Gate + Drop, W: Write
     ensures reader { IsSome N.disk → Among reader.new pass.new.past.blocks }
     ensures answers { AnswersRequest (IsSome N.disk) shared.now.collectors request pass.old pass.new out.old out.new }
 {
-    let number = number_of(numbers, &request);
-    match reply_to(rt, alloc, shared, pass, reader, number, request) {
+    match reply_metered(rt, alloc, shared, pass, reader, meters, request) {
         Ok(text) => out.text(text.as_str()),
         Err(why) => write_refusal(out, &Refusal::from(why)),
     }
@@ -128,13 +118,13 @@ fn read_on(alloc: Global, port: Port, line: &[u8]) -> Result<Command, RequestErr
 
 /// Answers a line that doesn't end the connection as one of HTTP.
 fn answer_read<A: Store, N: Named + OnDisk<A::Disk>, G: Gate + Drop, W: Write>(
-    rt: &impl Wait,
+    rt: &(impl Wait + Clock),
     alloc: Global,
     shared: &Shared<A, N, G>,
     port: Port,
     pass: &mut Pass<N>,
     reader: &mut Reader<A, N>,
-    numbers: &AtomicU64,
+    meters: &Meters,
     line: &[u8],
     out: &mut Output<W>,
 ) -> Next
@@ -151,7 +141,7 @@ fn answer_read<A: Store, N: Named + OnDisk<A::Disk>, G: Gate + Drop, W: Write>(
     };
     match command {
         Command::Request(request) => {
-            answer_request(rt, alloc, shared, pass, reader, numbers, request, out);
+            answer_request(rt, alloc, shared, pass, reader, meters, request, out);
             Next::Line
         }
         Command::Mark(collector, mark) => {
@@ -173,13 +163,13 @@ fn answer_read<A: Store, N: Named + OnDisk<A::Disk>, G: Gate + Drop, W: Write>(
 /// Answers a line of a connection to a port, the line being without its end, and returns what the connection does then. A line that asks nothing
 /// there is refused, and the next one is read; but one of HTTP ends the connection if the port closes HTTP.
 pub fn answer_line<A: Store, N: Named + OnDisk<A::Disk>, G: Gate + Drop, W: Write>(
-    rt: &impl Wait,
+    rt: &(impl Wait + Clock),
     alloc: Global,
     shared: &Shared<A, N, G>,
     port: Port,
     pass: &mut Pass<N>,
     reader: &mut Reader<A, N>,
-    numbers: &AtomicU64,
+    meters: &Meters,
     line: &[u8],
     out: &mut Output<W>,
 ) -> Next
@@ -191,5 +181,5 @@ pub fn answer_line<A: Store, N: Named + OnDisk<A::Disk>, G: Gate + Drop, W: Writ
         write_refusal(out, &Refusal::BadRequest);
         return Next::Close;
     }
-    answer_read(rt, alloc, shared, port, pass, reader, numbers, line, out)
+    answer_read(rt, alloc, shared, port, pass, reader, meters, line, out)
 }

@@ -7,6 +7,7 @@ ghost use Rattle.server.specs.Connections.{EndsSo};
 ghost use Rattle.server.specs.inner.Ends.{ReportsEnd};
 
 use crate::answering::{Next, answer_line};
+use crate::meters::Meters;
 use crate::port::Port;
 use board::{Named, Pass};
 use line_reader::{Found, LineError, LineReader};
@@ -15,7 +16,7 @@ use service::{Output, Refusal, write_refusal};
 use std::alloc::Global;
 use std::io::{Read, Write};
 use std::sync::Wait;
-use std::sync::atomic::AtomicU64;
+use std::time::Clock;
 
 /// Why the lines of a connection end.
 #[derive(Clone, Copy, Debug, PartialEq, Eq)]
@@ -48,13 +49,13 @@ fn end_of<W: Write>(why: LineError, out: &mut Output<W>) -> Ending
 /// Answers the lines of a connection one after another, each written out before the next one is read, until one ends it or announces a
 /// feed. A line that is too long is refused as no request, and ends it; octets without an end are no line.
 pub fn serve_lines<A: Store, N: Named + OnDisk<A::Disk>, G: Gate + Drop, R: Read, W: Write>(
-    rt: &impl Wait,
+    rt: &(impl Wait + Clock),
     alloc: Global,
     shared: &Shared<A, N, G>,
     port: Port,
     pass: &mut Pass<N>,
     reader: &mut Reader<A, N>,
-    numbers: &AtomicU64,
+    meters: &Meters,
     lines: &mut LineReader<R>,
     out: &mut Output<W>,
 ) -> Ending
@@ -75,7 +76,7 @@ pub fn serve_lines<A: Store, N: Named + OnDisk<A::Disk>, G: Gate + Drop, R: Read
             port,
             pass,
             reader,
-            numbers,
+            meters,
             lines.line(),
             out,
         );

@@ -10,6 +10,8 @@
 //! ends the server, and one that closes HTTP ends a connection at a request line of HTTP, so that lines in what a web
 //! page makes a browser send are never read.
 //!
+//! Questions are counted by their kinds, with the time until their replies (`meters`). No reply depends on that.
+//!
 //! A connection is a theorem on octets: those that came are lines, each answered before the next, and what follows
 //! them. So replies can be neither lost nor mixed up, wherever the stream was cut.
 #![tactic(auto)]
@@ -20,6 +22,7 @@ mod command_laws;
 mod command_words;
 mod connection;
 mod marking;
+mod meters;
 mod port;
 mod port_laws;
 mod replying;
@@ -30,7 +33,8 @@ pub use command::{Command, read_command};
 pub use command_laws::lines_are_one_command;
 pub use connection::{Ending, serve_lines};
 pub use marking::{apply_all, set_mark};
+pub use meters::{KINDS, Kind, Meter, Meters};
 pub use port::Port;
 pub use port_laws::read_only_ports_change_nothing;
-pub use replying::reply_to;
+pub use replying::{reply_metered, reply_to};
 pub use troubles::trouble_of;

@@ -7,6 +7,7 @@ ghost use Rattle.interleaving_core.specs.Does.{last_moment};
 ghost use Rattle.service.specs.AnswerLines.{watermark_line, count_line};
 ghost use Rattle.server.specs.Replies.{IsAnswerOver, IsChangedOver, IsReplyOver, NamesOneOf, IsRefusedOver, IsNotBelow, SeesBy};
 
+use crate::meters::Meters;
 use crate::troubles::unanswered;
 use archive_calls::Trouble;
 use board::{Named, Pass};
@@ -16,6 +17,7 @@ use route_meaning::ChangedQuestion;
 use service::{Request, Unanswered, answer_text, changed_text, skip_of};
 use std::alloc::{AllocError, Global};
 use std::sync::Wait;
+use std::time::Clock;
 
 /// The line of a watermark.
 fn watermark_text(alloc: Global, settled: u64) -> Result<String, AllocError>
@@ -183,4 +185,28 @@ pub fn reply_to<A: Store, N: Named + OnDisk<A::Disk>, G: Gate + Drop>(
         Request::Watermark => report_watermark(alloc, shared, pass),
         Request::Durable(collector) => report_count(alloc, shared, pass, collector),
     }
+}
+
+/// What is replied to a request that was just read, as [`reply_to`] replies. A question is metered, from now until its reply.
+pub fn reply_metered<A: Store, N: Named + OnDisk<A::Disk>, G: Gate + Drop>(
+    rt: &(impl Wait + Clock),
+    alloc: Global,
+    shared: &Shared<A, N, G>,
+    pass: &mut Pass<N>,
+    reader: &mut Reader<A, N>,
+    meters: &Meters,
+    request: Request,
+) -> Result<String, Unanswered>
+    requires reader { IsSome N.disk → Among reader.old pass.old.past.blocks }
+    ensures reader { IsSome N.disk → Among reader.new pass.new.past.blocks }
+    ensures replied { IfOk result (λ text. IsReplyOver (IsSome N.disk) pass.new request (string_bytes text)) }
+    ensures found { OnOk result (NamesOneOf shared.now.collectors request) }
+    ensures refused { IfErr result (IsRefusedOver (IsSome N.disk) shared.now.collectors pass.new request) }
+    ensures sees { SeesBy request pass.old pass.new }
+    ensures not_refused { IsSome N.disk → IfErr result (IsNotBelow pass.old request) }
+{
+    let running = meters.begin(rt, &request);
+    let reply = reply_to(rt, alloc, shared, pass, reader, running.number, request);
+    meters.end(rt, &running);
+    reply
 }

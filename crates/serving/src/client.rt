@@ -12,13 +12,13 @@ ghost use Rattle.serving.specs.Clients.{IsServed, closing_after, closing_for, do
 use board::{Named, Pass};
 use line_reader::LineReader;
 use query_threads::{Gate, OnDisk, Reader, Shared, Store};
-use server::{Ending, Port, serve_lines};
+use server::{Ending, Meters, Port, serve_lines};
 use service::{End, FeedStop, Output};
 use shared_feed::feed;
 use std::alloc::Global;
 use std::io::{Read, Write};
 use std::sync::Wait;
-use std::sync::atomic::AtomicU64;
+use std::time::Clock;
 
 /// How a connection ended.
 #[derive(Clone, Copy, Debug, PartialEq, Eq)]
@@ -85,13 +85,13 @@ fn take_feed<A: Store, N: Named + OnDisk<A::Disk>, G: Gate + Drop, R: Read, W: W
 
 /// Serves a connection to a port to its end: its lines, one after another, and the feed that one of them announces, which ends it.
 pub fn serve_client<A: Store, N: Named + OnDisk<A::Disk>, G: Gate + Drop, R: Read, W: Write>(
-    rt: &impl Wait,
+    rt: &(impl Wait + Clock),
     alloc: Global,
     shared: &Shared<A, N, G>,
     port: Port,
     pass: &mut Pass<N>,
     reader: &mut Reader<A, N>,
-    numbers: &AtomicU64,
+    meters: &Meters,
     lines: &mut LineReader<R>,
     out: &mut Output<W>,
 ) -> Closing
@@ -99,7 +99,7 @@ pub fn serve_client<A: Store, N: Named + OnDisk<A::Disk>, G: Gate + Drop, R: Rea
     ensures reader { IsSome N.disk → Among reader.new pass.new.past.blocks }
     ensures served { (gave : List ℕ) × (left : Option (List ℕ)) × Consumes (R.remaining lines.old.reader) left gave × IsServed (IsSome N.disk) port shared.now.collectors shared.now.ring result (lines.old.beyond ++ gave) left pass.old out.old pass.new out.new }
 {
-    match serve_lines(rt, alloc, shared, port, pass, reader, numbers, lines, out) {
+    match serve_lines(rt, alloc, shared, port, pass, reader, meters, lines, out) {
         Ending::Done => done_unless(out.has_failed()),
         Ending::Feed(collector, limit) => {
             take_feed(rt, alloc, shared, pass, collector, limit, lines, out)

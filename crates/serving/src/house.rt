@@ -1,13 +1,14 @@
 //! What the threads of a server share beside the archive.
 
 use crate::warning::Warnings;
+use server::Meters;
 use std::sync::atomic::{AtomicBool, AtomicU64, Ordering};
 
 /// What the threads of a server signal to one another.
 #[derive(Drop)]
 pub(crate) struct Signals {
-    /// How many questions were asked.
-    pub(crate) questions: AtomicU64,
+    /// The questions that were asked.
+    pub(crate) meters: Meters,
     /// Connections whose sockets failed.
     pub(crate) failed: Warnings,
     /// Connections that couldn't be taken.
@@ -26,7 +27,7 @@ impl Signals {
     /// Of a server without workers, which takes no connections yet.
     pub(crate) fn new() -> Signals {
         Signals {
-            questions: AtomicU64::new(0),
+            meters: Meters::new(),
             failed: Warnings::new(),
             untaken: Warnings::new(),
             is_open: AtomicBool::new(false),

@@ -105,12 +105,12 @@ fn serve_link<A: Store, N: Named + OnDisk<A::Disk>, G: Gate + Drop, R: Wait + Cl
     };
     let mut socket = KeptSocket::new(link, lapse, desk.signals, idle);
     let mut out = Output::new(writer);
-    let (rt, alloc, numbers) = (desk.rt, desk.alloc, &desk.signals.questions);
+    let (rt, alloc, meters) = (desk.rt, desk.alloc, &desk.signals.meters);
     match serves {
         Serves::Lines(port) => {
             let mut lines = LineReader::new(socket);
             serve_client(
-                rt, alloc, shared, port, pass, reader, numbers, &mut lines, &mut out,
+                rt, alloc, shared, port, pass, reader, meters, &mut lines, &mut out,
             )
         }
         Serves::Web => {
@@ -120,7 +120,7 @@ fn serve_link<A: Store, N: Named + OnDisk<A::Disk>, G: Gate + Drop, R: Wait + Cl
                 shared,
                 pass,
                 reader,
-                numbers,
+                meters,
                 others,
                 &mut socket,
                 &mut out,

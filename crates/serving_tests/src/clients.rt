@@ -9,7 +9,7 @@ use crate::records::{EARLIER, FRONT, LONG_PREFIX, RIB, SKIPPED, TOO_LONG, UPDATE
 use board::{Named, Opened, Pass};
 use line_reader::LineReader;
 use query_threads::{NoGate, Reader, Shared, Unpromised};
-use server::Port;
+use server::{Meters, Port};
 use service::Output;
 use serving::{Closing, serve_client};
 use shared_archive::MemStore;
@@ -18,7 +18,7 @@ use std::io;
 use std::io::{Error, ErrorKind, Read};
 use std::marker::Brand;
 use std::sync::Wait;
-use std::sync::atomic::AtomicU64;
+use std::time::Clock;
 use test_octets::octets;
 
 type Stage<B> = Shared<MemStore, Unpromised<B>, NoGate>;
@@ -148,7 +148,7 @@ fn octets_of(alloc: Global, it: &Conversation) -> Option<Vec<u8>> {
 
 /// What a connection receives goes to `reported`. Returns how it closes.
 fn serve_sent<B: Named>(
-    rt: &impl Wait,
+    rt: &(impl Wait + Clock),
     alloc: Global,
     stage: &Stage<B>,
     first: &mut Pass<Unpromised<B>>,
@@ -157,7 +157,7 @@ fn serve_sent<B: Named>(
 ) -> Option<Closing> {
     let mut pass = stage.split(first);
     let mut reader = Reader::new(rt, alloc, stage, 1).ok()?;
-    let numbers = AtomicU64::new(0);
+    let meters = Meters::new();
     let mut lines = LineReader::new(sent);
     let mut out = Output::new(reported);
     Some(serve_client(
@@ -167,7 +167,7 @@ fn serve_sent<B: Named>(
         PORT,
         &mut pass,
         &mut reader,
-        &numbers,
+        &meters,
         &mut lines,
         &mut out,
     ))
@@ -175,7 +175,7 @@ fn serve_sent<B: Named>(
 
 /// Whether a connection to the archive that sends all of these octets receives what it should, and closes so.
 fn is_so<B: Named>(
-    rt: &impl Wait,
+    rt: &(impl Wait + Clock),
     alloc: Global,
     opened: Opened,
     store: MemStore,
@@ -197,7 +197,7 @@ fn is_so<B: Named>(
 }
 
 /// Whether a connection to an empty archive is replied what it has to be.
-fn is_replied(rt: &impl Wait, alloc: Global, it: &Conversation) -> Option<bool> {
+fn is_replied(rt: &(impl Wait + Clock), alloc: Global, it: &Conversation) -> Option<bool> {
     let store = empty_store(alloc)?;
     let all = octets_of(alloc, it)?;
     let opened = Opened::new(alloc, COLLECTORS).ok()?;

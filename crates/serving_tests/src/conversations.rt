@@ -8,13 +8,13 @@ use crate::made::{COLLECTORS, empty_store, failing_store};
 use board::{Named, Opened, Pass};
 use line_reader::LineReader;
 use query_threads::{NoGate, Reader, Shared, Unpromised};
-use server::{Ending, Port, serve_lines};
+use server::{Ending, Meters, Port, serve_lines};
 use service::Output;
 use shared_archive::MemStore;
 use std::alloc::Global;
 use std::marker::Brand;
 use std::sync::Wait;
-use std::sync::atomic::AtomicU64;
+use std::time::Clock;
 
 type Stage<B> = Shared<MemStore, Unpromised<B>, NoGate>;
 
@@ -145,7 +145,7 @@ const REFUSED: [Conversation; 2] = [
 
 /// Whether a connection receives this and ends so.
 fn is_so<B: Named>(
-    rt: &impl Wait,
+    rt: &(impl Wait + Clock),
     alloc: Global,
     stage: &Stage<B>,
     first: &mut Pass<Unpromised<B>>,
@@ -153,7 +153,7 @@ fn is_so<B: Named>(
 ) -> Option<bool> {
     let mut pass = stage.split(first);
     let mut reader = Reader::new(rt, alloc, stage, 1).ok()?;
-    let numbers = AtomicU64::new(0);
+    let meters = Meters::new();
     let mut reported = Vec::new(alloc);
     let mut lines = LineReader::new(it.sent);
     let mut out = Output::new(&mut reported);
@@ -164,7 +164,7 @@ fn is_so<B: Named>(
         it.port,
         &mut pass,
         &mut reader,
-        &numbers,
+        &meters,
         &mut lines,
         &mut out,
     );
@@ -173,7 +173,7 @@ fn is_so<B: Named>(
 
 /// How many of the connections are as they should be, before the first that isn't.
 fn count_right<B: Named>(
-    rt: &impl Wait,
+    rt: &(impl Wait + Clock),
     alloc: Global,
     stage: &Stage<B>,
     first: &mut Pass<Unpromised<B>>,
@@ -188,7 +188,7 @@ fn count_right<B: Named>(
 }
 
 fn play<B: Named>(
-    rt: &impl Wait,
+    rt: &(impl Wait + Clock),
     alloc: Global,
     opened: Opened,
     store: MemStore,
@@ -205,7 +205,7 @@ fn play<B: Named>(
 
 /// How many of the connections to an archive are as they should be.
 fn played(
-    rt: &impl Wait,
+    rt: &(impl Wait + Clock),
     alloc: Global,
     store: MemStore,
     conversations: &[Conversation],

@@ -11,10 +11,11 @@ use crate::standing::standing_of;
 use crate::target::{Asked, Question, asked_by, is_page};
 use board::{Named, Pass};
 use query_threads::{Gate, OnDisk, Reader, Shared, Store};
+use server::Meters;
 use service::Refusal;
 use std::alloc::{AllocError, Global};
 use std::sync::Wait;
-use std::sync::atomic::{AtomicU64, Ordering};
+use std::time::Clock;
 
 /// The answer with a body, if there was memory for that.
 fn answer_with(form: Form, body: Option<String>) -> Answer {
@@ -39,31 +40,30 @@ fn answer_info<A: Store, N: Named + OnDisk<A::Disk>, G: Gate + Drop>(
     }
 }
 
-/// The same in Prometheus' form, and how many questions were asked.
+/// The same in Prometheus' form, and the questions that were asked.
 fn answer_metrics<A: Store, N: Named + OnDisk<A::Disk>, G: Gate + Drop>(
     rt: &impl Wait,
     alloc: Global,
     shared: &Shared<A, N, G>,
     pass: &mut Pass<N>,
-    numbers: &AtomicU64,
+    meters: &Meters,
 ) -> Answer
     ensures same { pass.new ≡ pass.old }
 {
-    let questions = numbers.load(Ordering::SeqCst);
     match standing_of(rt, alloc, shared, pass) {
-        Ok(standing) => answer_with(Form::Metrics, standing.metrics(alloc, questions).ok()),
+        Ok(standing) => answer_with(Form::Metrics, standing.metrics(alloc, meters).ok()),
         Err(AllocError) => Answer::out_of_memory(),
     }
 }
 
 /// The reply to a question, in JSON.
 fn answer_question<A: Store, N: Named + OnDisk<A::Disk>, G: Gate + Drop>(
-    rt: &impl Wait,
+    rt: &(impl Wait + Clock),
     alloc: Global,
     shared: &Shared<A, N, G>,
     pass: &mut Pass<N>,
     reader: &mut Reader<A, N>,
-    numbers: &AtomicU64,
+    meters: &Meters,
     question: &Question,
 ) -> Answer
     requires reader { IsSome N.disk → Among reader.old pass.old.past.blocks }
@@ -71,7 +71,7 @@ fn answer_question<A: Store, N: Named + OnDisk<A::Disk>, G: Gate + Drop>(
     ensures since { Since pass.old pass.new }
 {
     let line = question.line.as_str();
-    match reply_to_line(rt, alloc, shared, pass, reader, numbers, line) {
+    match reply_to_line(rt, alloc, shared, pass, reader, meters, line) {
         Ok(reply) => {
             let body = body_of(alloc, &reply, question);
             answer_with(Form::Json, body.ok())
@@ -82,12 +82,12 @@ fn answer_question<A: Store, N: Named + OnDisk<A::Disk>, G: Gate + Drop>(
 
 /// What a target is answered that isn't the page's.
 fn answer_asked<A: Store, N: Named + OnDisk<A::Disk>, G: Gate + Drop>(
-    rt: &impl Wait,
+    rt: &(impl Wait + Clock),
     alloc: Global,
     shared: &Shared<A, N, G>,
     pass: &mut Pass<N>,
     reader: &mut Reader<A, N>,
-    numbers: &AtomicU64,
+    meters: &Meters,
     target: &[u8],
 ) -> Answer
     requires reader { IsSome N.disk → Among reader.old pass.old.past.blocks }
@@ -96,9 +96,9 @@ fn answer_asked<A: Store, N: Named + OnDisk<A::Disk>, G: Gate + Drop>(
 {
     match asked_by(alloc, target) {
         Ok(Asked::Info) => answer_info(rt, alloc, shared, pass),
-        Ok(Asked::Metrics) => answer_metrics(rt, alloc, shared, pass, numbers),
+        Ok(Asked::Metrics) => answer_metrics(rt, alloc, shared, pass, meters),
         Ok(Asked::Question(question)) => {
-            answer_question(rt, alloc, shared, pass, reader, numbers, &question)
+            answer_question(rt, alloc, shared, pass, reader, meters, &question)
         }
         Err(fault) => Answer::to_fault(alloc, fault),
     }
@@ -107,12 +107,12 @@ fn answer_asked<A: Store, N: Named + OnDisk<A::Disk>, G: Gate + Drop>(
 /// What a target is answered: a path, and after a question mark the parameters of its question. The one of / is answered by the page, and asks
 /// the archive nothing.
 pub fn answer_target<A: Store, N: Named + OnDisk<A::Disk>, G: Gate + Drop>(
-    rt: &impl Wait,
+    rt: &(impl Wait + Clock),
     alloc: Global,
     shared: &Shared<A, N, G>,
     pass: &mut Pass<N>,
     reader: &mut Reader<A, N>,
-    numbers: &AtomicU64,
+    meters: &Meters,
     target: &[u8],
 ) -> Answer
     requires reader { IsSome N.disk → Among reader.old pass.old.past.blocks }
@@ -124,6 +124,6 @@ pub fn answer_target<A: Store, N: Named + OnDisk<A::Disk>, G: Gate + Drop>(
     if is_page(target) {
         Answer::page()
     } else {
-        answer_asked(rt, alloc, shared, pass, reader, numbers, target)
+        answer_asked(rt, alloc, shared, pass, reader, meters, target)
     }
 }

@@ -12,11 +12,12 @@ use crate::head::{head_of, lacks_body};
 use crate::writing::write_answer;
 use board::{Named, Pass};
 use query_threads::{Gate, OnDisk, Reader, Shared, Store};
+use server::Meters;
 use service::Output;
 use std::alloc::Global;
 use std::io::{Read, Write};
 use std::sync::Wait;
-use std::sync::atomic::AtomicU64;
+use std::time::Clock;
 
 /// How a connection ended.
 #[derive(Clone, Copy, Debug, PartialEq, Eq)]
@@ -52,12 +53,12 @@ fn refuse<W: Write>(alloc: Global, out: &mut Output<W>, fault: Fault, has_body: 
 
 /// Answers the request at the front of the octets, once its head is whole. While others wait, the connection ends then.
 fn answer_first<A: Store, N: Named + OnDisk<A::Disk>, G: Gate + Drop, W: Write, O: Others>(
-    rt: &impl Wait,
+    rt: &(impl Wait + Clock),
     alloc: Global,
     shared: &Shared<A, N, G>,
     pass: &mut Pass<N>,
     reader: &mut Reader<A, N>,
-    numbers: &AtomicU64,
+    meters: &Meters,
     others: &O,
     octets: &[u8],
     out: &mut Output<W>,
@@ -75,7 +76,7 @@ fn answer_first<A: Store, N: Named + OnDisk<A::Disk>, G: Gate + Drop, W: Write, 
             return Next::End;
         }
     };
-    let given = answer_target(rt, alloc, shared, pass, reader, numbers, head.target);
+    let given = answer_target(rt, alloc, shared, pass, reader, meters, head.target);
     let ends = head.ends || others.wait();
     write_answer(out, &given, has_body, ends);
     if ends || out.has_failed() {
@@ -96,12 +97,12 @@ fn read_more<R: Read>(socket: &mut R, buffer: &mut Buffer) -> Option<Ending> {
 
 /// Answers the next request, or reads more of its head: how the connection ended, if it did.
 fn go_on<A: Store, N: Named + OnDisk<A::Disk>, G: Gate + Drop, R: Read, W: Write, O: Others>(
-    rt: &impl Wait,
+    rt: &(impl Wait + Clock),
     alloc: Global,
     shared: &Shared<A, N, G>,
     pass: &mut Pass<N>,
     reader: &mut Reader<A, N>,
-    numbers: &AtomicU64,
+    meters: &Meters,
     others: &O,
     socket: &mut R,
     buffer: &mut Buffer,
@@ -112,9 +113,7 @@ fn go_on<A: Store, N: Named + OnDisk<A::Disk>, G: Gate + Drop, R: Read, W: Write
     ensures since { Since pass.old pass.new }
 {
     let octets = buffer.as_slice();
-    match answer_first(
-        rt, alloc, shared, pass, reader, numbers, others, octets, out,
-    ) {
+    match answer_first(rt, alloc, shared, pass, reader, meters, others, octets, out) {
         Next::Request(len) => {
             buffer.consume(len);
             None
@@ -136,12 +135,12 @@ pub fn serve_web<
     W: Write,
     O: Others,
 >(
-    rt: &impl Wait,
+    rt: &(impl Wait + Clock),
     alloc: Global,
     shared: &Shared<A, N, G>,
     pass: &mut Pass<N>,
     reader: &mut Reader<A, N>,
-    numbers: &AtomicU64,
+    meters: &Meters,
     others: &O,
     socket: &mut R,
     out: &mut Output<W>,
@@ -158,7 +157,7 @@ pub fn serve_web<
             shared,
             pass,
             reader,
-            numbers,
+            meters,
             others,
             socket,
             &mut buffer,

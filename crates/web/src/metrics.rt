@@ -1,6 +1,7 @@
-//! How far an archive has come, in Prometheus' text form 0.0.4.
+//! How far an archive has come, and which questions were asked, in Prometheus' text form 0.0.4.
 
 use crate::standing::{Lane, Room, Standing};
+use server::{KINDS, Kind, Meters};
 use std::alloc::{AllocError, Global};
 
 /// A metric: its name, its type, and what it is.
@@ -137,9 +138,43 @@ fn write_rooms(out: &mut String, standing: &Standing) -> Result<(), AllocError> 
     write_value(out, metric, size_in(standing.blocks))
 }
 
+/// Writes what comes before the value of a kind of questions.
+fn write_kind(out: &mut String, metric: Metric, kind: Kind) -> Result<(), AllocError> {
+    out.push_str(metric.name)?;
+    out.push_str("{kind=\"")?;
+    out.push_str(kind.word())?;
+    out.push_str("\"} ")
+}
+
+/// Writes how many questions of each kind were answered, and how many seconds that took.
+fn write_questions(out: &mut String, meters: &Meters) -> Result<(), AllocError> {
+    let metric = counter(
+        "rha_questions_total",
+        "Questions that were answered or refused since the server began.",
+    );
+    write_heading(out, metric)?;
+    for kind in &KINDS {
+        let count = meters.of(*kind).count();
+        write_kind(out, metric, *kind)?;
+        writeln!(out, "{count}")?;
+    }
+    let metric = counter(
+        "rha_question_seconds_total",
+        "Seconds from the reading of these questions to their replies.",
+    );
+    write_heading(out, metric)?;
+    for kind in &KINDS {
+        let time = meters.of(*kind).time();
+        let (seconds, nanoseconds) = (time.as_secs(), time.subsec_nanos());
+        write_kind(out, metric, *kind)?;
+        writeln!(out, "{seconds}.{nanoseconds:09}")?;
+    }
+    Ok(())
+}
+
 impl Standing {
-    /// It and how many questions were asked. What isn't known while the archive isn't open is left out. Memory alone refuses it.
-    pub(crate) fn metrics(&self, alloc: Global, questions: u64) -> Result<String, AllocError> {
+    /// It and the questions that were asked. What isn't known while the archive isn't open is left out. Memory alone refuses it.
+    pub(crate) fn metrics(&self, alloc: Global, meters: &Meters) -> Result<String, AllocError> {
         let mut text = String::new(alloc);
         let metric = gauge(
             "rha_settled_seconds",
@@ -155,11 +190,7 @@ impl Standing {
         write_value(&mut text, metric, self.last)?;
         write_rooms(&mut text, self)?;
         write_collectors(&mut text, &self.collectors)?;
-        let metric = counter(
-            "rha_questions_total",
-            "Questions that were asked since the server began.",
-        );
-        write_value(&mut text, metric, Some(questions))?;
+        write_questions(&mut text, meters)?;
         Ok(text)
     }
 }

@@ -10,11 +10,11 @@ use archive_calls::Trouble;
 use board::{Named, Pass};
 use interleaving_core::Query;
 use query_threads::{Gate, OnDisk, Reader, Shared, Store};
-use server::reply_to;
+use server::{Meters, reply_metered};
 use service::{Request, RequestError, Unanswered, read_request};
 use std::alloc::Global;
 use std::sync::Wait;
-use std::sync::atomic::{AtomicU64, Ordering};
+use std::time::Clock;
 
 /// What is replied to a question.
 #[derive(Debug, Drop)]
@@ -52,12 +52,12 @@ fn read_question(alloc: Global, line: &str) -> Result<Request, Unanswered>
 
 /// What is replied to the question of a line, or why there is no reply. A line that asks no question is refused as no request.
 pub fn reply_to_line<A: Store, N: Named + OnDisk<A::Disk>, G: Gate + Drop>(
-    rt: &impl Wait,
+    rt: &(impl Wait + Clock),
     alloc: Global,
     shared: &Shared<A, N, G>,
     pass: &mut Pass<N>,
     reader: &mut Reader<A, N>,
-    numbers: &AtomicU64,
+    meters: &Meters,
     line: &str,
 ) -> Result<Reply, Unanswered>
     requires reader { IsSome N.disk → Among reader.old pass.old.past.blocks }
@@ -71,8 +71,7 @@ pub fn reply_to_line<A: Store, N: Named + OnDisk<A::Disk>, G: Gate + Drop>(
         Err(why) => return Err(why),
     };
     let time = time_of(&request);
-    let number = numbers.fetch_add(1, Ordering::SeqCst).wrapping_add(1);
-    match reply_to(rt, alloc, shared, pass, reader, number, request) {
+    match reply_metered(rt, alloc, shared, pass, reader, meters, request) {
         Ok(lines) => Ok(Reply { time, lines }),
         Err(why) => Err(why),
     }

@@ -14,6 +14,7 @@ use shared_archive::MemStore;
 use std::alloc::Global;
 use std::marker::Brand;
 use std::sync::Wait;
+use std::time::Clock;
 use web::Ending;
 
 /// Whether these octets are what a connection should receive.
@@ -31,7 +32,7 @@ fn is_right(it: &Conversation, received: &[u8]) -> bool {
 
 /// Whether a connection receives what it should where its octets come this many at a time.
 fn is_so<B: Named>(
-    rt: &impl Wait,
+    rt: &(impl Wait + Clock),
     alloc: Global,
     stage: &Stage<B>,
     first: &mut Pass<Unpromised<B>>,
@@ -50,7 +51,7 @@ fn is_so<B: Named>(
 
 /// The connections that aren't as they should be, by their places.
 fn wrong_places<B: Named>(
-    rt: &impl Wait,
+    rt: &(impl Wait + Clock),
     alloc: Global,
     stage: &Stage<B>,
     first: &mut Pass<Unpromised<B>>,
@@ -73,7 +74,7 @@ const NOT_HTTP: &[u8] = b"\r\nHEAD /api/info HTTP/2.0\r\n\r\n";
 
 /// What isn't as it should be; none if all is.
 fn wrong_of<B: Named>(
-    rt: &impl Wait,
+    rt: &(impl Wait + Clock),
     alloc: Global,
     stage: &Stage<B>,
     first: &mut Pass<Unpromised<B>>,
@@ -113,7 +114,7 @@ struct Wrong {
 }
 
 fn play_all<B: Named>(
-    rt: &impl Wait,
+    rt: &(impl Wait + Clock),
     alloc: Global,
     opened: Opened,
     store: MemStore,
@@ -134,7 +135,7 @@ fn play_all<B: Named>(
 }
 
 /// What isn't as it should be of an archive to which all records were given.
-fn played(rt: &impl Wait, alloc: Global) -> Option<Wrong> {
+fn played(rt: &(impl Wait + Clock), alloc: Global) -> Option<Wrong> {
     let store = empty_store(alloc)?;
     let opened = Opened::new(alloc, COLLECTORS).ok()?;
     play_all::<Brand>(rt, alloc, opened, store)

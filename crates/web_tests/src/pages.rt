@@ -4,9 +4,10 @@ use crate::made::Stage;
 use crate::playing::{Client, play};
 use board::{Named, Pass};
 use query_threads::{Reader, Unpromised};
+use server::Meters;
 use std::alloc::Global;
 use std::sync::Wait;
-use std::sync::atomic::AtomicU64;
+use std::time::Clock;
 use web::{Ending, Status, answer_target};
 
 /// How many rows, or places, an answer has whose rest is asked for until there is none, and in how many answers.
@@ -66,7 +67,7 @@ fn next_in(body: &str) -> Option<&str> {
 
 /// Follows the answers to a target.
 fn follow<B: Named>(
-    rt: &impl Wait,
+    rt: &(impl Wait + Clock),
     alloc: Global,
     stage: &Stage<B>,
     first: &mut Pass<Unpromised<B>>,
@@ -74,12 +75,12 @@ fn follow<B: Named>(
 ) -> Option<Followed> {
     let mut pass = stage.split(first);
     let mut reader = Reader::new(rt, alloc, stage, 8).ok()?;
-    let numbers = AtomicU64::new(0);
+    let meters = Meters::new();
     let mut target = String::from_str(alloc, asked).ok()?;
     let mut rows = 0usize;
     for answers in 1..=9usize {
         let octets = target.as_bytes();
-        let given = answer_target(rt, alloc, stage, &mut pass, &mut reader, &numbers, octets);
+        let given = answer_target(rt, alloc, stage, &mut pass, &mut reader, &meters, octets);
         if given.status != Status::Done {
             return None;
         }
@@ -94,7 +95,7 @@ fn follow<B: Named>(
 
 /// Whether the answers of each trail have what they should.
 pub(crate) fn follows_all<B: Named>(
-    rt: &impl Wait,
+    rt: &(impl Wait + Clock),
     alloc: Global,
     stage: &Stage<B>,
     first: &mut Pass<Unpromised<B>>,
@@ -119,7 +120,7 @@ fn request_of(alloc: Global, len: usize) -> Option<Vec<u8>> {
 
 /// Whether a request with a head of this many octets is answered so.
 pub(crate) fn answers_head<B: Named>(
-    rt: &impl Wait,
+    rt: &(impl Wait + Clock),
     alloc: Global,
     stage: &Stage<B>,
     first: &mut Pass<Unpromised<B>>,
@@ -139,7 +140,7 @@ pub(crate) fn answers_head<B: Named>(
 
 /// Whether a HEAD that is refused for its head has an answer without a body.
 pub(crate) fn refuses_head<B: Named>(
-    rt: &impl Wait,
+    rt: &(impl Wait + Clock),
     alloc: Global,
     stage: &Stage<B>,
     first: &mut Pass<Unpromised<B>>,
@@ -158,7 +159,7 @@ pub(crate) fn refuses_head<B: Named>(
 
 /// Whether one of two requests is answered, and ends the connection, where others wait for its worker.
 pub(crate) fn answers_awaited<B: Named>(
-    rt: &impl Wait,
+    rt: &(impl Wait + Clock),
     alloc: Global,
     stage: &Stage<B>,
     first: &mut Pass<Unpromised<B>>,
@@ -176,7 +177,7 @@ pub(crate) fn answers_awaited<B: Named>(
 
 /// How a connection ends whose client is lost after its request, or takes only this many octets.
 pub(crate) fn ending_of<B: Named>(
-    rt: &impl Wait,
+    rt: &(impl Wait + Clock),
     alloc: Global,
     stage: &Stage<B>,
     first: &mut Pass<Unpromised<B>>,

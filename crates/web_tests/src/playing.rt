@@ -3,12 +3,13 @@
 use crate::made::Stage;
 use board::{Named, Pass};
 use query_threads::{Reader, Unpromised};
+use server::Meters;
 use service::Output;
 use std::alloc::Global;
 use std::io;
 use std::io::{Error, ErrorKind, Read, Write};
 use std::sync::Wait;
-use std::sync::atomic::AtomicU64;
+use std::time::Clock;
 use web::{Ending, Others, serve_web};
 
 /// A client that sends these octets, at most this many at a time, and then ends the connection or is lost.
@@ -76,7 +77,7 @@ pub(crate) struct Played {
 
 /// Plays a connection whose client takes at most this many octets.
 pub(crate) fn play<B: Named>(
-    rt: &impl Wait,
+    rt: &(impl Wait + Clock),
     alloc: Global,
     stage: &Stage<B>,
     first: &mut Pass<Unpromised<B>>,
@@ -85,7 +86,7 @@ pub(crate) fn play<B: Named>(
 ) -> Option<Played> {
     let mut pass = stage.split(first);
     let mut reader = Reader::new(rt, alloc, stage, 8).ok()?;
-    let numbers = AtomicU64::new(0);
+    let meters = Meters::new();
     let others = Queue {
         is_awaited: client.is_awaited,
     };
@@ -100,7 +101,7 @@ pub(crate) fn play<B: Named>(
         stage,
         &mut pass,
         &mut reader,
-        &numbers,
+        &meters,
         &others,
         &mut client,
         &mut out,
