@@ -9,7 +9,7 @@ use crate::changed::count_changed;
 use crate::made::{BLOCKS, Made, Reader, made, reader_of};
 use crate::numbers::Numbers;
 use disk_archive::{AskError, Cursor, Descent, Flush, Step};
-use interleaving_core::{Answer, Machine, Query, Reach, Reply};
+use interleaving_core::{Answer, BatchReply, Machine, Query, Reach, Reply};
 use route_model::{Admission, Mark};
 use std::alloc::Global;
 use std::mem;
@@ -159,7 +159,10 @@ pub(crate) struct Both {
     pub(crate) alloc: Global,
     pub(crate) numbers: Numbers,
     pub(crate) disk: Made,
-    pub(crate) machine: Machine,
+    machine: Machine,
+    /// What each of the two collectors gave that didn't come late.
+    pub(crate) first: Vec<Admission>,
+    pub(crate) second: Vec<Admission>,
     counts: Counts,
 }
 
@@ -170,6 +173,8 @@ impl Both {
             numbers: Numbers::new(seed),
             disk: made(alloc, COLLECTORS)?,
             machine: Machine::created(alloc, COLLECTORS).ok()?,
+            first: Vec::new(alloc),
+            second: Vec::new(alloc),
             counts: NOTHING,
         })
     }
@@ -186,13 +191,28 @@ impl Both {
         }
     }
 
+    // Keeps what of a batch didn't come late.
+    fn keep(&mut self, collector: u8, batch: Vec<Admission>, reported: &BatchReply) -> Option<()> {
+        let list = if collector == 0 {
+            &mut self.first
+        } else {
+            &mut self.second
+        };
+        for (place, admission) in batch.into_iter().enumerate() {
+            if !reported.late.iter().any(|late| late.index == place) {
+                list.push(admission).ok()?;
+            }
+        }
+        Some(())
+    }
+
     // Gives both a batch of a collector, and raises most marks to the second of the clock.
     fn give(&mut self) -> Option<()> {
         let collector = self.numbers.collector();
         let batch = self.numbers.batch(self.alloc, collector)?;
         admit(&mut self.disk, collector, &batch)?;
         match self.machine.admit(collector, &batch) {
-            Ok(Reply::Taken(_)) => {}
+            Ok(Reply::Taken(reported)) => self.keep(collector, batch, &reported)?,
             _ => return None,
         }
         let mark = Mark::at(self.numbers.clock.into());
