@@ -3,11 +3,14 @@
 
 use crate::be;
 use crate::folders::{new_name, remove};
-use archive_calls::RouteArchive;
+use archive_calls::{RouteArchive, RouteSource};
 use archive_pages::Settings;
-use load_progress::{Counts, Meter, WatchedArchive};
+use progress::{Counts, Meter, RowMeter, WatchedArchive, WatchedSource};
 use route_model::Mark;
-use service::{FeedSettings, FileLoad, LoadSettings, Output, Status, WithoutHop, ask, check, load};
+use service::{
+    FeedSettings, FileLoad, LoadSettings, Output, Request, Status, WithoutHop, ask, check, load,
+    read_request,
+};
 use std::alloc::Global;
 use test_octets::octets;
 
@@ -192,9 +195,53 @@ fn is_counted(rt: &HostRuntime, folder: &str) -> Option<bool> {
     Some(are_counts(first, 6, 0) && are_counts(meter.counts(), 10, 10))
 }
 
+/// Lines that are asked one after another, and how many rows, events and places there were until then.
+const ASKED: [(&str, u64); 3] = [
+    ("at 2024-01-01T00:07:00Z all", 3),
+    (
+        "history 2024-01-01T00:00:00Z 2024-01-01T00:14:59Z 0 192.0.2.1 64496 203.0.113.0/24",
+        6,
+    ),
+    ("changed 0 1704068099 0.0.0.0/0 ffff::/16", 10),
+];
+
+/// Asks what a line asks.
+fn ask_for<A: RouteSource>(alloc: Global, source: &mut A, line: &str) -> Option<()> {
+    match read_request(alloc, line).ok()? {
+        Request::Question(query) => {
+            let _answer = source.answer(query).ok()?;
+        }
+        Request::Changed(question) => {
+            let _answer = source.changed(question).ok()?;
+        }
+        Request::Watermark | Request::Durable(_) => return None,
+    }
+    Some(())
+}
+
+/// Asks the archive of a folder. Whether what each answer has is counted.
+fn are_rows_counted(rt: &HostRuntime, folder: &str) -> Option<bool> {
+    let none: Option<&HostRuntime> = None;
+    let meter = RowMeter::new(none);
+    let archive = file_archive::open(rt.alloc(), rt, folder).ok()?;
+    let mut source = WatchedSource::new(archive, &meter);
+    for (line, rows) in &ASKED {
+        ask_for(rt.alloc(), &mut source, *line)?;
+        if meter.rows() != *rows {
+            return Some(false);
+        }
+    }
+    Some(true)
+}
+
 #[test]
-fn what_is_offered_and_applied_of_a_load_is_counted(rt: HostRuntime) {
+fn what_a_load_and_questions_have_is_counted(rt: HostRuntime) {
     let folder = made(&rt, "watched").expect(&rt, "a folder");
     be(&rt, is_counted(&rt, &folder) == Some(true), "the counts");
+    be(
+        &rt,
+        are_rows_counted(&rt, &folder) == Some(true),
+        "the rows",
+    );
     be(&rt, remove(&rt, &folder), "the folder goes");
 }

@@ -7,7 +7,7 @@ use crate::sources::Source;
 use advice::{FirstOctets, Loaded, NotedReader, Unread, advise, advise_load};
 use archive_calls::RouteArchive;
 use file_archive::FileArchive;
-use load_progress::{ClearedWriter, Meter, WatchedArchive, WatchedReader};
+use progress::{ClearedWriter, Meter, WatchedArchive, WatchedReader};
 use service::{
     FileLoad, Input, Loading, Output, load_files, report_lost, report_out_of_memory, report_outside,
 };
@@ -155,7 +155,8 @@ fn load_into<'a, 'o, E: Write>(
     let alloc = rt.alloc();
     let terminal = rt.stderr().is_terminal().then_some(rt);
     let meter = Meter::new(terminal);
-    let Ok(buffer) = BufWriter::new(alloc, ClearedWriter::new(rt.stdout(), &meter)) else {
+    let seen_line = rt.stdout().is_terminal().then_some(meter.line());
+    let Ok(buffer) = BufWriter::new(alloc, ClearedWriter::new(rt.stdout(), seen_line)) else {
         return report_out_of_memory(err);
     };
     let mut files = Vec::new(alloc);
@@ -167,7 +168,7 @@ fn load_into<'a, 'o, E: Write>(
     }
     let mut archive = WatchedArchive::new(archive, &meter);
     let mut out = Output::new(buffer);
-    let mut reported = Output::new(ClearedWriter::new(rt.stderr(), &meter));
+    let mut reported = Output::new(ClearedWriter::new(rt.stderr(), Some(meter.line())));
     let code = load_files(
         alloc,
         &mut archive,
@@ -176,7 +177,7 @@ fn load_into<'a, 'o, E: Write>(
         &mut out,
         &mut reported,
     );
-    meter.clear();
+    meter.line().clear();
     advise_loaded(rt, &archive, asked, files.as_slice(), noted, err);
     code
 }

@@ -2,8 +2,8 @@
 //! answers which routes there were at any settled past moment.
 //!
 //! Standard streams that are closed are opened on `/dev/null` before all else (`streams`). Signals keep their defaults,
-//! since the toolchain's library sets none; so a write beyond the limit on the size of files would end the program
-//! (SIGXFSZ), and the archive's files ask for that limit before each write.
+//! since the toolchain's library sets none, but for SIGPIPE, which it ignores: a write into a pipe that nobody reads fails. A write
+//! beyond the limit on the size of files would end the program (SIGXFSZ), so the archive's files ask for that limit before each write.
 //!
 //! `--wait` tries again ten times a second: three files are locked one after another, and no call waits some seconds for a
 //! lock; so processes that wait aren't queued. Which process has an archive is read in `/proc/locks`, by the device and inode of

@@ -54,10 +54,10 @@ fn ask_folder<E: Write>(
     inquiry: &Inquiry,
     err: &mut Output<E>,
 ) -> u8 {
-    let Some(mut archive) = open_to_read(rt, folder, wait, First::Nothing, err) else {
+    let Some(archive) = open_to_read(rt, folder, wait, First::Nothing, err) else {
         return inquiry.refused();
     };
-    let code = inquiry.ask(rt, &mut archive, err);
+    let (archive, code) = inquiry.ask(rt, archive, err);
     if code == inquiry.refused() {
         report_unanswered(rt.alloc(), &archive, err);
         advise_settled(rt.alloc(), &archive, inquiry, err);
@@ -73,10 +73,10 @@ fn ask_server<H: Net<Listener = TcpListener, Stream = TcpStream>, E: Write>(
     inquiry: &Inquiry,
     err: &mut Output<E>,
 ) -> u8 {
-    let Some(mut archive) = reach(rt.alloc(), host, place, err) else {
+    let Some(archive) = reach(rt.alloc(), host, place, err) else {
         return inquiry.refused();
     };
-    let code = inquiry.ask(rt, &mut archive, err);
+    let (archive, code) = inquiry.ask(rt, archive, err);
     if code == inquiry.refused() {
         report_lapse(rt.alloc(), place, &archive, err);
         advise_settled(rt.alloc(), &archive, inquiry, err);

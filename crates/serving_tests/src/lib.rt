@@ -1,4 +1,4 @@
-//! Tests of server, serving and load_progress: the lines of a connection, connections whose octets lie in memory, both ends of
+//! Tests of server, serving and progress: the lines of a connection, connections whose octets lie in memory, both ends of
 //! connections in one process, over the loopback interface and the admin socket, what ports take and how idle clients end, and
 //! the line that says how far a load has come.
 #![tactic(auto)]

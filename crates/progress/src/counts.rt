@@ -1,5 +1,6 @@
-//! What the line of progress shows.
+//! What the line of a load shows.
 
+use crate::rate::rate;
 use std::fmt;
 use std::fmt::{Display, Formatter};
 
@@ -16,15 +17,6 @@ pub struct Counts {
     pub milliseconds: u64,
 }
 
-impl Counts {
-    /// Octets read a second, 0 in the first millisecond.
-    pub fn rate(&self) -> u64 {
-        let milliseconds = self.milliseconds.max(1);
-        let whole = (self.octets / milliseconds).saturating_mul(1000);
-        whole.saturating_add((self.octets % milliseconds).saturating_mul(1000) / milliseconds)
-    }
-}
-
 impl Display for Counts {
     fn fmt<W: fmt::Write>(&self, f: &mut Formatter<W>) -> fmt::Result {
         write!(
@@ -33,7 +25,7 @@ impl Display for Counts {
             self.octets,
             self.records,
             self.applied,
-            self.rate(),
+            rate(self.octets, self.milliseconds),
         )
     }
 }

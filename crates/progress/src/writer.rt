@@ -1,19 +1,20 @@
 //! A writer that removes the line of progress before it writes.
 
-use crate::meter::Meter;
+use crate::line::Line;
 use std::io::{Eprint, Result, Write};
 use std::time::Clock;
 
-/// Writes as the writer in it, once the line of progress is gone: both may be on the same terminal.
+/// Writes as the writer in it, once the line of progress is gone, if both are on the same terminal.
 #[derive(Drop)]
 pub struct ClearedWriter<'a, W, T> {
     writer: W,
-    meter: &'a Meter<'a, T>,
+    line: Option<&'a Line<'a, T>>,
 }
 
 impl<'a, W: Write, T: Eprint + Clock> ClearedWriter<'a, W, T> {
-    pub fn new(writer: W, meter: &'a Meter<'a, T>) -> ClearedWriter<'a, W, T> {
-        ClearedWriter { writer, meter }
+    /// Without a line nothing has to go before.
+    pub fn new(writer: W, line: Option<&'a Line<'a, T>>) -> ClearedWriter<'a, W, T> {
+        ClearedWriter { writer, line }
     }
 }
 
@@ -21,7 +22,9 @@ impl<'a, W: Write, T: Eprint + Clock> Write for ClearedWriter<'a, W, T> {
     ghost contents = { λ it. W.contents it.writer };
 
     fn write(&mut self, buf: &[u8]) -> Result<usize> {
-        self.meter.clear();
+        if let Some(line) = self.line {
+            line.clear();
+        }
         self.writer.write(buf)
     }
 

@@ -1,6 +1,6 @@
 //! An archive whose calls are counted.
 
-ghost use Rattle.load_progress.specs.Watched.{watched};
+ghost use Rattle.progress.specs.Watched.{watched};
 
 use crate::applied::Applied;
 use crate::meter::Meter;
