@@ -2,13 +2,13 @@
 
 ghost use Rattle.route_meaning.specs.History.{History};
 
-use crate::ending::{end_lines, of_memory, refusal_of};
+use crate::ending::{end_lines, of_memory, refusal_of, status_of};
 use crate::form::Form;
 use crate::lines::RowWriter;
 use crate::pages::{question_after, rows_page};
 use archive_calls::{AskError, RouteSource, Trouble};
 use route_meaning::RowsQuestion;
-use service::{Output, Status, reported, write_error};
+use service::{Output, Status, write_error};
 use std::alloc::Global;
 use std::io::Write;
 
@@ -79,10 +79,10 @@ pub(crate) fn write_table<A: RouteSource, W: Write, E: Write>(
         return end_lines(alloc, ended, out, err);
     }
     match ended {
-        Ok(_) => reported(alloc, Status::Done, out, err),
+        Ok(_) => status_of(alloc, Status::Done, out, err),
         Err(why) => {
             write_error(err, &refusal_of(why));
-            reported(alloc, Status::Refused, out, err)
+            status_of(alloc, Status::Refused, out, err)
         }
     }
 }

@@ -6,6 +6,7 @@ ghost use Rattle.route_meaning.specs.History.{History};
 use crate::asking::{Manner, ask_for};
 use crate::comparing::write_differences;
 use crate::counting::write_peers;
+use crate::ending::finish;
 use crate::form::Form;
 use crate::headings::{Columns, write_heading};
 use crate::reading::{Comparison, Search, Table, moment_of};
@@ -14,7 +15,7 @@ use crate::searching::write_search;
 use archive_calls::{RouteArchive, RouteSource};
 use route_meaning::RowsQuestion;
 use route_model::Moment;
-use service::{Output, Question, ask_line, finish};
+use service::{Output, Question, ask_line};
 use std::alloc::Global;
 use std::io::Write;
 
