@@ -10,7 +10,7 @@ pub(crate) struct Conversation {
 }
 
 /// Connections to one archive, one after another, each of which ends as its client or a request asks.
-pub(crate) const CONVERSATIONS: [Conversation; 35] = [
+pub(crate) const CONVERSATIONS: [Conversation; 36] = [
     Conversation {
         sent: b"GET /api/info HTTP/1.1\r\nHost: x\r\n\r\n",
         answers: 1,
@@ -173,6 +173,16 @@ pub(crate) const CONVERSATIONS: [Conversation; 35] = [
             "\"prefix\":\"2001:db8::/32\"}],\"more\":false}HTTP/1.1 200 OK",
             "{\"places\":[],\"more\":false}HTTP/1.1 200 OK",
             "{\"places\":[],\"more\":false}HTTP/1.1 409 Conflict",
+        ],
+    },
+    Conversation {
+        sent: b"GET /metrics HTTP/1.1\r\nHost: x\r\n\r\n",
+        answers: 1,
+        each: "HTTP/1.1 200 OK",
+        parts: [
+            "\nrha_questions_total{kind=\"route\"} 1\nrha_questions_total{kind=\"prefix\"} 3\nrha_questions_total{kind=\"cover\"} 2\nrha_questions_total{kind=\"peer\"} 1\nrha_questions_total{kind=\"all\"} 2\nrha_questions_total{kind=\"history\"} 2\nrha_questions_total{kind=\"changed\"} 5\n",
+            "",
+            "",
         ],
     },
     Conversation {
