@@ -176,11 +176,11 @@ pub(crate) const CONVERSATIONS: [Conversation; 36] = [
         ],
     },
     Conversation {
-        sent: b"GET /metrics HTTP/1.1\r\nHost: x\r\n\r\n",
-        answers: 1,
-        each: "HTTP/1.1 200 OK",
+        sent: b"GET /api/find?from=0&to=1704067201&prefix=10.0.0.0/8 HTTP/1.1\r\nHost: x\r\n\r\nGET /api/find?from=0&to=1704067202&prefix=10.0.0.0/8 HTTP/1.1\r\nHost: x\r\n\r\nGET /api/find?from=0&to=1704067201&prefix=2001:db8::/32 HTTP/1.1\r\nHost: x\r\n\r\nGET /api/history?from=0&to=1704067201&collector=0&peer=192.0.2.1&as=65001&prefix=10.0.0.0/8 HTTP/1.1\r\nHost: x\r\n\r\nGET /api/peers?at=1704067200 HTTP/1.1\r\nHost: x\r\n\r\nGET /api/prefix?at=1704067202&prefix=10.0.0.0/8 HTTP/1.1\r\nHost: x\r\n\r\nGET /api/prefix?at=1704067201&prefix=10.0.0.0/8 HTTP/1.1\r\nHost: x\r\n\r\nGET /metrics HTTP/1.1\r\nHost: x\r\n\r\n",
+        answers: 8,
+        each: "HTTP/1.1 ",
         parts: [
-            "\nrha_questions_total{kind=\"route\"} 1\nrha_questions_total{kind=\"prefix\"} 3\nrha_questions_total{kind=\"cover\"} 2\nrha_questions_total{kind=\"peer\"} 1\nrha_questions_total{kind=\"all\"} 2\nrha_questions_total{kind=\"history\"} 2\nrha_questions_total{kind=\"changed\"} 5\n",
+            "\nrha_questions_total{kind=\"route\"} 0\nrha_questions_total{kind=\"prefix\"} 2\nrha_questions_total{kind=\"cover\"} 0\nrha_questions_total{kind=\"peer\"} 0\nrha_questions_total{kind=\"all\"} 1\nrha_questions_total{kind=\"history\"} 1\nrha_questions_total{kind=\"changed\"} 3\n",
             "",
             "",
         ],
