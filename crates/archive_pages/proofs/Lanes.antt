@@ -13,7 +13,7 @@ use Rattle.intake.specs.Ring.{IsRing}
 use Rattle.intake.proofs.api.Staying.{holds_same}
 use Rattle.archive_pages.specs.declared.settings.Settings.{Settings}
 use Rattle.archive_pages.specs.Places.{SamePages, ring_low, ring_of, tree_low}
-use Rattle.archive_pages.specs.Represented.{LaneStands}
+use Rattle.archive_pages.specs.Represented.{LaneRepresents}
 use Rattle.archive_pages.proofs.api.Histories.{changed_there, changed_other}
 
 -- ---- where the parts of the map lie
@@ -26,7 +26,7 @@ ring_before_tree s c lt = let le : suc c * s.ring ≤ s.collectors * s.ring = mu
 
 -- ---- lanes
 
-pub lane_framed : (s : Settings) (old new : List (List ℕ)) (c : ℕ) (lane : Lane) (i : Intake) (waits : List Admitted) → length new ≡ length old → SamePages (ring_low s c) (ring_low s c + s.ring) old new → LaneStands s old c lane i waits → LaneStands s new c lane i waits
+pub lane_framed : (s : Settings) (old new : List (List ℕ)) (c : ℕ) (lane : Lane) (i : Intake) (waits : List Admitted) → length new ≡ length old → SamePages (ring_low s c) (ring_low s c + s.ring) old new → LaneRepresents s old c lane i waits → LaneRepresents s new c lane i waits
 lane_framed s old new c lane i waits len same l = record {
   offered = l.offered;
   admitted = l.admitted;
@@ -35,12 +35,12 @@ lane_framed s old new c lane i waits len same l = record {
   holds = holds_same (length old) (ring_of s c lane) old new waits l.place same l.holds;
 }
 
-pub lane_as : (s : Settings) (pages : List (List ℕ)) (c k : ℕ) (lane lane' : Lane) (i i' : Intake) (w w' : List Admitted) → k ≡ c → lane' ≡ lane → i' ≡ i → w' ≡ w → LaneStands s pages c lane i w → LaneStands s pages k lane' i' w'
+pub lane_as : (s : Settings) (pages : List (List ℕ)) (c k : ℕ) (lane lane' : Lane) (i i' : Intake) (w w' : List Admitted) → k ≡ c → lane' ≡ lane → i' ≡ i → w' ≡ w → LaneRepresents s pages c lane i w → LaneRepresents s pages k lane' i' w'
 lane_as s pages c k lane lane' i i' w w' ck el ei ew l =
-    subst (λ n. LaneStands s pages n lane' i' w') (sym ck)
-    (subst (λ (x : Lane). LaneStands s pages c x i' w') (sym el)
-    (subst (λ (x : Intake). LaneStands s pages c lane x w') (sym ei)
-    (subst (λ (x : List Admitted). LaneStands s pages c lane i x) (sym ew) l)))
+    subst (λ n. LaneRepresents s pages n lane' i' w') (sym ck)
+    (subst (λ (x : Lane). LaneRepresents s pages c x i' w') (sym el)
+    (subst (λ (x : Intake). LaneRepresents s pages c lane x w') (sym ei)
+    (subst (λ (x : List Admitted). LaneRepresents s pages c lane i x) (sym ew) l)))
 
 got_there : {X : Type 0} (xs : List X) (c : ℕ) (x y : X) → c < length xs → slice_get (slice_set xs c x) c ≡ Some y → y ≡ x
 got_there [] c x y lt e = absurd (omega arith)
@@ -62,11 +62,11 @@ same_one o p f is c k e here there =
 -- Each lane stands after one of them was replaced.
 pub lanes_changed : (s : Settings) (old new : List (List ℕ)) (h g : History) (c : ℕ) (f : Intake → Intake) (lanes : List Lane) (lane : Lane) (i : Intake)
     → g.intakes ≡ changed c f h.intakes → slice_get h.intakes c ≡ Some i → c < length lanes
-    → ((k : ℕ) (l : Lane) (j : Intake) → slice_get lanes k ≡ Some l → slice_get h.intakes k ≡ Some j → LaneStands s old k l j (part k (waiting h)))
-    → LaneStands s new c lane (f i) (part c (waiting g))
+    → ((k : ℕ) (l : Lane) (j : Intake) → slice_get lanes k ≡ Some l → slice_get h.intakes k ≡ Some j → LaneRepresents s old k l j (part k (waiting h)))
+    → LaneRepresents s new c lane (f i) (part c (waiting g))
     → length new ≡ length old → ((k : ℕ) → k ≢ c → k < length lanes → SamePages (ring_low s k) (ring_low s k + s.ring) old new)
     → ((k : ℕ) (j : Intake) → k ≢ c → slice_get h.intakes k ≡ Some j → part k (waiting g) ≡ part k (waiting h))
-    → (k : ℕ) (l : Lane) (j : Intake) → slice_get (slice_set lanes c lane) k ≡ Some l → slice_get g.intakes k ≡ Some j → LaneStands s new k l j (part k (waiting g))
+    → (k : ℕ) (l : Lane) (j : Intake) → slice_get (slice_set lanes c lane) k ≡ Some l → slice_get g.intakes k ≡ Some j → LaneRepresents s new k l j (part k (waiting g))
 lanes_changed s old new h g c f lanes lane i is here lt stand own len same others k l j at there =
     let there' : slice_get (changed c f h.intakes) k ≡ Some j = ap (λ (x : List Intake). slice_get x k) (sym is) ∙ there in
     elim (cases_eq k c) [

@@ -6,7 +6,7 @@ ghost use Rattle.page_tx.specs.Start.{Start};
 ghost use Rattle.page_tx.specs.declared.error.PageError.TheVariants as pages_refusals;
 ghost use Rattle.route_model.specs.Admission.{Admitted};
 ghost use Rattle.archive_head.specs.declared.lane.Lane.{Lane};
-ghost use Rattle.intake.specs.Ring.{entry_octets, octets_for, size_of, IsRing, Holds, Gains, ListsAfter, Crowds};
+ghost use Rattle.intake.specs.Ring.{entry_octets, octets_for, size_of, IsRing, RingRepresents, Gains, ListsAfter, Crowds};
 ghost use Rattle.intake.specs.Calls.{OnlyReads, AppendRefusal, most_pages};
 ghost use Rattle.archive_pages.specs.Places.{ring_of};
 ghost use Rattle.archive_pages.specs.Changes.{with_lane};
@@ -75,7 +75,7 @@ fn take<P: Pages>(
 ) -> Result<Lane, IntakeError>
     requires fits { CanTake (P.homes pages.old) settings collector lane batch.now }
     ensures lane { IfOk result (λ after. after ≡ lane_with lane batch.now) }
-    ensures gains { OnOk result ((start : Start) (shown : List (List ℕ)) (waits : List Admitted) → P.shows pages.old start shown → Holds shown (ring_of settings collector lane) waits
+    ensures gains { OnOk result ((start : Start) (shown : List (List ℕ)) (waits : List Admitted) → P.shows pages.old start shown → RingRepresents shown (ring_of settings collector lane) waits
         → Gains (P.shows pages.new start) shown (ring_of settings collector (lane_with lane batch.now)) (waits ++ batch.now.timely)) }
     ensures ring { OnOk result (IsRing (P.homes pages.new) (ring_of settings collector (lane_with lane batch.now))) }
     ensures full { (result ≡ Err IntakeError.IntakeFull) ↔ (size_of (ring_of settings collector lane) < lane.used + octets_for batch.now.timely) }
@@ -116,7 +116,7 @@ pub fn give<P: Pages>(
     requires collector { collector < length head.old.lanes }
     requires fits { (lane : Lane) → HasLane head.old collector lane → CanTake (P.homes pages.old) settings collector lane batch.now }
     ensures head { OnOk result ((lane : Lane) → HasLane head.old collector lane → head.new ≡ with_lane head.old collector (lane_with lane batch.now)) }
-    ensures gains { OnOk result ((lane : Lane) → HasLane head.old collector lane → (start : Start) (shown : List (List ℕ)) (waits : List Admitted) → P.shows pages.old start shown → Holds shown (ring_of settings collector lane) waits
+    ensures gains { OnOk result ((lane : Lane) → HasLane head.old collector lane → (start : Start) (shown : List (List ℕ)) (waits : List Admitted) → P.shows pages.old start shown → RingRepresents shown (ring_of settings collector lane) waits
         → Gains (P.shows pages.new start) shown (ring_of settings collector (lane_with lane batch.now)) (waits ++ batch.now.timely)) }
     ensures ring { OnOk result ((lane : Lane) → HasLane head.old collector lane → IsRing (P.homes pages.new) (ring_of settings collector (lane_with lane batch.now))) }
     ensures full { (lane : Lane) → HasLane head.old collector lane → (result ≡ Err IntakeError.IntakeFull) ↔ (size_of (ring_of settings collector lane) < lane.used + octets_for batch.now.timely) }

@@ -44,8 +44,8 @@ grows_none o = record { tried = λ n t. t; settled = λ n b s. s }
 
 -- what was left by a call that went down
 left_done : (made : Settings) (Q : History → Type 0) (stays : Stays Q) (past : List Use) (u : Use) (call : Call) (site : Site) (h : History) (left : Left) → IsCall call → ((ss : List _) (rs : List _) → AreBroken call ss rs → StepsOf u ss rs) → Ran made.collectors Q past false h → LeftDone call site h left → (g : History) × Ran made.collectors Q (past ++ u ∷ []) true g × LeftRepresents site g left
-left_done made Q stays past u call site h left valid says run (inl was) = (h, ran_crash made.collectors Q past u false h (says _ _ (inl (refl, refl))) run, was)
-left_done made Q stays past u call site h left valid says run (inr is) = (is.0, ran_whole made.collectors Q stays past u call is.1 h is.0 valid says is.2 run, is.3)
+left_done made Q stays past u call site h left valid represents_node run (inl was) = (h, ran_crash made.collectors Q past u false h (represents_node _ _ (inl (refl, refl))) run, was)
+left_done made Q stays past u call site h left valid represents_node run (inr is) = (is.0, ran_whole made.collectors Q stays past u call is.1 h is.0 valid represents_node is.2 run, is.3)
 
 -- a call on an archive that must be opened again
 rests_idle : {E O Pen Seen : Type 0} (erase : EraseGhosts E) (once : OnceGhosts O Pen Seen) (made : Settings) (Q : History → Type 0) (past : List Use) (a z : Archive E O Pen Seen erase once) → Keeps a z → is_down a ≡ true → Resting erase once made Q past (erase_of a) (once_of a) (pen_in a) → Resting erase once made Q past (erase_of z) (once_of z) (pen_in z)
@@ -109,7 +109,7 @@ call_ends erase once sound made Q stays past call failed a z valid keeps needs m
 -- a crash inside a call on such an archive
 cut_down : {E O Pen Seen : Type 0} (erase : EraseGhosts E) (once : OnceGhosts O Pen Seen) → AllSound erase → (made : Settings) (Q : History → Type 0) (past : List Use) (u : Use) (a z : Archive E O Pen Seen erase once) (left : Left) → StepsOf u (Crash ∷ []) (Crashed ∷ []) → Keeps a z → IsCut a z left → is_down a ≡ true
     → Resting erase once made Q past (erase_of a) (once_of a) (pen_in a) → Lying made Q (past ++ u ∷ []) (once.block_count (once_of a)) left
-cut_down {E} erase once sound made Q past u a z left says keeps pair down r =
+cut_down {E} erase once sound made Q past u a z left represents_node keeps pair down r =
     let idle = keeps.idle (r.honest_erase, r.honest_once) down in
     let since : (erase_state a).left_since (erase_state a).clock left.erase = subst (λ (e : E). (erase.model e).left_since (erase_state a).clock left.erase) idle.0 pair.erase in
     let now : LeftNow (erase_state a) (once_state a) left = record {
@@ -119,7 +119,7 @@ cut_down {E} erase once sound made Q past u a z left says keeps pair down r =
       settled = pair.settled;
     } in
     let f = r.rests left now in
-    record { site = r.site; noted = r.noted; settings = r.settings; count = r.count; history = f.0; run = ran_crash made.collectors Q past u true f.0 says f.1; represents = f.2 }
+    record { site = r.site; noted = r.noted; settings = r.settings; count = r.count; history = f.0; run = ran_crash made.collectors Q past u true f.0 represents_node f.1; represents = f.2 }
 
 -- a crash inside a call
 pub call_cut : {E O Pen Seen : Type 0} (erase : EraseGhosts E) (once : OnceGhosts O Pen Seen) → AllSound erase → (made : Settings) (Q : History → Type 0) (stays : Stays Q) (past : List Use) (call : Call) (a z : Archive E O Pen Seen erase once) (left : Left) → IsCall call → Keeps a z → ((h : History) → Represents a h → Crashes a z (LeftDone call (site_of a) h)) → IsCut a z left
@@ -183,8 +183,8 @@ cuts_off erase once sound made Q stays past (ask query) a left valid did inv = c
 
 -- an archive is given up, or a crash comes while it makes no call: it rests after a use that is a crash
 on_rests : {E O Pen Seen : Type 0} (erase : EraseGhosts E) (once : OnceGhosts O Pen Seen) (made : Settings) (Q : History → Type 0) (past : List Use) (u : Use) (a : Archive E O Pen Seen erase once) → StepsOf u (Crash ∷ []) (Crashed ∷ []) → Inv erase once made Q past (on a) → Resting erase once made Q (past ++ u ∷ []) (erase_of a) (once_of a) (pen_in a)
-on_rests erase once made Q past u a says (inl up) = represented_rests erase once made Q (past ++ u ∷ []) a up.0 up.3 (ran_crash made.collectors Q past u false up.0 says up.1) up.2
-on_rests erase once made Q past u a says (inr down) = rests_on erase once made Q past (past ++ u ∷ []) (erase_of a) (once_of a) (pen_in a) (λ g run. ran_crash made.collectors Q past u true g says run) down.1
+on_rests erase once made Q past u a represents_node (inl up) = represented_rests erase once made Q (past ++ u ∷ []) a up.0 up.3 (ran_crash made.collectors Q past u false up.0 represents_node up.1) up.2
+on_rests erase once made Q past u a represents_node (inr down) = rests_on erase once made Q past (past ++ u ∷ []) (erase_of a) (once_of a) (pen_in a) (λ g run. ran_crash made.collectors Q past u true g represents_node run) down.1
 
 -- both disks are opened
 on_opened : {E O Pen Seen : Type 0} (erase : EraseGhosts E) (once : OnceGhosts O Pen Seen) (made : Settings) (Q : History → Type 0) (past : List Use) (e : E) (o : O) (pen : Pen) (a : Archive E O Pen Seen erase once) → Opens {erase = erase} {once = once} e o pen (Ok a) → Resting erase once made Q past e o pen → Inv erase once made Q (past ++ opened ∷ []) (on a)

@@ -13,14 +13,14 @@ use Rattle.disk_archive.specs.declared.archive.Archive.{Archive}
 use Rattle.disk_archive.specs.declared.ask_error.AskError.{AskError}
 use Rattle.disk_archive.specs.declared.open_error.OpenError.{OpenError}
 use Rattle.disk_archive.specs.declared.refused.Refused.{Refused}
-use Rattle.disk_archive.specs.Archives.{Holds, IsHonest, erase_of, erase_state, is_down, once_of, once_state, settings_of}
+use Rattle.disk_archive.specs.Archives.{RepresentsIfHonest, IsHonest, erase_of, erase_state, is_down, once_of, once_state, settings_of}
 use Rattle.archive_uses.specs.Calls.{Keeps, Looks}
 use Rattle.archive_uses.specs.Openings.{Opens}
 use Rattle.archive_uses.proofs.Following.{grows_none}
 use Rattle.archive_uses.proofs.Resting.{AllSound, represented_is_left}
 
 -- a call that leaves the erasable disk, and all that is tried or settled, is one that only reads
-pub looks_by : {E O Pen Seen : Type 0} {erase : EraseGhosts E} {once : OnceGhosts O Pen Seen} → AllSound erase → (a z : Archive E O Pen Seen erase once) → ((h : History) → Holds a h → Holds z h) → erase_of z ≡ erase_of a → is_down z ≡ is_down a → settings_of z ≡ settings_of a → IsHonest a ↔ IsHonest z → once_of z ≡ once_of a → (IsHonest a → once_state z ≡ once_state a) → Looks a z
+pub looks_by : {E O Pen Seen : Type 0} {erase : EraseGhosts E} {once : OnceGhosts O Pen Seen} → AllSound erase → (a z : Archive E O Pen Seen erase once) → ((h : History) → RepresentsIfHonest a h → RepresentsIfHonest z h) → erase_of z ≡ erase_of a → is_down z ≡ is_down a → settings_of z ≡ settings_of a → IsHonest a ↔ IsHonest z → once_of z ≡ once_of a → (IsHonest a → once_state z ≡ once_state a) → Looks a z
 looks_by {erase = erase} sound a z holds pages down settings honest disk blocks =
     let same : erase_state z ≡ erase_state a = ap erase.model pages in
     record {
@@ -55,8 +55,8 @@ keeps_by a z settings honest disk blocks idle = record {
 }
 
 -- an answer that is right where R is so
-pub answered_where : {E O Pen Seen : Type 0} {erase : EraseGhosts E} {once : OnceGhosts O Pen Seen} (a : Archive E O Pen Seen erase once) (query : Query) (R : Type 0) (result : Result Answer AskError) → R → IfOk result (λ answer. IsHonest a → (h : History) → Holds a h → R → IsAnswered (applied h) query answer)
-    → IfOk result (λ answer. IsHonest a → (h : History) → Holds a h → IsAnswered (applied h) query answer)
+pub answered_where : {E O Pen Seen : Type 0} {erase : EraseGhosts E} {once : OnceGhosts O Pen Seen} (a : Archive E O Pen Seen erase once) (query : Query) (R : Type 0) (result : Result Answer AskError) → R → IfOk result (λ answer. IsHonest a → (h : History) → RepresentsIfHonest a h → R → IsAnswered (applied h) query answer)
+    → IfOk result (λ answer. IsHonest a → (h : History) → RepresentsIfHonest a h → IsAnswered (applied h) query answer)
 answered_where a query R (Ok answer) is right = λ honest h held. right honest h held is
 answered_where a query R (Err e) is right = right
 

@@ -25,10 +25,10 @@ use Rattle.archive_uses.specs.Use.{Call, AreSteps, IsCall}
 use Rattle.archive_uses.specs.Use.Call.{admit, mark, apply, flush, ask}
 
 -- a batch that was taken
-pub record Takes (c : ℕ) (batch : List Admitted) (h g : History) (says : Intake → Type 0) : Type 0 where
+pub record Takes (c : ℕ) (batch : List Admitted) (h g : History) (represents_node : Intake → Type 0) : Type 0 where
   pub intake : Intake
   pub here : slice_get h.intakes c ≡ Some intake
-  pub reply : says intake
+  pub reply : represents_node intake
   pub after : g ≡ given h c batch
 
 -- over a history that is represented the call is answered so, and leads to that history

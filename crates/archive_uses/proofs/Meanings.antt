@@ -31,7 +31,7 @@ use Rattle.disk_archive.specs.declared.cursor.Cursor.{Cursor}
 use Rattle.disk_archive.specs.declared.descending.Descent.{Descent}
 use Rattle.disk_archive.specs.declared.descending.Descent.TheVariants as descents
 use Rattle.disk_archive.specs.Cursors.{asks as query_of, IsGathered}
-use Rattle.disk_archive.specs.Archives.{Represents, Holds, IsHonest, is_down}
+use Rattle.disk_archive.specs.Archives.{Represents, RepresentsIfHonest, IsHonest, is_down}
 use Rattle.archive_uses.specs.Use.{Call, Verdict}
 use Rattle.archive_uses.specs.Use.Call.{admit, mark, apply, flush, ask}
 use Rattle.archive_uses.specs.Use.Verdict.{replied, quiet, failed}
@@ -50,10 +50,10 @@ Means P call a z failed = is_down z ≡ true
 pub is_up : {E O Pen Seen : Type 0} {erase : EraseGhosts E} {once : OnceGhosts O Pen Seen} (a : Archive E O Pen Seen erase once) (h : History) → Represents a h → is_down a ≡ false
 is_up a h k = k.maps.keeps.usable
 
-pub holds : {E O Pen Seen : Type 0} {erase : EraseGhosts E} {once : OnceGhosts O Pen Seen} (a : Archive E O Pen Seen erase once) (h : History) → Represents a h → Holds a h
+pub holds : {E O Pen Seen : Type 0} {erase : EraseGhosts E} {once : OnceGhosts O Pen Seen} (a : Archive E O Pen Seen erase once) (h : History) → Represents a h → RepresentsIfHonest a h
 holds a h k honest = inl k
 
-pub up_represents : {E O Pen Seen : Type 0} {erase : EraseGhosts E} {once : OnceGhosts O Pen Seen} (z : Archive E O Pen Seen erase once) (g : History) → Holds z g → IsHonest z → is_down z ≡ false → Represents z g
+pub up_represents : {E O Pen Seen : Type 0} {erase : EraseGhosts E} {once : OnceGhosts O Pen Seen} (z : Archive E O Pen Seen erase once) (g : History) → RepresentsIfHonest z g → IsHonest z → is_down z ≡ false → Represents z g
 up_represents z g holds honest up = ⊎_elim (λ k. k) (λ w. absurd (let e : is_down z ≡ true = w.unusable in cc)) (holds honest)
 
 -- an error that the machine doesn't know

@@ -57,13 +57,13 @@ ran_none collectors Q held = record { held = held; steps = []; replies = []; las
 
 -- a run goes on by one use
 pub ran_more : (n : ℕ) (Q : History → Type 0) (us : List Use) (u : Use) (d : Bool) (h : History) (r : Ran n Q us d h) (ss : List Step) (rs : List Reply) (v : World) → AllByRecursion IsStep ss → StepsOf u ss rs → Runs r.last ss rs v → (down : Bool) (g : History) → v.down ≡ down → v.history ≡ g → Q g → Ran n Q (us ++ u ∷ []) down g
-ran_more n Q us u d h r ss rs v valid says runs down g is_down history held = record {
+ran_more n Q us u d h r ss rs v valid represents_node runs down g is_down history held = record {
   held = held;
   steps = r.steps ++ ss;
   replies = r.replies ++ rs;
   last = v;
   valid = all_append IsStep r.steps ss r.valid valid;
-  steps_of = steps_more us u r.steps ss r.replies rs r.steps_of says;
+  steps_of = steps_more us u r.steps ss r.replies rs r.steps_of represents_node;
   runs = runs_more (created n) r.last v r.steps ss r.replies rs r.runs runs;
   is_down = is_down;
   history = history;
@@ -83,11 +83,11 @@ ran_down n Q us call h valid r =
 
 -- a use that does nothing
 pub ran_still : (n : ℕ) (Q : History → Type 0) (us : List Use) (u : Use) (d : Bool) (h : History) → StepsOf u [] [] → Ran n Q us d h → Ran n Q (us ++ u ∷ []) d h
-ran_still n Q us u d h says r = ran_more n Q us u d h r [] [] r.last tt says refl d h r.is_down r.history r.held
+ran_still n Q us u d h represents_node r = ran_more n Q us u d h r [] [] r.last tt represents_node refl d h r.is_down r.history r.held
 
 -- a use that is a crash
 pub ran_crash : (n : ℕ) (Q : History → Type 0) (us : List Use) (u : Use) (d : Bool) (h : History) → StepsOf u (Crash ∷ []) (Crashed ∷ []) → Ran n Q us d h → Ran n Q (us ++ u ∷ []) true h
-ran_crash n Q us u d h says r = ran_more n Q us u d h r (Crash ∷ []) (Crashed ∷ []) (crashed r.last) (tt, tt) says (crash_runs r.last) true h refl r.history r.held
+ran_crash n Q us u d h represents_node r = ran_more n Q us u d h r (Crash ∷ []) (Crashed ∷ []) (crashed r.last) (tt, tt) represents_node (crash_runs r.last) true h refl r.history r.held
 
 -- a use that is a crash after a call that was done whole
 pub ran_whole : (n : ℕ) (Q : History → Type 0) (stays : Stays Q) (us : List Use) (u : Use) (call : Call) (reply : Reply) (h g : History) → IsCall call → ((ss : List Step) (rs : List Reply) → AreBroken call ss rs → StepsOf u ss rs) → Answers call reply h g → Ran n Q us false h → Ran n Q (us ++ u ∷ []) true g

@@ -45,23 +45,23 @@ inv_with erase once made P Q past (gone k left) so inv = record { site = inv.sit
 
 -- a use that does nothing
 rests_still : {E O Pen Seen : Type 0} (erase : EraseGhosts E) (once : OnceGhosts O Pen Seen) (made : Settings) (Q : History → Type 0) (past : List Use) (u : Use) (e : E) (o : O) (pen : Pen) → StepsOf u [] [] → Resting erase once made Q past e o pen → Resting erase once made Q (past ++ u ∷ []) e o pen
-rests_still erase once made Q past u e o pen says r = record {
+rests_still erase once made Q past u e o pen represents_node r = record {
   honest_erase = r.honest_erase;
   honest_once = r.honest_once;
   site = r.site;
   noted = r.noted;
   settings = r.settings;
   count = r.count;
-  rests = λ left now. (let f = r.rests left now in (f.0, ran_still made.collectors Q past u true f.0 says f.1, f.2));
+  rests = λ left now. (let f = r.rests left now in (f.0, ran_still made.collectors Q past u true f.0 represents_node f.1, f.2));
 }
 
 inv_still : {E O Pen Seen : Type 0} (erase : EraseGhosts E) (once : OnceGhosts O Pen Seen) (made : Settings) (Q : History → Type 0) (past : List Use) (u : Use) (s : Stage E O Pen Seen erase once) → StepsOf u [] [] → Inv erase once made Q past s → Inv erase once made Q (past ++ u ∷ []) s
-inv_still erase once made Q past u (on a) says inv = ⊎_elim
-    (λ up. inl (up.0, ran_still made.collectors Q past u false up.0 says up.1, up.2, up.3))
-    (λ down. inr (down.0, rests_still erase once made Q past u (erase_of a) (once_of a) (pen_in a) says down.1))
+inv_still erase once made Q past u (on a) represents_node inv = ⊎_elim
+    (λ up. inl (up.0, ran_still made.collectors Q past u false up.0 represents_node up.1, up.2, up.3))
+    (λ down. inr (down.0, rests_still erase once made Q past u (erase_of a) (once_of a) (pen_in a) represents_node down.1))
     inv
-inv_still erase once made Q past u (off e o pen) says inv = rests_still erase once made Q past u e o pen says inv
-inv_still erase once made Q past u (gone k left) says inv = record { site = inv.site; noted = inv.noted; settings = inv.settings; count = inv.count; history = inv.history; run = ran_still made.collectors Q past u true inv.history says inv.run; represents = inv.represents }
+inv_still erase once made Q past u (off e o pen) represents_node inv = rests_still erase once made Q past u e o pen represents_node inv
+inv_still erase once made Q past u (gone k left) represents_node inv = record { site = inv.site; noted = inv.noted; settings = inv.settings; count = inv.count; history = inv.history; run = ran_still made.collectors Q past u true inv.history represents_node inv.run; represents = inv.represents }
 
 -- R is true of the history, and so is what is true of the questions in hand
 abbrev pub With : (History → Type 0) → List Asked → History → Type 0

@@ -34,7 +34,7 @@ use Rattle.once_store.specs.declared.reader.ShelfReader.{ShelfReader}
 use Rattle.once_store.specs.declared.error.BlockError.{BlockError}
 use Rattle.disk_archive.specs.Cursors.{asks as query_of, IsGathered}
 use Rattle.disk_archive.specs.Descents.{Descends, LocatedKnown}
-use Rattle.disk_archive.specs.Archives.{Represents, Holds, IsHonest, erase_of, erase_state, is_down, once_of, once_state, settings_of, site_of}
+use Rattle.disk_archive.specs.Archives.{Represents, RepresentsIfHonest, IsHonest, erase_of, erase_state, is_down, once_of, once_state, settings_of, site_of}
 use Rattle.disk_archive.specs.Crashes.{Crashes}
 use Rattle.disk_archive.specs.Moves.{Moves}
 use Rattle.disk_archive.specs.Sites.{LeftRepresents, LeftEither, LeftMarked}
@@ -50,9 +50,9 @@ pub record Keeps {E O Pen Seen : Type 0} {erase : EraseGhosts E} {once : OnceGho
 
 -- a batch of the collector c
 pub record Admits {E O Pen Seen : Type 0} {erase : EraseGhosts E} {once : OnceGhosts O Pen Seen} (old new : Archive E O Pen Seen erase once) (c : ℕ) (batch : List Admitted) (result : Result BatchReply AdmitError) : Type 0 where
-  pub ok : OnOk result ((h : History) → Holds old h → Holds new (given h c batch))
-  pub reply : IsHonest old → (h : History) → Holds old h → (i : Intake) → slice_get h.intakes c ≡ Some i → IfOk result (IsReply i c batch)
-  pub err : OnErr result ((h : History) → Holds old h → Holds new h)
+  pub ok : OnOk result ((h : History) → RepresentsIfHonest old h → RepresentsIfHonest new (given h c batch))
+  pub reply : IsHonest old → (h : History) → RepresentsIfHonest old h → (i : Intake) → slice_get h.intakes c ≡ Some i → IfOk result (IsReply i c batch)
+  pub err : OnErr result ((h : History) → RepresentsIfHonest old h → RepresentsIfHonest new h)
   pub crash : (h : History) → Represents old h → Crashes old new (LeftEither (site_of old) h (given h c batch))
   pub still_usable : OnOk result (is_down new ≡ false)
   pub falls : is_down old ≡ false → is_down new ≡ true → result ≡ Err admits.Fault
@@ -62,22 +62,22 @@ pub record Admits {E O Pen Seen : Type 0} {erase : EraseGhosts E} {once : OnceGh
 
 -- a mark of the collector c
 pub record Marks {E O Pen Seen : Type 0} {erase : EraseGhosts E} {once : OnceGhosts O Pen Seen} (old new : Archive E O Pen Seen erase once) (c mark : ℕ) (result : Result (Unit {0}) MarkError) : Type 0 where
-  pub ok : OnOk result ((h : History) → Holds old h → Holds new (marked h c mark))
-  pub err : OnErr result ((h : History) → Holds old h → Holds new h)
+  pub ok : OnOk result ((h : History) → RepresentsIfHonest old h → RepresentsIfHonest new (marked h c mark))
+  pub err : OnErr result ((h : History) → RepresentsIfHonest old h → RepresentsIfHonest new h)
   pub crash : (h : History) → Represents old h → Crashes old new (LeftMarked (site_of old) h c mark)
   pub still_usable : OnOk result (is_down new ≡ false)
   pub falls : is_down old ≡ false → is_down new ≡ true → result ≡ Err marks.Fault
   pub recovery : (result ≡ Err marks.NeedsRecovery) ↔ (is_down old ≡ true)
   pub no_collector : (result ≡ Err marks.NoCollector) ↔ ((is_down old ≡ false) × ((settings_of old).collectors ≤ c))
-  pub mark_back : IsHonest old → (h : History) → Holds old h → (result ≡ Err marks.MarkBack) ↔ ((is_down old ≡ false) × IsMarkAbove h c mark)
+  pub mark_back : IsHonest old → (h : History) → RepresentsIfHonest old h → (result ≡ Err marks.MarkBack) ↔ ((is_down old ≡ false) × IsMarkAbove h c mark)
   pub keeps : Keeps old new
 
 -- a step of applying
 pub record Steps {E O Pen Seen : Type 0} {erase : EraseGhosts E} {once : OnceGhosts O Pen Seen} (old new : Archive E O Pen Seen erase once) (result : Result Step ApplyError) : Type 0 where
-  pub applied : IfOk result (λ step. step ≡ steps.Applied → IsHonest old → (h : History) → Holds old h → (g : History) × Moves h g × Holds new g)
-  pub idle : IfOk result (λ step. IsHonest old → (h : History) → Holds old h → (step ≡ steps.Idle) ↔ NothingToApply h)
-  pub idle_same : result ≡ Ok steps.Idle → (h : History) → Holds old h → Holds new h
-  pub err : OnErr result ((h : History) → Holds old h → Holds new h)
+  pub applied : IfOk result (λ step. step ≡ steps.Applied → IsHonest old → (h : History) → RepresentsIfHonest old h → (g : History) × Moves h g × RepresentsIfHonest new g)
+  pub idle : IfOk result (λ step. IsHonest old → (h : History) → RepresentsIfHonest old h → (step ≡ steps.Idle) ↔ NothingToApply h)
+  pub idle_same : result ≡ Ok steps.Idle → (h : History) → RepresentsIfHonest old h → RepresentsIfHonest new h
+  pub err : OnErr result ((h : History) → RepresentsIfHonest old h → RepresentsIfHonest new h)
   pub crash : (h : History) → Represents old h → (g : History) × ((g ≡ h) ⊎ Moves h g) × Crashes old new (LeftEither (site_of old) h g)
   pub still_usable : OnOk result (is_down new ≡ false)
   pub recovery : (result ≡ Err applies.NeedsRecovery) ↔ (is_down old ≡ true)
@@ -85,7 +85,7 @@ pub record Steps {E O Pen Seen : Type 0} {erase : EraseGhosts E} {once : OnceGho
 
 -- a step of flushing
 pub record Flushes {E O Pen Seen : Type 0} {erase : EraseGhosts E} {once : OnceGhosts O Pen Seen} (old new : Archive E O Pen Seen erase once) (result : Result Flush FlushError) : Type 0 where
-  pub holds : (h : History) → Holds old h → Holds new h
+  pub holds : (h : History) → RepresentsIfHonest old h → RepresentsIfHonest new h
   pub crash : (h : History) → Represents old h → Crashes old new (LeftRepresents (site_of old) h)
   pub usable : OnOk result ((is_down old ≡ false) × (is_down new ≡ false))
   pub recovery : (result ≡ Err flushes.NeedsRecovery) ↔ (is_down old ≡ true)
@@ -93,26 +93,26 @@ pub record Flushes {E O Pen Seen : Type 0} {erase : EraseGhosts E} {once : OnceG
 
 -- a call that only reads
 pub record Looks {E O Pen Seen : Type 0} {erase : EraseGhosts E} {once : OnceGhosts O Pen Seen} (old new : Archive E O Pen Seen erase once) : Type 0 where
-  pub holds : (h : History) → Holds old h → Holds new h
+  pub holds : (h : History) → RepresentsIfHonest old h → RepresentsIfHonest new h
   pub crash : (h : History) → Represents old h → Crashes old new (LeftRepresents (site_of old) h)
   pub down : is_down new ≡ is_down old
   pub keeps : Keeps old new
 
 -- a question
 pub record Asks {E O Pen Seen : Type 0} {erase : EraseGhosts E} {once : OnceGhosts O Pen Seen} (old new : Archive E O Pen Seen erase once) (query : Query) (result : Result Answer AskError) : Type 0 where
-  pub answered : IfOk result (λ answer. IsHonest old → (h : History) → Holds old h → IsAnswered (applied h) query answer)
-  pub below : OnOk result (IsHonest old → (h : History) → Holds old h → last_moment query < settled h)
-  pub above : IsHonest old → (h : History) → Holds old h → (mark : ℕ) → (result ≡ Err (asks.AboveWatermark mark)) ↔ ((is_down old ≡ false) × (mark ≡ settled h) × (settled h ≤ last_moment query))
+  pub answered : IfOk result (λ answer. IsHonest old → (h : History) → RepresentsIfHonest old h → IsAnswered (applied h) query answer)
+  pub below : OnOk result (IsHonest old → (h : History) → RepresentsIfHonest old h → last_moment query < settled h)
+  pub above : IsHonest old → (h : History) → RepresentsIfHonest old h → (mark : ℕ) → (result ≡ Err (asks.AboveWatermark mark)) ↔ ((is_down old ≡ false) × (mark ≡ settled h) × (settled h ≤ last_moment query))
   pub recovery : (result ≡ Err asks.NeedsRecovery) ↔ (is_down old ≡ true)
   pub looks : Looks old new
 
 -- a turn of a question, from one cursor to the next
 pub record Turns {E O Pen Seen : Type 0} {erase : EraseGhosts E} {once : OnceGhosts O Pen Seen} (old new : Archive E O Pen Seen erase once) (c d : Cursor) (result : Result Descent AskError) : Type 0 where
-  pub descends : IfOk result (λ descent. IsHonest old → (h : History) → Holds old h → IsGathered c h → Descends (once.block_count (once_of old)) (once_state old).settled h c d descent)
-  pub gathered : IsHonest old → (h : History) → Holds old h → IsGathered c h → IsGathered d h
+  pub descends : IfOk result (λ descent. IsHonest old → (h : History) → RepresentsIfHonest old h → IsGathered c h → Descends (once.block_count (once_of old)) (once_state old).settled h c d descent)
+  pub gathered : IsHonest old → (h : History) → RepresentsIfHonest old h → IsGathered c h → IsGathered d h
   pub same : query_of d ≡ query_of c
-  pub below : OnOk result (IsHonest old → (h : History) → Holds old h → last_moment (query_of c) < settled h)
-  pub above : IsHonest old → (h : History) → Holds old h → (mark : ℕ) → (result ≡ Err (asks.AboveWatermark mark)) ↔ ((is_down old ≡ false) × (mark ≡ settled h) × (settled h ≤ last_moment (query_of c)))
+  pub below : OnOk result (IsHonest old → (h : History) → RepresentsIfHonest old h → last_moment (query_of c) < settled h)
+  pub above : IsHonest old → (h : History) → RepresentsIfHonest old h → (mark : ℕ) → (result ≡ Err (asks.AboveWatermark mark)) ↔ ((is_down old ≡ false) × (mark ≡ settled h) × (settled h ≤ last_moment (query_of c)))
   pub recovery : (result ≡ Err asks.NeedsRecovery) ↔ (is_down old ≡ true)
   pub unmoved : is_down old ≡ true → d ≡ c
   pub looks : Looks old new

@@ -4,7 +4,7 @@ use Rattle.std.specs.List.{AllByRecursion}
 use Rattle.disk_models.specs.declared.erase.EraseDisk.{Ghosts as EraseGhosts}
 use Rattle.disk_models.specs.declared.once.OnceDisk.{Ghosts as OnceGhosts}
 use Rattle.disk_models.specs.Left.{Left}
-use Rattle.page_journal.specs.Identity.{HoldsNone}
+use Rattle.page_journal.specs.Identity.{HasNoJournal}
 use Rattle.interleaving_core.specs.Steps.{empty}
 use Rattle.archive_pages.specs.declared.settings.Settings.{Settings}
 use Rattle.disk_archive.specs.Archives.{Represents, settings_of}
@@ -26,7 +26,7 @@ abbrev pub LeftByCreation : {E O Pen Seen : Type 0} (erase : EraseGhosts E) (onc
 LeftByCreation {E} {O} {Pen} {Seen} erase once made e o pen left =
     let before : Stage E O Pen Seen erase once = off e o pen in
     let after : Stage E O Pen Seen erase once = gone (once.block_count o) left in
-    Leads lost before after ⊎ (HoldsNone left.erase ⊎ Starts made (lost ∷ []) after)
+    Leads lost before after ⊎ (HasNoJournal left.erase ⊎ Starts made (lost ∷ []) after)
 
 -- These are the uses of an archive of these settings from its creation on, each made of values, and they lead to this scene.
 pub record Lives {E O Pen Seen : Type 0} {erase : EraseGhosts E} {once : OnceGhosts O Pen Seen} (made : Settings) (us : List Use) (last : Scene E O Pen Seen erase once) : Type 0 where

@@ -8,7 +8,7 @@ use Rattle.interleaving_core.specs.declared.query.Answer.{Answer}
 use Rattle.interleaving_core.specs.declared.reply.BatchReply.{BatchReply}
 use Rattle.interleaving_core.specs.declared.reply.Reply.TheVariants.{Taken, Done}
 use Rattle.interleaving_core.specs.Does.{last_moment}
-use Rattle.interleaving_core.specs.Headline.{IsAnswered, Stands}
+use Rattle.interleaving_core.specs.Headline.{IsAnswered, IsRecorded}
 use Rattle.archive_uses.specs.Use.{Use}
 use Rattle.archive_uses.specs.Use.Call.{admit, ask}
 use Rattle.archive_uses.specs.Use.Use.{called, cut}
@@ -31,17 +31,17 @@ abbrev pub IsPartOf : {X : Type 0} → List X → List X → Type 0
 IsPartOf xs [] = xs ≡ []
 IsPartOf {X} xs (y ∷ ys) = IsPartOf xs ys ⊎ ((rest : List X) × (xs ≡ y ∷ rest) × IsPartOf rest ys)
 
--- The batch stands in the history at the numbers of its receipt, but for the records that the reply calls late: those below some earlier
+-- The batch is recorded in the history at the numbers of its receipt, but for the records that the reply calls late: those below some earlier
 -- times and marks, or below one before them in the batch. Any earlier ones are allowed here, since the uses alone don't say which there
 -- were: a call that failed or was cut gave its own, or didn't. `AreRun` says which, by the steps that the uses are.
-abbrev pub StandsThere : History → ℕ → List Admitted → BatchReply → Type 0
-StandsThere h c batch reply = (earlier : List ℕ) × (before : List Admitted) × (count : ℕ) × Stands h earlier before count c batch reply
+abbrev pub IsRecordedThere : History → ℕ → List Admitted → BatchReply → Type 0
+IsRecordedThere h c batch reply = (earlier : List ℕ) × (before : List Admitted) × (count : ℕ) × IsRecorded h earlier before count c batch reply
 
 -- The history is right. Each question that was answered has the answer of this history, below whose settled watermark its last moment is; each batch
--- that was taken stands at the numbers of its receipt; and no collector has a record but of what was offered for it, in that order.
+-- that was taken is recorded at the numbers of its receipt; and no collector has a record but of what was offered for it, in that order.
 pub record IsPromised (us : List Use) (h : History) : Type 0 where
   pub right : IsHistory h
   pub answers : (k : ℕ) (query : Query) (answer : Answer) → slice_get us k ≡ Some (called (ask query) (replied (Done answer))) → IsAnswered (all_of h) query answer
   pub settled : (k : ℕ) (query : Query) (answer : Answer) → slice_get us k ≡ Some (called (ask query) (replied (Done answer))) → last_moment query < settled h
-  pub receipts : (k c : ℕ) (batch : Vec Admitted) (reply : BatchReply) → slice_get us k ≡ Some (called (admit c batch) (replied (Taken reply))) → StandsThere h c batch.items reply
+  pub receipts : (k c : ℕ) (batch : Vec Admitted) (reply : BatchReply) → slice_get us k ≡ Some (called (admit c batch) (replied (Taken reply))) → IsRecordedThere h c batch.items reply
   pub only : (c : ℕ) (i : Intake) → slice_get h.intakes c ≡ Some i → IsPartOf i.admitted (offered_in c us)

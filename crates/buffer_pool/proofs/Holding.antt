@@ -23,7 +23,7 @@ use Rattle.page_journal.specs.Recovers.{IsListed, Recovers}
 use Rattle.lru.specs.LruCache.{LruCache, lru_cache, promoted, put_entries}
 use Rattle.lru.proofs.Splits.{Contains-nil, Contains-cons}
 use Rattle.lru.proofs.CallerLemmas.{Contains-put_entries, Contains-lookup, Contains-lookup_entry, lookup-put_entries}
-use Rattle.buffer_pool.specs.Held.{AreShown}
+use Rattle.buffer_pool.specs.Held.{AreCommitted}
 use Rattle.buffer_pool.specs.inner.Taking.{Has, IsDropped}
 
 some_none : (q : List ℕ) → Some q ≡ None → ⊥
@@ -62,7 +62,7 @@ first_found : (n : ℕ) (es : List (ℕ × List ℕ)) → is_some (lookup (nat_e
 first_found n es there = entry_found n es (lookup_entry (nat_eq n) es) refl there
 
 -- a committed page goes into the cache
-pub put_shown : (read : LruCache ℕ (List ℕ)) (n : ℕ) (page : List ℕ) (map : List (List ℕ)) → AreShown read map → slice_get map n ≡ Some page
+pub put_shown : (read : LruCache ℕ (List ℕ)) (n : ℕ) (page : List ℕ) (map : List (List ℕ)) → AreCommitted read map → slice_get map n ≡ Some page
     → (m : ℕ) (q : List ℕ) → Contains (put_entries nat_eq read n page) (m, q) → slice_get map m ≡ Some q
 put_shown read n page map shown is m q c = ⊎_elim
     (λ old. shown m q old)
@@ -96,13 +96,13 @@ set_other map n m page ne lt =
     ∙ sym (slice_get-get_or map m [] lt)
 
 -- what a lookup finds
-found_shown : (read : LruCache ℕ (List ℕ)) (n : ℕ) (map : List (List ℕ)) → AreShown read map → (o : Option (List ℕ)) → lookup (nat_eq n) read.entries ≡ o → IfSome o (λ page. slice_get map n ≡ Some page)
+found_shown : (read : LruCache ℕ (List ℕ)) (n : ℕ) (map : List (List ℕ)) → AreCommitted read map → (o : Option (List ℕ)) → lookup (nat_eq n) read.entries ≡ o → IfSome o (λ page. slice_get map n ≡ Some page)
 found_shown read n map shown None is = tt
 found_shown read n map shown (Some page) is =
     let there = Contains-lookup (nat_eq n) read.entries page is in
     ap (slice_get map) (same_eq n there.0 there.2) ∙ shown there.0 page there.1
 
-pub peek_shown : (read : LruCache ℕ (List ℕ)) (n : ℕ) (map : List (List ℕ)) (r : Option (Bor (List ℕ))) → AreShown read map → option_copied r ≡ lookup (nat_eq n) read.entries → IfSome r (λ page. slice_get map n ≡ Some page.now)
+pub peek_shown : (read : LruCache ℕ (List ℕ)) (n : ℕ) (map : List (List ℕ)) (r : Option (Bor (List ℕ))) → AreCommitted read map → option_copied r ≡ lookup (nat_eq n) read.entries → IfSome r (λ page. slice_get map n ≡ Some page.now)
 peek_shown read n map None shown is = tt
 peek_shown read n map (Some page) shown is = found_shown read n map shown (Some page.now) (sym is)
 
@@ -118,7 +118,7 @@ taken_shown old new n page map lt shown has m = some_weaker (get nat_cmp new m) 
     is)
     (has m)
 
-pub dropped_shown : (n : ℕ) (old new : LruCache ℕ (List ℕ)) (page : List ℕ) (map : List (List ℕ)) → IsDropped n old new → AreShown old map → AreShown new (set map n page)
+pub dropped_shown : (n : ℕ) (old new : LruCache ℕ (List ℕ)) (page : List ℕ) (map : List (List ℕ)) → IsDropped n old new → AreCommitted old map → AreCommitted new (set map n page)
 dropped_shown n old new page map dropped shown m q there =
     let was = dropped m q there in
     let before = shown m q was.0 in
@@ -126,7 +126,7 @@ dropped_shown n old new page map dropped shown m q there =
 
 -- a page that was kept, or wasn't because memory ran out
 pub kept_shown : {T E : Type 0} (r : Result T E) (old new : LruCache ℕ (List ℕ)) (n : ℕ) (page : List ℕ) (map : List (List ℕ)) → OnOk r (new ≡ lru_cache (put_entries nat_eq old n page) old.cap) → OnErr r (new ≡ old)
-    → AreShown old map → slice_get map n ≡ Some page → AreShown new map
+    → AreCommitted old map → slice_get map n ≡ Some page → AreCommitted new map
 kept_shown (Ok x) old new n page map put same shown is m q there = put_shown old n page map shown is m q (subst (λ (l : LruCache ℕ (List ℕ)). Contains l.entries (m, q)) put there)
 kept_shown (Err e) old new n page map put same shown is m q there = shown m q (subst (λ (l : LruCache ℕ (List ℕ)). Contains l.entries (m, q)) same there)
 

@@ -8,7 +8,7 @@ use Rattle.page_journal.specs.declared.journal.Journal.{Journal}
 use Rattle.disk_models.specs.Erase.{Stays}
 use Rattle.page_journal.specs.Calls.{SameButDisk}
 use Rattle.page_journal.specs.Journal.{Keeps, disk_of, unhomed_pages}
-use Rattle.buffer_pool.specs.Held.{HoldsPages}
+use Rattle.buffer_pool.specs.Held.{CachesPages}
 use Rattle.buffer_pool.specs.declared.pool.Pool.{Pool}
 
 -- its journal
@@ -38,7 +38,7 @@ IsResident pool n = IsWaiting pool n ⊎ IsSome (lookup (nat_eq n) pool.cached.e
 -- The pool represents these pages: its journal does, and each page in memory is one of them.
 pub record Maps {D : Type 0} (device : Ghosts D) (pool : Pool D device) (pages : List (List ℕ)) : Type 0 where
   pub keeps : Keeps device pool.journal pages
-  pub held : HoldsPages pool.committed pool.cached pages
+  pub held : CachesPages pool.committed pool.cached pages
 
 -- Nothing but its disk has changed, and that by a read at most: nothing was written.
 pub record WasOnlyRead {D : Type 0} (device : Ghosts D) (old new : Journal D device) : Type 0 where

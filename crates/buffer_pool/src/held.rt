@@ -5,7 +5,7 @@ ghost use Rattle.std.specs.BTreeMap.{get};
 ghost use Rattle.std.specs.Map.{lookup};
 ghost use Rattle.page_journal.specs.Layout.{pages_of};
 ghost use Rattle.page_journal.specs.Recovers.{laid, AreBelow, IsListed};
-ghost use Rattle.buffer_pool.specs.Held.{AreShown, HoldsPages};
+ghost use Rattle.buffer_pool.specs.Held.{AreCommitted, CachesPages};
 ghost use Rattle.buffer_pool.specs.inner.Taking.{Has, IsDropped};
 
 use disk_models::Page;
@@ -35,7 +35,7 @@ fn drop_page(pages: &mut LruCache<u64, Page>, n: u64)
 pub fn keep(pages: &mut LruCache<u64, Page>, n: u64, page: Page) -> Result<(), AllocError>
     ensures kept { OnOk result (IsSome (lookup (nat_eq n) pages.new.entries)) }
     ensures unchanged { OnErr result (pages.new ≡ pages.old) }
-    ensures shown { (map : List (List ℕ)) → AreShown pages.old map → slice_get map n ≡ Some page → AreShown pages.new map }
+    ensures shown { (map : List (List ℕ)) → AreCommitted pages.old map → slice_get map n ≡ Some page → AreCommitted pages.new map }
     ensures capacity { pages.new.cap ≡ pages.old.cap }
 {
     pages.put(n, page)?;
@@ -46,7 +46,7 @@ pub fn keep(pages: &mut LruCache<u64, Page>, n: u64, page: Page) -> Result<(), A
 pub fn promote(pages: &mut LruCache<u64, Page>, n: u64) -> bool
     ensures found { IsTrue result ↔ IsSome (lookup (nat_eq n) pages.old.entries) }
     ensures kept { IsTrue result → IsSome (lookup (nat_eq n) pages.new.entries) }
-    ensures shown { (map : List (List ℕ)) → AreShown pages.old map → AreShown pages.new map }
+    ensures shown { (map : List (List ℕ)) → AreCommitted pages.old map → AreCommitted pages.new map }
     ensures capacity { pages.new.cap ≡ pages.old.cap }
 {
     pages.promote(&n)
@@ -59,7 +59,7 @@ fn take_page(
     n: u64,
     page: Page,
 )
-    ensures holds { (map : List (List ℕ)) → n < length map → HoldsPages committed.old cached.old map → HoldsPages committed.new cached.new (slice_set map n page) }
+    ensures holds { (map : List (List ℕ)) → n < length map → CachesPages committed.old cached.old map → CachesPages committed.new cached.new (slice_set map n page) }
     ensures waits { (m : ℕ) → IsSome (get nat_cmp committed.old m) → IsSome (get nat_cmp committed.new m) }
     ensures only { (m : ℕ) → IsSome (get nat_cmp committed.new m) → (m ≡ n) ⊎ IsSome (get nat_cmp committed.old m) }
     ensures capacity { cached.new.cap ≡ cached.old.cap }
@@ -74,7 +74,7 @@ pub fn take_all(
     cached: &mut LruCache<u64, Page>,
     images: Vec<(u64, Page)>,
 )
-    ensures holds { (map : List (List ℕ)) → AreBelow (length map) (pages_of images.items) → HoldsPages committed.old cached.old map → HoldsPages committed.new cached.new (laid images.items map) }
+    ensures holds { (map : List (List ℕ)) → AreBelow (length map) (pages_of images.items) → CachesPages committed.old cached.old map → CachesPages committed.new cached.new (laid images.items map) }
     ensures waits { (m : ℕ) → IsSome (get nat_cmp committed.old m) → IsSome (get nat_cmp committed.new m) }
     ensures only { (m : ℕ) → IsSome (get nat_cmp committed.new m) → IsListed m (pages_of images.items) ⊎ IsSome (get nat_cmp committed.old m) }
     ensures capacity { cached.new.cap ≡ cached.old.cap }

@@ -17,7 +17,7 @@ use Rattle.disk_archive.specs.declared.apply_error.ApplyError.{ApplyError}
 use Rattle.disk_archive.specs.declared.apply_error.ApplyError.TheVariants as applies
 use Rattle.disk_archive.specs.declared.archive.Archive.{Archive}
 use Rattle.once_store.specs.Shelves.{AllTried, next_of}
-use Rattle.disk_archive.specs.Archives.{Represents, GoesOn, Holds, IsHonest, is_down, once_of, once_state}
+use Rattle.disk_archive.specs.Archives.{Represents, GoesOn, RepresentsIfHonest, IsHonest, is_down, once_of, once_state}
 use Rattle.disk_archive.specs.Blanks.{NoneBlank}
 use Rattle.disk_archive.specs.Moves.{Moves}
 use Rattle.page_journal.specs.declared.error.UseError.{UseError}
@@ -30,7 +30,7 @@ represents_here : {E O Pen Seen : Type 0} {erase : EraseGhosts E} {once : OnceGh
 represents_here a h usable goes = ⊎_elim (λ k. k) (λ w. absurd (true≢false (sym w.unusable ∙ usable))) goes
 
 pub applied_of : {E O Pen Seen : Type 0} {erase : EraseGhosts E} {once : OnceGhosts O Pen Seen} (a z : Archive E O Pen Seen erase once) (r : Result Step ApplyError) → OnOk r (is_down a ≡ false) → IfOk r (λ step. (h : History) → Represents a h → StepIs z step h)
-    → IfOk r (λ step. step ≡ Applied → IsHonest a → (h : History) → Holds a h → (g : History) × Moves h g × Holds z g)
+    → IfOk r (λ step. step ≡ Applied → IsHonest a → (h : History) → RepresentsIfHonest a h → (g : History) × Moves h g × RepresentsIfHonest z g)
 applied_of a z (Ok Applied) usable ok = λ e honest h held. (let s = ok h (represents_here a h usable (held honest)) in (s.0, s.1, λ is. inl s.2))
 applied_of a z (Ok Idle) usable ok = λ e honest h held. absurd cc
 applied_of a z (Err e) usable ok = tt
@@ -43,13 +43,13 @@ pub begins_moved : (h g : History) → IsHistory h → Moves h g → Begins h g
 begins_moved h g right m = Begins-trans h m.first g (begins_applied h m.first m.next) (goes_more m.more m.first g (right_applied h m.first right m.next) m.others).begins
 
 pub idle_of : {E O Pen Seen : Type 0} {erase : EraseGhosts E} {once : OnceGhosts O Pen Seen} (a z : Archive E O Pen Seen erase once) (r : Result Step ApplyError) → OnOk r (is_down a ≡ false) → IfOk r (λ step. (h : History) → Represents a h → StepIs z step h)
-    → IfOk r (λ step. IsHonest a → (h : History) → Holds a h → (step ≡ Idle) ↔ NothingToApply h)
+    → IfOk r (λ step. IsHonest a → (h : History) → RepresentsIfHonest a h → (step ≡ Idle) ↔ NothingToApply h)
 idle_of a z (Ok Applied) usable ok = λ honest h held. (let s = ok h (represents_here a h usable (held honest)) in ((λ e. absurd cc), (λ none. absurd (not_both h s.0 s.1 none))))
 idle_of a z (Ok Idle) usable ok = λ honest h held. (let s = ok h (represents_here a h usable (held honest)) in ((λ e. s.0), (λ none. refl)))
 idle_of a z (Err e) usable ok = tt
 
 pub idle_same : {E O Pen Seen : Type 0} {erase : EraseGhosts E} {once : OnceGhosts O Pen Seen} (a z : Archive E O Pen Seen erase once) (r : Result Step ApplyError) → (IsHonest z → IsHonest a) → OnOk r (is_down a ≡ false) → IfOk r (λ step. (h : History) → Represents a h → StepIs z step h)
-    → r ≡ Ok Idle → (h : History) → Holds a h → Holds z h
+    → r ≡ Ok Idle → (h : History) → RepresentsIfHonest a h → RepresentsIfHonest z h
 idle_same a z (Ok Applied) back usable ok e h held = absurd cc
 idle_same a z (Ok Idle) back usable ok e h held = λ honest. inl (ok h (represents_here a h usable (held (back honest)))).1
 idle_same a z (Err e') back usable ok e h held = absurd cc
@@ -66,7 +66,7 @@ same_or_moved h g right either = ⊎_elim (λ same. subst (Begins h) (sym same) 
 
 -- a page is never reported as damaged
 pub never_bad : {E O Pen Seen : Type 0} {erase : EraseGhosts E} {once : OnceGhosts O Pen Seen} (a : Archive E O Pen Seen erase once) (r : Result Step ApplyError) → (is_down a ≡ true → r ≡ Err applies.NeedsRecovery) → ((h : History) → Represents a h → (page : ℕ) → r ≡ Err (applies.BadNode page) → ⊥)
-    → IsHonest a → (h : History) → Holds a h → (page : ℕ) → r ≡ Err (applies.BadNode page) → ⊥
+    → IsHonest a → (h : History) → RepresentsIfHonest a h → (page : ℕ) → r ≡ Err (applies.BadNode page) → ⊥
 never_bad a r reported sound honest h held page bad = elim (cases_Bool (is_down a)) [
   | inl down ↦ (let e : Err applies.NeedsRecovery ≡ Err (applies.BadNode page) = sym (reported down) ∙ bad in cc)
   | inr up ↦ sound h (represents_here a h up (held honest)) page bad

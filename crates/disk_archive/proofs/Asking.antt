@@ -6,7 +6,7 @@ use Rattle.disk_models.specs.declared.erase.EraseDisk.{Ghosts as EraseGhosts}
 use Rattle.disk_models.specs.declared.once.OnceDisk.{Ghosts as OnceGhosts}
 use Rattle.disk_models.specs.Once.{OnceState, settled_in}
 use Rattle.once_store.specs.declared.reader.ShelfReader.{ShelfReader}
-use Rattle.once_store.specs.Readers.{reader_disk, IsKept}
+use Rattle.once_store.specs.Readers.{reader_disk, IsCached}
 use Rattle.page_tx.specs.declared.pages.Pages.{Ghosts}
 use Rattle.page_tx.specs.Start.{Start}
 use Rattle.route_model.specs.Admission.{Admitted}
@@ -23,15 +23,15 @@ use Rattle.tsb_walk.specs.declared.error.NodeError.{NodeError}
 use Rattle.tsb_walk.specs.declared.error.NodeError.TheVariants as nodes
 use Rattle.tsb_walk.specs.declared.page_place.PagePlace.{PagePlace}
 use Rattle.tsb_walk.specs.Knowing.{ReadsWell}
-use Rattle.tsb_walk.specs.Shown.{AreShown, StandsShown, keys_at}
+use Rattle.tsb_walk.specs.Shown.{RepresentNodes, RepresentsShown, keys_at}
 use Rattle.route_history.specs.Blame.{BlamesNone as NodeBlamesNone}
-use Rattle.version_model.specs.Pages.{Keys, Store, StandsIn, TreeStands, all_keys}
+use Rattle.version_model.specs.Pages.{Keys, Store, RepresentsIn, TreeRepresents, all_keys}
 use Rattle.version_model.specs.Versions.{Version}
 use Rattle.tree_questions.specs.Reading.{ReadsTree}
 use Rattle.disk_archive.specs.declared.archive.Archive.{Archive}
 use Rattle.disk_archive.specs.declared.ask_error.AskError.{AskError}
 use Rattle.disk_archive.specs.declared.ask_error.AskError.TheVariants as asks
-use Rattle.disk_archive.specs.Archives.{Represents, Holds, IsHonest, is_down}
+use Rattle.disk_archive.specs.Archives.{Represents, RepresentsIfHonest, IsHonest, is_down}
 use Rattle.disk_archive.specs.Reading.{ReadsFrom}
 use Rattle.disk_archive.specs.inner.Idle.{IsAsBefore}
 use Rattle.disk_archive.specs.Trees.{TreeLocated}
@@ -63,11 +63,11 @@ rises_applied h = rises_front h.whole h.some (all_of h) (rises_by_time time_of (
 -- ---- the tree of the archive
 
 -- the tree stands at the place of its root
-pub at_root : (shown : List (List ℕ)) (s : Store) (all : List Version) (root level : ℕ) (place : PagePlace) → place.page ≡ root → place.level ≡ level → keys_at place ≡ all_keys → AreShown shown s.nodes → TreeStands s all root level → StandsShown shown s all place
+pub at_root : (shown : List (List ℕ)) (s : Store) (all : List Version) (root level : ℕ) (place : PagePlace) → place.page ≡ root → place.level ≡ level → keys_at place ≡ all_keys → RepresentNodes shown s.nodes → TreeRepresents s all root level → RepresentsShown shown s all place
 at_root shown s all root level place page_is level_is keys_are are t = record {
   are_shown = are;
-  stands = subst (λ (p : ℕ). StandsIn s all place.level (keys_at place) p) (sym page_is)
-      (subst (λ (k : Keys). StandsIn s all place.level k root) (sym keys_are) (subst (λ (l : ℕ). StandsIn s all l all_keys root) (sym level_is) t.stands));
+  represents_all = subst (λ (p : ℕ). RepresentsIn s all place.level (keys_at place) p) (sym page_is)
+      (subst (λ (k : Keys). RepresentsIn s all place.level k root) (sym keys_are) (subst (λ (l : ℕ). RepresentsIn s all l all_keys root) (sym level_is) t.represents_all));
 }
 
 -- what is settled is what a reader of the same disk knows
@@ -78,7 +78,7 @@ located_known {O} device reader seen disk o pages low root fresh block stamp ver
     (subst (λ (f : ℕ → Option (List ℕ)). TreeLocated (device.block_count disk) pages (known_in f) low root fresh block stamp versions) (sym known) t)
 
 -- a reader that keeps nothing reads well
-pub reads_well : {O Pen Seen : Type 0} (device : OnceGhosts O Pen Seen) (reader : ShelfReader O Pen Seen device) (seen : Seen) (disk : O) → reader_disk reader ≡ disk → device.honest_seen disk seen → ((n : ℕ) (block : List ℕ) → IsKept reader n block → ⊥) → ReadsWell device reader seen
+pub reads_well : {O Pen Seen : Type 0} (device : OnceGhosts O Pen Seen) (reader : ShelfReader O Pen Seen device) (seen : Seen) (disk : O) → reader_disk reader ≡ disk → device.honest_seen disk seen → ((n : ℕ) (block : List ℕ) → IsCached reader n block → ⊥) → ReadsWell device reader seen
 reads_well {O} {Pen} {Seen} device reader seen disk same honest none = record {
   honest = subst (λ (d : O). device.honest_seen d seen) (sym same) honest;
   kept = λ n block kept. absurd (none n block kept);
@@ -86,7 +86,7 @@ reads_well {O} {Pen} {Seen} device reader seen disk same honest none = record {
 
 -- a reader that keeps what is settled reads well
 pub reads_kept : {O Pen Seen : Type 0} (device : OnceGhosts O Pen Seen) (reader : ShelfReader O Pen Seen device) (seen : Seen) (disk : O) (o : OnceState) → reader_disk reader ≡ disk → device.honest_seen disk seen → device.known seen ≡ o.settled
-    → ((n : ℕ) (block : List ℕ) → IsKept reader n block → o.settled n ≡ Some block) → ReadsWell device reader seen
+    → ((n : ℕ) (block : List ℕ) → IsCached reader n block → o.settled n ≡ Some block) → ReadsWell device reader seen
 reads_kept {O} device reader seen disk o same honest known settled = record {
   honest = subst (λ (d : O). device.honest_seen d seen) (sym same) honest;
   kept = λ n block kept. ap (λ (f : ℕ → Option (List ℕ)). f n) known ∙ settled n block kept;
@@ -94,30 +94,30 @@ reads_kept {O} device reader seen disk o same honest known settled = record {
 
 -- what it keeps then is settled
 pub kept_reads : {O Pen Seen : Type 0} (device : OnceGhosts O Pen Seen) (reader : ShelfReader O Pen Seen device) (seen : Seen) (o : OnceState) → ReadsWell device reader seen → device.known seen ≡ o.settled
-    → (n : ℕ) (block : List ℕ) → IsKept reader n block → o.settled n ≡ Some block
+    → (n : ℕ) (block : List ℕ) → IsCached reader n block → o.settled n ≡ Some block
 kept_reads device reader seen o well known n block kept = ap (λ (f : ℕ → Option (List ℕ)). f n) (sym known) ∙ well.kept n block kept
 
 -- a call that only checked whether it may go on leaves a reader as it was
 pub reads_idle : {E O Pen Seen : Type 0} {erase : EraseGhosts E} {once : OnceGhosts O Pen Seen} (a z : Archive E O Pen Seen erase once) (r s : ShelfReader O Pen Seen once) → IsAsBefore a z → s ≡ r → ReadsFrom a r → ReadsFrom z s
 reads_idle {O = O} {Pen = Pen} {Seen = Seen} {once = once} a z r s idle same from = record {
   disk = ap (λ (x : ShelfReader O Pen Seen once). reader_disk x) same ∙ from.disk ∙ sym idle.disk;
-  kept = λ n block kept. ap (λ (o : OnceState). o.settled n) idle.state ∙ from.kept n block (subst (λ (x : ShelfReader O Pen Seen once). IsKept x n block) same kept);
+  kept = λ n block kept. ap (λ (o : OnceState). o.settled n) idle.state ∙ from.kept n block (subst (λ (x : ShelfReader O Pen Seen once). IsCached x n block) same kept);
 }
 
 -- it can be read by a question
 pub tree_read : {P : Type 0} (pages : Ghosts P) (held held' : P) {O Pen Seen : Type 0} (device : OnceGhosts O Pen Seen) (reader : ShelfReader O Pen Seen device) (seen : Seen) (root fresh block burnt : ℕ) → block ≤ burnt → (ps : List (Placed Admitted)) (t : HasTree pages held device reader seen root fresh block ps)
     → (place : PagePlace)
-    → ((start : Start) (shown : List (List ℕ)) → pages.shows held start shown → pages.shows held' start shown) → StandsShown t.shown t.located.store t.versions place → ReadsTree pages held' device reader seen place burnt t.versions
-tree_read pages held held' device reader seen root fresh block burnt most ps t place reads stands = record {
+    → ((start : Start) (shown : List (List ℕ)) → pages.shows held start shown → pages.shows held' start shown) → RepresentsShown t.shown t.located.store t.versions place → ReadsTree pages held' device reader seen place burnt t.versions
+tree_read pages held held' device reader seen root fresh block burnt most ps t place reads represents_all = record {
   start = t.start;
   shown = t.shown;
   shows = reads t.start t.shown t.shows;
   store = t.located.store;
-  stands = stands;
+  represents_all = represents_all;
   named = (let next = t.located.next in omega (arith, next, most));
-  rising = t.located.has.stands.rising;
+  rising = t.located.has.represents_all.rising;
   well = t.well;
-  known = record { says = λ n node here. (let b = t.located.blocks n node here in (b.octets, record { inside = b.inside; at = b.here }, b.says)) };
+  known = record { represents_node = λ n node here. (let b = t.located.blocks n node here in (b.octets, record { inside = b.inside; at = b.here }, b.represents_node)) };
 }
 
 -- ---- refusals
@@ -158,16 +158,16 @@ above_reported (Err e) bound last mark f reported = let first = f.0 in let same 
 -- ---- what an archive answers by what it holds
 
 -- one that needn't be opened again represents what it holds
-represents_of : {E O Pen Seen : Type 0} {erase : EraseGhosts E} {once : OnceGhosts O Pen Seen} (a : Archive E O Pen Seen erase once) (h : History) → is_down a ≡ false → IsHonest a → Holds a h → Represents a h
+represents_of : {E O Pen Seen : Type 0} {erase : EraseGhosts E} {once : OnceGhosts O Pen Seen} (a : Archive E O Pen Seen erase once) (h : History) → is_down a ≡ false → IsHonest a → RepresentsIfHonest a h → Represents a h
 represents_of a h usable honest held = ⊎_elim (λ k. k) (λ w. absurd (true≢false (sym w.unusable ∙ usable))) (held honest)
 
 pub answered_of : {E O Pen Seen : Type 0} {erase : EraseGhosts E} {once : OnceGhosts O Pen Seen} (a : Archive E O Pen Seen erase once) {X : Type 0} (r : Result X AskError) (P : X → History → Type 0) → OnOk r (is_down a ≡ false) → IfOk r (λ x. (h : History) → Represents a h → P x h)
-    → IfOk r (λ x. IsHonest a → (h : History) → Holds a h → P x h)
+    → IfOk r (λ x. IsHonest a → (h : History) → RepresentsIfHonest a h → P x h)
 answered_of a (Ok x) P usable answered = λ honest h held. answered h (represents_of a h usable honest held)
 answered_of a (Err e) P usable answered = tt
 
 pub below_of : {E O Pen Seen : Type 0} {erase : EraseGhosts E} {once : OnceGhosts O Pen Seen} (a : Archive E O Pen Seen erase once) {X : Type 0} (r : Result X AskError) (P : History → Type 0) → OnOk r (is_down a ≡ false) → OnOk r ((h : History) → Represents a h → P h)
-    → OnOk r (IsHonest a → (h : History) → Holds a h → P h)
+    → OnOk r (IsHonest a → (h : History) → RepresentsIfHonest a h → P h)
 below_of a (Ok x) P usable below = λ honest h held. below h (represents_of a h usable honest held)
 below_of a (Err e) P usable below = tt
 
@@ -177,7 +177,7 @@ not_both r mark one other = cc
 pub watermark_of : {E O Pen Seen : Type 0} {erase : EraseGhosts E} {once : OnceGhosts O Pen Seen} (a : Archive E O Pen Seen erase once) {X : Type 0} (r : Result X AskError) (last : ℕ) → (is_down a ≡ true → r ≡ Err asks.NeedsRecovery)
     → ((h : History) → Represents a h → (mark : ℕ) → r ≡ Err (asks.AboveWatermark mark) → (mark ≡ settled h) × (settled h ≤ last))
     → ((h : History) → Represents a h → settled h ≤ last → r ≡ Err (asks.AboveWatermark (settled h)))
-    → IsHonest a → (h : History) → Holds a h → (mark : ℕ) → (r ≡ Err (asks.AboveWatermark mark)) ↔ ((is_down a ≡ false) × (mark ≡ settled h) × (settled h ≤ last))
+    → IsHonest a → (h : History) → RepresentsIfHonest a h → (mark : ℕ) → (r ≡ Err (asks.AboveWatermark mark)) ↔ ((is_down a ≡ false) × (mark ≡ settled h) × (settled h ≤ last))
 watermark_of a r last reported above watermark honest h held mark = (
   λ is. ⊎_elim (λ k. let f = above h k mark is in (k.maps.keeps.usable, f.0, f.1)) (λ w. absurd (not_both r mark (reported w.unusable) is)) (held honest),
   λ f. subst (λ (n : ℕ). r ≡ Err (asks.AboveWatermark n)) (sym f.1) (watermark h (represents_of a h f.0 honest held) f.2),

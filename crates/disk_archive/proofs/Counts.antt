@@ -25,7 +25,7 @@ use Rattle.tsb_check.specs.InUse.{IsWithin}
 use Rattle.disk_archive.specs.declared.archive.Archive.{Archive}
 use Rattle.disk_archive.specs.declared.check_error.CheckError.{CheckError}
 use Rattle.disk_archive.specs.declared.check_error.CheckError.TheVariants as checks
-use Rattle.disk_archive.specs.Archives.{Holds, IsHonest, is_down}
+use Rattle.disk_archive.specs.Archives.{RepresentsIfHonest, IsHonest, is_down}
 use Rattle.disk_archive.specs.inner.Asking.{HasTree}
 use Rattle.disk_archive.specs.inner.Checking.{check_of_node, CountRefusal, FindsNone}
 
@@ -55,7 +55,7 @@ reported_is n m k is same few = omega (arith, is, same, few)
 
 pub known_of : {P : Type 0} (pages : Ghosts P) (held : P) {O Pen Seen : Type 0} (device : OnceGhosts O Pen Seen) (reader : ShelfReader O Pen Seen device) (seen : Seen) (root fresh block : ℕ) (ps : List (Placed Admitted)) (t : HasTree pages held device reader seen root fresh block ps)
     → AreKnown (device.known seen) (device.block_count (reader_disk reader)) t.located.store.blocks
-known_of pages held device reader seen root fresh block ps t = record { says = λ n node here. (let b = t.located.blocks n node here in (b.octets, record { inside = b.inside; at = b.here }, b.says)) }
+known_of pages held device reader seen root fresh block ps t = record { represents_node = λ n node here. (let b = t.located.blocks n node here in (b.octets, record { inside = b.inside; at = b.here }, b.represents_node)) }
 
 -- its store uses no page and no block but those in use
 pub within_of : {P : Type 0} (pages : Ghosts P) (held : P) {O Pen Seen : Type 0} (device : OnceGhosts O Pen Seen) (reader : ShelfReader O Pen Seen device) (seen : Seen) (root fresh block burnt : ℕ) → block ≤ burnt → (ps : List (Placed Admitted)) (t : HasTree pages held device reader seen root fresh block ps)
@@ -121,7 +121,7 @@ passed_node {T} {U} r s e page reported was is =
 
 -- where it needn't be opened again, the head counts what is applied
 pub counted_of : {E O Pen Seen : Type 0} {erase : EraseGhosts E} {once : OnceGhosts O Pen Seen} (a : Archive E O Pen Seen erase once) (r : Result ℕ CheckError) → OnOk r (is_down a ≡ false) → IfOk r (λ n. n ≡ a.head.applied)
-    → IfOk r (λ n. IsHonest a → (h : History) → Holds a h → n ≡ sum_by (λ (p : Placed Admitted). length p.item.changes) (applied h))
+    → IfOk r (λ n. IsHonest a → (h : History) → RepresentsIfHonest a h → n ≡ sum_by (λ (p : Placed Admitted). length p.item.changes) (applied h))
 counted_of a (Ok n) usable counted = λ honest h held. ⊎_elim
     (λ k. counted ∙ (k.head_represents.numbered ∙ changes_are (applied h)))
     (λ w. absurd (true≢false (sym w.unusable ∙ usable)))

@@ -10,7 +10,7 @@ use Rattle.disk_models.specs.Left.{CrashPair, Left, LeftNow, WithSettled}
 use Rattle.disk_models.proofs.api.Growing.{grows_none}
 use Rattle.disk_models.proofs.api.Moments.{leaves_weaker}
 use Rattle.disk_models.proofs.api.Pairs.{inside_opening, now_is_pair}
-use Rattle.page_journal.specs.Identity.{HoldsNone}
+use Rattle.page_journal.specs.Identity.{HasNoJournal}
 use Rattle.page_journal.specs.Layout.{Image, homes_from, pages_of}
 use Rattle.page_journal.specs.Recovers.{laid, AreBelow, NoneOrJournal, Recovers}
 use Rattle.page_journal.proofs.Covering.{length-homes_from, length-laid}
@@ -33,7 +33,7 @@ use Rattle.disk_archive.specs.Mirrors.{Mirrors}
 use Rattle.disk_archive.specs.Notes.{note_octets}
 use Rattle.disk_archive.specs.Sites.{Site, Rests}
 use Rattle.disk_archive.specs.Trees.{TreeLocated}
-use Rattle.disk_archive.specs.inner.Creating.{Means, bare_head, bare_lane}
+use Rattle.disk_archive.specs.inner.Creating.{CrashRepresents, bare_head, bare_lane}
 use Rattle.disk_archive.specs.inner.Planning.{Headed}
 use Rattle.disk_archive.proofs.Crossing.{now_represents}
 use Rattle.disk_archive.proofs.api.Trees.{tree_framed}
@@ -74,7 +74,7 @@ pub located_first : (count : ℕ) (pages : List (List ℕ)) (settled : ℕ → L
 located_first count pages settled low block t = record {
   level = 1;
   store = record { nodes = t.nodes; limit = low + 2; blocks = λ _. None; next = 0 };
-  says = t.reports;
+  represents_node = t.reports;
   own = t.own;
   limit = refl;
   blocks = λ n node here. absurd (none-some node here);
@@ -146,7 +146,7 @@ numbers_empty lanes n m = sym (length-map lanes (λ (w : Waiting). w.mark)) ∙ 
 
 -- ---- what a crash leaves
 
-pub rests_first : (site : Site) (head : Contents) (pages : List (List ℕ)) (h : History) (e : DiskState) (o : OnceState) → Headed site.blocks site.settings (settled_in o) head pages h → Means site.homes site.note e pages → Rests site e o h
+pub rests_first : (site : Site) (head : Contents) (pages : List (List ℕ)) (h : History) (e : DiskState) (o : OnceState) → Headed site.blocks site.settings (settled_in o) head pages h → CrashRepresents site.homes site.note e pages → Rests site e o h
 rests_first site head pages h e o k means left now = (h, Begins-refl h, now_represents site o head pages h left k (means left.erase now.erase) now.settled)
 
 pub same_site : (s : Settings) {homes homes' blocks blocks' : ℕ} {note note' : List ℕ} → homes ≡ homes' → note ≡ note' → blocks ≡ blocks'
@@ -160,7 +160,7 @@ pub leaves_first : (site : Site) (head : Contents) (pages : List (List ℕ)) (e 
     → Leaves e f (NoneOrJournal site.homes site.note pages) → Leaves e f (WithSettled o (LeavesNoneOrEmpty site))
 leaves_first site head pages e f o k l = leaves_weaker e f (NoneOrJournal site.homes site.note pages) (WithSettled o (LeavesNoneOrEmpty site))
     (λ c is left same has. ⊎_elim
-    (λ none. inl (subst HoldsNone (sym same) none))
+    (λ none. inl (subst HasNoJournal (sym same) none))
     (λ means. inr (now_represents site o head pages (empty site.settings.collectors) left k (subst (λ (x : ℕ → ℕ). Recovers site.homes site.note x pages) (sym same) means) has))
     is) l
 

@@ -3,7 +3,7 @@ use Rattle.std.proofs.Common.{◌≡◌, ℕ, List, refl, sym, ◌∙◌, arith}
 use Rattle.disk_models.specs.declared.erase.EraseDisk.{Ghosts}
 use Rattle.page_journal.specs.declared.error.OpenError.{OpenError as JournalError}
 use Rattle.page_journal.specs.declared.error.OpenError.TheVariants as journals
-use Rattle.page_journal.specs.Identity.{HoldsNone, Names}
+use Rattle.page_journal.specs.Identity.{HasNoJournal, Names}
 use Rattle.page_journal.specs.Journal.{disk_of, home_pages, note_of}
 use Rattle.page_journal.specs.Refusals.{IsFaultOrMemory as IsJournalFaultOrMemory, OpenRefusal}
 use Rattle.buffer_pool.specs.Pool.{Maps, journal_of}
@@ -34,7 +34,7 @@ none_named size f blocks (journals.BadNode page) refused reported named = cc
 none_named size f blocks journals.NotAJournal refused reported named = let low = refused named.homes named.note named.names in let room = named.room in absurd (omega (arith, low, room))
 
 -- a disk that holds no journal isn't reported as damaged
-pub none_reported : (size : ℕ) (f : ℕ → ℕ) (e : JournalError) → OpenRefusal size f e → HoldsNone f → IsNoneFaultOrMemory (of_opening e)
+pub none_reported : (size : ℕ) (f : ℕ → ℕ) (e : JournalError) → OpenRefusal size f e → HasNoJournal f → IsNoneFaultOrMemory (of_opening e)
 none_reported size f journals.Fault refused none = tt
 none_reported size f journals.OutOfMemory refused none = tt
 none_reported size f journals.NotAJournal refused none = tt

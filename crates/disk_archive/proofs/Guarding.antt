@@ -9,18 +9,18 @@ use Rattle.buffer_pool.specs.Pool.{Maps, journal_of}
 use Rattle.page_tx.specs.Start.{Start}
 use Rattle.disk_archive.specs.declared.looks.Looks.{Looks}
 use Rattle.disk_archive.specs.inner.Looking.{LooksAt}
-use Rattle.disk_archive.specs.inner.Guarding.{GuardedAt, MeansOr}
+use Rattle.disk_archive.specs.inner.Guarding.{GuardedAt, CrashRepresentsOr}
 use Rattle.disk_archive.specs.inner.Restoring.{Restores}
 use Rattle.disk_archive.proofs.Looking.{looks_still}
 
 -- what a crash inside an opening leaves
-pub means_opened : (e0 e1 : DiskState) (homes : ℕ) (note : List ℕ) (pages : List (List ℕ)) → IsSound e0 → Leaves e0 e1 (λ c. Recovers homes note c pages) → MeansOr e1 e0.clock (MayLeave e0) homes note pages
+pub means_opened : (e0 e1 : DiskState) (homes : ℕ) (note : List ℕ) (pages : List (List ℕ)) → IsSound e0 → Leaves e0 e1 (λ c. Recovers homes note c pages) → CrashRepresentsOr e1 e0.clock (MayLeave e0) homes note pages
 means_opened e0 e1 homes note pages sound l = record {
   later = l.later;
   each = λ c left. ⊎_elim (λ was. inl (sound.only_now c was)) (λ means. inr means) (l.before e0.clock c (omega arith) left);
 }
 
-pub means_weaker : (e : DiskState) (clock at : ℕ) (P Q : (ℕ → ℕ) → Type 0) (homes : ℕ) (note : List ℕ) (pages : List (List ℕ)) → at ≡ clock → ((c : ℕ → ℕ) → P c → Q c) → MeansOr e clock P homes note pages → MeansOr e at Q homes note pages
+pub means_weaker : (e : DiskState) (clock at : ℕ) (P Q : (ℕ → ℕ) → Type 0) (homes : ℕ) (note : List ℕ) (pages : List (List ℕ)) → at ≡ clock → ((c : ℕ → ℕ) → P c → Q c) → CrashRepresentsOr e clock P homes note pages → CrashRepresentsOr e at Q homes note pages
 means_weaker e clock at P Q homes note pages same weaker m = record {
   later = subst (λ n. n ≤ e.clock) (sym same) m.later;
   each = λ c left. ⊎_elim (λ was. inl (weaker c was)) (λ means. inr means) (m.each c (subst (λ n. e.left_since n c) same left));
@@ -43,10 +43,10 @@ guarded_still device clock left old new start shown s honest maps note homes sta
 
 -- what was restored is looked at so
 pub guarded_on : {E : Type 0} (device : Ghosts E) (clock at : ℕ) (P Q : (ℕ → ℕ) → Type 0) (looks : Looks E device) (homes : ℕ) (note : List ℕ) (pages : List (List ℕ)) → at ≡ clock → ((c : ℕ → ℕ) → P c → Q c) → Restores device looks homes note pages
-    → MeansOr (device.model (disk_of (journal_of looks.pool))) clock P homes note pages → GuardedAt device at Q looks (record { note = note; pages = pages; clock = (device.model (disk_of (journal_of looks.pool))).clock }) pages
+    → CrashRepresentsOr (device.model (disk_of (journal_of looks.pool))) clock P homes note pages → GuardedAt device at Q looks (record { note = note; pages = pages; clock = (device.model (disk_of (journal_of looks.pool))).clock }) pages
 guarded_on device clock at P Q looks homes note pages same weaker r m = record {
   looked = r.looked;
-  means = subst (λ n. MeansOr (device.model (disk_of (journal_of looks.pool))) at Q n note pages) (sym r.homes)
+  means = subst (λ n. CrashRepresentsOr (device.model (disk_of (journal_of looks.pool))) at Q n note pages) (sym r.homes)
       (means_weaker (device.model (disk_of (journal_of looks.pool))) clock at P Q homes note pages same weaker m);
 }
 

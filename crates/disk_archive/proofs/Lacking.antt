@@ -14,7 +14,7 @@ use Rattle.tsb_tree.specs.Needs.{NeedsLevel, NeedsPages}
 use Rattle.tsb_tree.specs.NoRoom.{AtRoot}
 use Rattle.tsb_tree.specs.Opened.{HasRootLevel, is_key_node}
 use Rattle.tsb_tree.specs.Outlived.{LeadsToOutdated, outdated_leaf, outdated_below}
-use Rattle.tsb_node.specs.Views.{PageSays}
+use Rattle.tsb_node.specs.Views.{PageRepresents}
 use Rattle.tsb_walk.specs.declared.page_place.PagePlace.{PagePlace}
 use Rattle.tsb_walk.specs.Shown.{keys_at}
 use Rattle.version_model.specs.Pages.{Keys, KeyNode, all_keys}
@@ -136,13 +136,13 @@ level_of shown v level _ keys is (outdated_leaf column page image of filled outd
       refl,
       refl,
       refl,
-      outdated_leaf at page image (record { parts = of.parts; start = of.start; versions = of.versions; column = of.column; at = of.at; says = of.says })
-          (record { start = filled.start; versions = filled.versions; says = filled.says; filled = filled.filled })
-          (record { start = outdated.start; versions = outdated.versions; says = outdated.says; outlived = outdated.outlived }),
+      outdated_leaf at page image (record { parts = of.parts; start = of.start; versions = of.versions; column = of.column; at = of.at; represents_node = of.represents_node })
+          (record { start = filled.start; versions = filled.versions; represents_node = filled.represents_node; filled = filled.filled })
+          (record { start = outdated.start; versions = outdated.versions; represents_node = outdated.represents_node; outlived = outdated.outlived }),
     )
 level_of shown v level _ keys is (outdated_below place next lower rest) =
-    let said : PageSays lower.says.octets (KeyNode place.level all_keys lower.children) = subst (λ (k : Keys). PageSays lower.says.octets (KeyNode place.level k lower.children)) keys lower.says.says in
-    let same : level ≡ place.level = is place.level (lower.says.octets, lower.says.at, is_key_node place.level lower.children said) in
+    let decoded : PageRepresents lower.represents_node.octets (KeyNode place.level all_keys lower.children) = subst (λ (k : Keys). PageRepresents lower.represents_node.octets (KeyNode place.level k lower.children)) keys lower.represents_node.represents_node in
+    let same : level ≡ place.level = is place.level (lower.represents_node.octets, lower.represents_node.at, is_key_node place.level lower.children decoded) in
     (place, refl, sym same, refl, outdated_below place next lower rest)
 
 -- where the tree was given as many pages as it needs, and rises where it has to

@@ -10,16 +10,16 @@ use Rattle.tsb_node.specs.Views.{keys_between}
 use Rattle.tsb_node.proofs.ViewLaws.{children_are}
 use Rattle.tsb_walk.specs.declared.page_place.PagePlace.{PagePlace}
 use Rattle.tsb_walk.specs.PageWays.{IsLower}
-use Rattle.tsb_walk.specs.Shown.{Says, keys_at}
+use Rattle.tsb_walk.specs.Shown.{RepresentsNode, keys_at}
 use Rattle.tsb_tree.specs.Needs.{HasLeaf, BecomesTwo, split_by_key, split_key_node, StaysOne, leaf_with_room, split_by_time, above_one, takes_half, NeedsPages, same_root, new_root}
-use Rattle.tsb_tree.proofs.Columns.{says_one}
+use Rattle.tsb_tree.proofs.Columns.{represents_one}
 use Rattle.tsb_tree.proofs.Excluding.{one_not_two}
-use Rattle.tsb_tree.proofs.Saying.{KeyNodeOf, key_node_of_page}
+use Rattle.tsb_tree.proofs.Representing.{KeyNodeOf, key_node_of_page}
 
 -- the children of a key node that is shown follow one another
 children_shown : (shown : List (List ℕ)) (key : ℕ) (place next : PagePlace) (lower : IsLower shown key place next) → AreChildren (keys_at place) lower.children
 children_shown shown key place next lower =
-    let of : KeyNodeOf lower.says.octets place.level (keys_at place) lower.children = key_node_of_page lower.says.octets _ place.level (keys_at place) lower.children refl lower.says.says in
+    let of : KeyNodeOf lower.represents_node.octets place.level (keys_at place) lower.children = key_node_of_page lower.represents_node.octets _ place.level (keys_at place) lower.children refl lower.represents_node.represents_node in
     let is = of.is in
     let keys : keys_between of.node.bounds ≡ keys_at place = cc in
     let children : of.node.children ≡ lower.children = cc in
@@ -30,14 +30,14 @@ module _ (shown : List (List ℕ)) (key : ℕ) (a b : PagePlace) (page : a.page 
   -- are no column and key node
   no_column_above : (leaf : List Version) (next : PagePlace) → HasLeaf shown a leaf → IsLower shown key b next → ⊥
   no_column_above leaf next has lower =
-      let said : ColumnNode (keys_at a) has.parts has.start has.page ≡ KeyNode b.level (keys_at b) lower.children
-      = says_one shown b.page _ _ (subst (λ (p : ℕ). Says shown p (ColumnNode (keys_at a) has.parts has.start has.page)) page has.column) lower.says in
+      let decoded : ColumnNode (keys_at a) has.parts has.start has.page ≡ KeyNode b.level (keys_at b) lower.children
+      = represents_one shown b.page _ _ (subst (λ (p : ℕ). RepresentsNode shown p (ColumnNode (keys_at a) has.parts has.start has.page)) page has.column) lower.represents_node in
       absurd (cc)
 
   -- and have one child that has the key
   module _ (next other : PagePlace) (lower : IsLower shown key a next) (lower' : IsLower shown key b other) where
     one_node : KeyNode a.level (keys_at a) lower.children ≡ KeyNode b.level (keys_at b) lower'.children
-    one_node = says_one shown b.page _ _ (subst (λ (p : ℕ). Says shown p (KeyNode a.level (keys_at a) lower.children)) page lower.says) lower'.says
+    one_node = represents_one shown b.page _ _ (subst (λ (p : ℕ). RepresentsNode shown p (KeyNode a.level (keys_at a) lower.children)) page lower.represents_node) lower'.represents_node
 
     abbrev child : Child
     child = record { low = next.low; page = next.page }
@@ -47,7 +47,7 @@ module _ (shown : List (List ℕ)) (key : ℕ) (a b : PagePlace) (page : a.page 
 
     under : IsChildOf (keys_at a) lower.children (keys_at other) second
     under =
-        let said = one_node in
+        let decoded = one_node in
         let keys : keys_at b ≡ keys_at a = cc in
         let children : lower'.children ≡ lower.children = cc in
         subst (λ (k : Keys). IsChildOf k lower.children (keys_at other) second) keys (subst (λ (cs : List Child). IsChildOf (keys_at b) cs (keys_at other) second) children lower'.child)

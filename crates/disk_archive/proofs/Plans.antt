@@ -9,7 +9,7 @@ use Rattle.route_meaning.specs.History.{Intake, History, waiting}
 use Rattle.interleaving_core.specs.Steps.{given}
 use Rattle.archive_head.specs.declared.lane.Lane.{Lane}
 use Rattle.archive_head.specs.Head.{Contents, IsHead, head_octets}
-use Rattle.intake.specs.Ring.{Gains, Holds}
+use Rattle.intake.specs.Ring.{Gains, RingRepresents}
 use Rattle.archive_pages.specs.declared.settings.Settings.{Settings}
 use Rattle.archive_pages.specs.Places.{ring_of}
 use Rattle.archive_pages.specs.Represented.{HeadRepresents}
@@ -35,7 +35,7 @@ set_there (y ∷ xs) (suc c) x new e = set_there xs c x new e
 -- the ring gained what is kept, so some pages are shown
 pub given_shown : (count : ℕ) (s : Settings) (o : OnceState) (shows : List (List ℕ) → Type 0) (head : Contents) (shown : List (List ℕ)) (h : History) (c : ℕ) (kept : Kept) (lane : Lane)
     → HeadRepresents (TreeLocated count) s (settled_in o) head shown h → HasLane head c lane
-    → ((waits : List Admitted) → Holds shown (ring_of s c lane) waits → Gains shows shown (ring_of s c (lane_with lane kept)) (waits ++ kept.timely))
+    → ((waits : List Admitted) → RingRepresents shown (ring_of s c lane) waits → Gains shows shown (ring_of s c (lane_with lane kept)) (waits ++ kept.timely))
     → (now : List (List ℕ)) × shows now
 given_shown count s o shows head shown h c kept lane b at gains =
     let within = slice_get_within head.lanes c lane at in
@@ -49,7 +49,7 @@ given_shown count s o shows head shown h c kept lane b at gains =
 -- and once the head is laid over page 0, they represent the history
 pub plan_done : (count : ℕ) (s : Settings) (o : OnceState) (mid new : List (List ℕ) → Type 0) (head next : Contents) (shown : List (List ℕ)) (h : History) (c : ℕ) (offered : List Admitted) (kept : Kept) (lane : Lane) (i : Intake)
     → HeadRepresents (TreeLocated count) s (settled_in o) head shown h → AllByRecursion IsAdmission offered → HasLane head c lane → slice_get h.intakes c ≡ Some i → IsKeptOf i.mark offered kept
-    → ((waits : List Admitted) → Holds shown (ring_of s c lane) waits → Gains mid shown (ring_of s c (lane_with lane kept)) (waits ++ kept.timely))
+    → ((waits : List Admitted) → RingRepresents shown (ring_of s c lane) waits → Gains mid shown (ring_of s c (lane_with lane kept)) (waits ++ kept.timely))
     → next ≡ with_lane head c (lane_with lane kept) → IsHead next → ((pages : List (List ℕ)) → mid pages → 0 < length pages) → ((pages : List (List ℕ)) → mid pages → new (slice_set pages 0 (head_octets next)))
     → Planned count s (settled_in o) new next (given h c offered)
 plan_done count s o mid new head next shown h c offered kept lane i b valid at here is gains same is_head some written =

@@ -9,7 +9,7 @@ use Rattle.sequencer.specs.First.{IsNext}
 use Rattle.sequencer.specs.Ahead.{beyond}
 use Rattle.archive_head.specs.declared.lane.Lane.{Lane}
 use Rattle.archive_head.specs.Head.{Contents, IsHead, head_octets}
-use Rattle.intake.specs.Ring.{IsRing, Holds}
+use Rattle.intake.specs.Ring.{IsRing, RingRepresents}
 use Rattle.archive_pages.specs.declared.settings.Settings.{Settings}
 use Rattle.archive_pages.specs.Places.{ring_of}
 use Rattle.archive_pages.specs.Represented.{HeadRepresents}
@@ -31,7 +31,7 @@ use Rattle.disk_archive.proofs.api.Trees.{tree_framed, tree_grows}
 
 -- what is next in memory, and its ring's first admission: the first that waits
 pub first_found : (count : ℕ) (s : Settings) (settled : ℕ → List ℕ → Type 0) (head : Contents) (pages : List (List ℕ)) (lanes : List Waiting) (h : History) (c : ℕ) (a : Admitted) → c < length head.lanes → HeadRepresents (TreeLocated count) s settled head pages h → Mirrors lanes h → IsNext lanes c
-    → ((lane : Lane) (waits : List Admitted) → HasLane head c lane → Holds pages (ring_of s c lane) waits → slice_get waits 0 ≡ Some a) → IsFirst h (record { collector = c; admission = a })
+    → ((lane : Lane) (waits : List Admitted) → HasLane head c lane → RingRepresents pages (ring_of s c lane) waits → slice_get waits 0 ≡ Some a) → IsFirst h (record { collector = c; admission = a })
 first_found count s settled head pages lanes h c a low b m next reported =
     let f = next_is lanes h c (let n = b.number in let l = b.lanes_number in omega (arith, low, n, l)) m next in
     let k = front_holds count s settled head pages h c f.first f.later low b f.next in
@@ -49,7 +49,7 @@ at_hand h front a f same = subst (λ (x : Admitted). IsFirst h (record { collect
 
 -- its page isn't reported as damaged
 pub first_sound : (count homes : ℕ) (s : Settings) (settled : ℕ → List ℕ → Type 0) (head : Contents) (pages : List (List ℕ)) (lanes : List Waiting) (h : History) (c : ℕ) (blamed : Type 0) → c < length head.lanes → HeadRepresents (TreeLocated count) s settled head pages h → Mirrors lanes h → IsNext lanes c → length pages ≡ homes
-    → ((lane : Lane) (first : Admitted) (rest : List Admitted) → HasLane head c lane → IsRing homes (ring_of s c lane) → Holds pages (ring_of s c lane) (first ∷ rest) → blamed → ⊥) → blamed → ⊥
+    → ((lane : Lane) (first : Admitted) (rest : List Admitted) → HasLane head c lane → IsRing homes (ring_of s c lane) → RingRepresents pages (ring_of s c lane) (first ∷ rest) → blamed → ⊥) → blamed → ⊥
 first_sound count homes s settled head pages lanes h c blamed low b m next len never =
     let f = next_is lanes h c (let n = b.number in let l = b.lanes_number in omega (arith, low, n, l)) m next in
     let k = front_holds count s settled head pages h c f.first f.later low b f.next in

@@ -20,10 +20,10 @@ use Rattle.sequencer.proofs.api.Sieving.{greatest-push, is_late-greatest}
 use Rattle.interleaving_core.proofs.api.Right.{to_map}
 use Rattle.archive_head.specs.declared.lane.Lane.{Lane}
 use Rattle.archive_head.specs.Head.{Contents}
-use Rattle.intake.specs.Ring.{Holds, time_of}
+use Rattle.intake.specs.Ring.{RingRepresents, time_of}
 use Rattle.archive_pages.specs.declared.settings.Settings.{Settings}
 use Rattle.archive_pages.specs.Places.{ring_of}
-use Rattle.archive_pages.specs.Represented.{HeadRepresents, LaneStands}
+use Rattle.archive_pages.specs.Represented.{HeadRepresents, LaneRepresents}
 use Rattle.archive_pages.proofs.api.Histories.{part_of_all}
 use Rattle.disk_archive.specs.declared.open_error.OpenError.{OpenError}
 use Rattle.disk_archive.specs.declared.open_error.OpenError.TheVariants as openings
@@ -187,12 +187,12 @@ knows_more reported lanes new k lane ts knows here m t =
     }
 
 pub times_more : (s : Settings) (reported : List Lane) (shown : List (List ℕ)) (lanes new : List Waiting) (k : ℕ) (ts : List ℕ) → KnowsMarks reported lanes k → k < length reported → KnowsTimes s reported shown lanes k → waiting_times new ≡ slice_set (waiting_times lanes) k ts
-    → ((lane : Lane) (waits : List Admitted) → slice_get reported k ≡ Some lane → Holds shown (ring_of s k lane) waits → ts ≡ map time_of waits) → KnowsTimes s reported shown new (k + 1)
+    → ((lane : Lane) (waits : List Admitted) → slice_get reported k ≡ Some lane → RingRepresents shown (ring_of s k lane) waits → ts ≡ map time_of waits) → KnowsTimes s reported shown new (k + 1)
 times_more s reported shown lanes new k ts marks low knows t is c lane waits lt at holds = ⊎_elim
     (λ (e : c ≡ k).
     let count = marks.count in
     let long = times_long lanes in
-    let held : Holds shown (ring_of s k lane) waits = subst (λ j. Holds shown (ring_of s j lane) waits) e holds in
+    let held : RingRepresents shown (ring_of s k lane) waits = subst (λ j. RingRepresents shown (ring_of s j lane) waits) e holds in
     let same : ts ≡ map time_of waits = is lane waits (subst (λ j. slice_get reported j ≡ Some lane) e at) held in
     subst (λ j. slice_get (waiting_times new) j ≡ Some (map time_of waits)) (sym e)
     (ap (λ (x : List (List ℕ)). slice_get x k) t ∙ set_here (waiting_times lanes) k ts (omega (arith, low, count, long)) ∙ ap (λ (x : List ℕ). Some x) same))
@@ -241,7 +241,7 @@ waits_low h c i right here =
 pub record Own (s : Settings) (shown : List (List ℕ)) (c : ℕ) (lane : Lane) (h : History) : Type 0 where
   pub intake : Intake
   pub here : slice_get h.intakes c ≡ Some intake
-  pub stands : LaneStands s shown c lane intake (part c (waiting h))
+  pub represents_all : LaneRepresents s shown c lane intake (part c (waiting h))
 
 pub own_of : (count : ℕ) (s : Settings) (o : OnceState) (head : Contents) (shown : List (List ℕ)) (h : History) (c : ℕ) (lane : Lane) → HeadRepresents (TreeLocated count) s (settled_in o) head shown h → slice_get head.lanes c ≡ Some lane → Own s shown c lane h
 own_of count s o head shown h c lane b at =
@@ -249,7 +249,7 @@ own_of count s o head shown h c lane b at =
     let n = b.number in
     let m = b.lanes_number in
     let i = intake_at c h.intakes (omega (arith, within, n, m)) in
-    record { intake = i.0; here = i.1; stands = b.lanes c lane i.0 at i.1 }
+    record { intake = i.0; here = i.1; represents_all = b.lanes c lane i.0 at i.1 }
 
 -- all collectors are known
 pub mirrors_known : (count : ℕ) (s : Settings) (o : OnceState) (head : Contents) (shown : List (List ℕ)) (h : History) (lanes : List Waiting) (known : ℕ) → HeadRepresents (TreeLocated count) s (settled_in o) head shown h → length head.lanes ≤ known → KnowsMarks head.lanes lanes known → KnowsTimes s head.lanes shown lanes known → Mirrors lanes h
@@ -267,7 +267,7 @@ mirrors_known count s o head shown h lanes known b all knows times =
           let lane = lane_at k head.lanes (omega (arith, low, d, n, m)) in
           let own = own_of count s o head shown h k lane.0 b lane.1 in
           let is : own.intake.mark ≡ y = one_there (slice_get (map (λ (i : Intake). i.mark) intakes) k) own.intake.mark y (map_get (λ (i : Intake). i.mark) intakes k own.intake own.here) at in
-          knows.marks k lane.0 (omega (arith, low, d, n, m, all)) lane.1 ∙ ap (λ (x : ℕ). Some x) (own.stands.mark ∙ is));
+          knows.marks k lane.0 (omega (arith, low, d, n, m, all)) lane.1 ∙ ap (λ (x : ℕ). Some x) (own.represents_all.mark ∙ is));
       times =
           let lists = parts 0 (length intakes) (waiting h) in
           one_list (waiting_times lanes) (map (map admitted_time) lists)
@@ -281,7 +281,7 @@ mirrors_known count s o head shown h lanes known b all knows times =
           let zero_plus : 0 + k ≡ k = omega arith in
           let there : slice_get lists k ≡ Some (part k (waiting h)) = part_there 0 (length intakes) k (waiting h) (omega (arith, low, d, e)) ∙ ap (λ j. Some (part j (waiting h))) zero_plus in
           let is : map admitted_time (part k (waiting h)) ≡ y = one_there (slice_get (map (map admitted_time) lists) k) (map admitted_time (part k (waiting h))) y (map_get (map admitted_time) lists k (part k (waiting h)) there) at in
-          times k lane.0 (part k (waiting h)) (omega (arith, low, d, e, n, m, all)) lane.1 own.stands.holds ∙ ap (λ (x : List ℕ). Some x) is);
+          times k lane.0 (part k (waiting h)) (omega (arith, low, d, e, n, m, all)) lane.1 own.represents_all.holds ∙ ap (λ (x : List ℕ). Some x) is);
     }
   where
     parts_long : (d k : ℕ) (ps : List (Placed Admitted)) → length (parts d k ps) ≡ k

@@ -24,7 +24,7 @@ use Rattle.disk_archive.specs.declared.archive.Archive.{Archive}
 use Rattle.disk_archive.specs.declared.looks.Looks.{Looks}
 use Rattle.disk_archive.specs.declared.open_error.OpenError.{OpenError}
 use Rattle.disk_archive.specs.declared.open_error.OpenError.TheVariants as openings
-use Rattle.disk_archive.specs.Archives.{Represents, Stands, once_of, once_state, pen_in, site_of}
+use Rattle.disk_archive.specs.Archives.{Represents, ContinuesFrom, once_of, once_state, pen_in, site_of}
 use Rattle.disk_archive.specs.Mirrors.{Mirrors}
 use Rattle.disk_archive.specs.Notes.{note_octets}
 use Rattle.disk_archive.specs.Openings.{IsFaultOrMemory, ReadsAs}
@@ -32,7 +32,7 @@ use Rattle.disk_archive.specs.Sites.{IsNoted, LeftRepresents, Rests, Site}
 use Rattle.disk_archive.specs.Trees.{TreeLocated}
 use Rattle.disk_archive.specs.inner.Looking.{LooksAt}
 use Rattle.disk_archive.specs.inner.Recalling.{RecallRefusal}
-use Rattle.disk_archive.specs.inner.Guarding.{MeansOr}
+use Rattle.disk_archive.specs.inner.Guarding.{CrashRepresentsOr}
 use Rattle.archive_pages.proofs.api.Representing.{head_represents_grown}
 use Rattle.disk_archive.proofs.api.Trees.{tree_grows}
 use Rattle.disk_archive.proofs.Crossing.{now_represents}
@@ -86,7 +86,7 @@ reads_found site blocks e o left h found count noted k =
     }
 
 -- a history that stood still stands
-pub stands_read : {E O Pen Seen : Type 0} {erase : EraseGhosts E} {once : OnceGhosts O Pen Seen} (a : Archive E O Pen Seen erase once) (site : Site) (blocks : ℕ) (e : DiskState) (o : OnceState) (h : History) → Rests site e o h → site.blocks ≡ blocks → IsNoted site → ((g : History) → ReadsAs site blocks e o g → Represents a g) → Stands a h
+pub stands_read : {E O Pen Seen : Type 0} {erase : EraseGhosts E} {once : OnceGhosts O Pen Seen} (a : Archive E O Pen Seen erase once) (site : Site) (blocks : ℕ) (e : DiskState) (o : OnceState) (h : History) → Rests site e o h → site.blocks ≡ blocks → IsNoted site → ((g : History) → ReadsAs site blocks e o g → Represents a g) → ContinuesFrom a h
 stands_read a site blocks e o h rests count noted represents =
     let f = rests (present e o) (present_now e o) in
     (f.0, f.1, inl (represents f.0 (record { count = count; noted = noted; represents = f.2 })))
@@ -100,14 +100,14 @@ left_read site blocks e o h left r means has =
     now_represents site o k.head r.represents.pages h left (record { valid = k.valid; first = k.first; head_represents = k.head_represents }) means has
 
 -- each crash inside the call
-pub inside_read : (site : Site) (blocks : ℕ) (e0 e1 : DiskState) (o om o1 : OnceState) (h : History) → (r : ReadsAs site blocks e0 o h) → o1 ≡ o → MeansOr e1 e0.clock (MayLeave e0) site.homes site.note r.represents.pages → (left : Left) → CrashPair e0 e1 o om o1 left → LeftNow e0 o left ⊎ LeftRepresents site h left
+pub inside_read : (site : Site) (blocks : ℕ) (e0 e1 : DiskState) (o om o1 : OnceState) (h : History) → (r : ReadsAs site blocks e0 o h) → o1 ≡ o → CrashRepresentsOr e1 e0.clock (MayLeave e0) site.homes site.note r.represents.pages → (left : Left) → CrashPair e0 e1 o om o1 left → LeftNow e0 o left ⊎ LeftRepresents site h left
 inside_read site blocks e0 e1 o om o1 h r same m left pair = ⊎_elim
     (λ was. inl (record { erase = was; tried = pair.tried; within = subst (λ (x : OnceState). TriedWithin x left) same pair.within; settled = pair.settled }))
     (λ means. inr (left_read site blocks e0 o h left r means pair.settled))
     (m.each left.erase pair.erase)
 
 -- and each one after it
-pub after_read : (site : Site) (blocks : ℕ) (e0 e1 : DiskState) (o o1 : OnceState) (h : History) → (r : ReadsAs site blocks e0 o h) → IsSound e1 → o1 ≡ o → MeansOr e1 e0.clock (MayLeave e0) site.homes site.note r.represents.pages → (left : Left) → LeftNow e1 o1 left → LeftNow e0 o left ⊎ LeftRepresents site h left
+pub after_read : (site : Site) (blocks : ℕ) (e0 e1 : DiskState) (o o1 : OnceState) (h : History) → (r : ReadsAs site blocks e0 o h) → IsSound e1 → o1 ≡ o → CrashRepresentsOr e1 e0.clock (MayLeave e0) site.homes site.note r.represents.pages → (left : Left) → LeftNow e1 o1 left → LeftNow e0 o left ⊎ LeftRepresents site h left
 after_read site blocks e0 e1 o o1 h r sound same m left now =
     let here : LeftNow e1 o left = subst (λ (x : OnceState). LeftNow e1 x left) same now in
     ⊎_elim
@@ -157,7 +157,7 @@ rings_inside count s o pages h are r =
     (λ c lt.
     let lane = lane_at c r.head.lanes (omega (arith, lt, n)) in
     let own = own_of count s o r.head pages h c lane.0 r.head_represents lane.1 in
-    own.stands.place.inside)
+    own.represents_all.place.inside)
 
 -- and so on as many as the disk names
 pub rings_named : (site : Site) (blocks : ℕ) (e : DiskState) (o : OnceState) (h : History) → (r : ReadsAs site blocks e o h) → tree_low site.settings ≤ site.homes

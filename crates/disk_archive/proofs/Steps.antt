@@ -10,7 +10,7 @@ use Rattle.route_meaning.specs.History.{History}
 use Rattle.route_meaning.proofs.api.Beginning.{Begins-trans}
 use Rattle.disk_archive.specs.declared.archive.Archive.{Archive}
 use Rattle.disk_archive.specs.Sites.{LeftFrom}
-use Rattle.disk_archive.specs.Archives.{Represents, Stands, IsHonest, erase_state, once_state, site_of, is_down}
+use Rattle.disk_archive.specs.Archives.{Represents, ContinuesFrom, IsHonest, erase_state, once_state, site_of, is_down}
 use Rattle.disk_archive.specs.Crashes.{Crashes, Lasts}
 use Rattle.disk_archive.specs.inner.Idle.{IsAsBefore}
 use Rattle.disk_archive.proofs.Calling.{AllSound}
@@ -23,25 +23,25 @@ crashes_weaker a z P Q weaker c = record { later = c.later; each = λ left pair.
 -- A call that goes on with a history that the one from before begins, in each crash too, and does nothing while the archive must be opened
 -- again.
 pub lasts_steps : {E O Pen Seen : Type 0} {erase : EraseGhosts E} {once : OnceGhosts O Pen Seen} (a z : Archive E O Pen Seen erase once) → AllSound erase → (IsHonest a → IsHonest z) → (is_down a ≡ true → IsAsBefore a z)
-    → ((g : History) → Represents a g → Stands z g) → ((g : History) → Represents a g → Crashes a z (LeftFrom (site_of a) g)) → (h : History) → Stands a h → Lasts a z h
-lasts_steps {erase = erase} a z sound honest idle after crash h stands =
-    let g = stands.0 in
+    → ((g : History) → Represents a g → ContinuesFrom z g) → ((g : History) → Represents a g → Crashes a z (LeftFrom (site_of a) g)) → (h : History) → ContinuesFrom a h → Lasts a z h
+lasts_steps {erase = erase} a z sound honest idle after crash h continues =
+    let g = continues.0 in
     ⊎_elim
     (λ k.
     let each = crash g k in
     let then = after g k in
     record {
-      stands = (then.0, Begins-trans h g then.0 stands.1 then.1, then.2);
+      continues = (then.0, Begins-trans h g then.0 continues.1 then.1, then.2);
       inside = record {
         later = each.later;
-        each = λ left pair. let f = each.each left pair in (f.0, Begins-trans h g f.0 stands.1 f.1, f.2);
+        each = λ left pair. let f = each.each left pair in (f.0, Begins-trans h g f.0 continues.1 f.1, f.2);
       };
     })
     (λ w.
     let s = idle w.unusable in
     let e : erase_state z ≡ erase_state a = ap (λ j. erase.model (erase_disk j)) s.journal in
     record {
-      stands = (g, stands.1, inr (waits_same a z g w s.journal s.disk s.state s.settings s.head s.lanes (honest w.honest)));
+      continues = (g, continues.1, inr (waits_same a z g w s.journal s.disk s.state s.settings s.head s.lanes (honest w.honest)));
       inside = record {
         later = subst (λ (x : DiskState). (erase_state a).clock ≤ x.clock) (sym e) (omega arith);
         each = λ left pair.
@@ -52,7 +52,7 @@ lasts_steps {erase = erase} a z sound honest idle after crash h stands =
               within = subst (λ (x : OnceState). TriedWithin x left) s.state pair.within;
               settled = pair.settled;
             }) in
-            (f.0, Begins-trans h g f.0 stands.1 f.1, f.2);
+            (f.0, Begins-trans h g f.0 continues.1 f.1, f.2);
       };
     })
-    stands.2
+    continues.2

@@ -12,9 +12,9 @@ use Rattle.page_tx.specs.declared.pages.Pages.{Ghosts}
 use Rattle.page_tx.specs.Start.{Start}
 use Rattle.version_model.specs.Versions.{Version}
 use Rattle.version_model.specs.Blocks.{BlockNode}
-use Rattle.version_model.specs.Pages.{Keys, PageNode, Store, PastStands, Stands, column, key_node, all_keys}
-use Rattle.tsb_walk.specs.Shown.{AreShown}
-use Rattle.tsb_tree.specs.Trees.{TreeHas, TreeShown}
+use Rattle.version_model.specs.Pages.{Keys, PageNode, Store, PartsRepresent, Represents, column, key_node, all_keys}
+use Rattle.tsb_walk.specs.Shown.{RepresentNodes}
+use Rattle.tsb_tree.specs.Trees.{TreeHas, TreeRepresented}
 use Rattle.tsb_tree.specs.Inserted.{TakenIn}
 use Rattle.tsb_tree.specs.declared.tree.TreePlace.{TreePlace}
 use Rattle.intake.specs.Ring.{page_at}
@@ -24,7 +24,7 @@ use Rattle.disk_archive.specs.inner.Applications.{TreeTakes}
 -- ---- up to where pages and blocks are in use
 
 module _ (nodes : ℕ → Option PageNode) (limit limit' : ℕ) (blocks : ℕ → Option BlockNode) (next next' : ℕ) (all : List Version) (inside : (page : ℕ) (node : PageNode) → page < limit → nodes page ≡ Some node → page < limit') (more : next ≤ next') where
-  past_wider : (keys : Keys) (start : ℕ) (parts : List _) → PastStands blocks next all keys start parts → PastStands blocks next' all keys start parts
+  past_wider : (keys : Keys) (start : ℕ) (parts : List _) → PartsRepresent blocks next all keys start parts → PartsRepresent blocks next' all keys start parts
   past_wider keys start parts past = record {
     are_parts = elim past.are_parts [
       | inl none ↦ inl none
@@ -33,7 +33,7 @@ module _ (nodes : ℕ → Option PageNode) (limit limit' : ℕ) (blocks : ℕ �
     stand = past.stand;
   }
 
-  stands_wider : (level : ℕ) (keys : Keys) (page : ℕ) → Stands nodes limit blocks next all level keys page → Stands nodes limit' blocks next' all level keys page
+  stands_wider : (level : ℕ) (keys : Keys) (page : ℕ) → Represents nodes limit blocks next all level keys page → Represents nodes limit' blocks next' all level keys page
   stands_wider _ _ _ (column keys page c) = column keys page (record {
     parts = c.parts;
     current = c.current;
@@ -51,7 +51,7 @@ module _ (nodes : ℕ → Option PageNode) (limit limit' : ℕ) (blocks : ℕ �
       key_node level keys page children (inside page _ in_limit at) at are (λ inner child is. stands_wider level inner child.page (stand inner child is))
 
 -- the page of a root is in use, and says something
-root_there : (nodes : ℕ → Option PageNode) (limit : ℕ) (blocks : ℕ → Option BlockNode) (next : ℕ) (all : List Version) (level : ℕ) (keys : Keys) (page : ℕ) → Stands nodes limit blocks next all level keys page → (page < limit) × (node : PageNode) × (nodes page ≡ Some node)
+root_there : (nodes : ℕ → Option PageNode) (limit : ℕ) (blocks : ℕ → Option BlockNode) (next : ℕ) (all : List Version) (level : ℕ) (keys : Keys) (page : ℕ) → Represents nodes limit blocks next all level keys page → (page < limit) × (node : PageNode) × (nodes page ≡ Some node)
 root_there nodes limit blocks next all _ _ _ (column keys page c) = (c.in_limit, _, c.at)
 root_there nodes limit blocks next all _ _ _ (key_node level keys page children in_limit at are stand) = (in_limit, _, at)
 
@@ -64,20 +64,20 @@ store_at s limit next = record { nodes = s.nodes; limit = limit; blocks = s.bloc
 -- in `homes` pages a tree has its own from `low` on, up to where pages are in use
 pub has_wider : (s : Store) (versions : List Version) (root level least homes next' : ℕ) → ((page : ℕ) (node : PageNode) → s.nodes page ≡ Some node → page < homes) → s.next ≤ next' → TreeHas s versions root level least → TreeHas (store_at s (min s.limit homes) next') versions root level least
 has_wider s versions root level least homes next' shown more has = record {
-  stands = record {
-    some_level = has.stands.some_level;
-    few_levels = has.stands.few_levels;
-    stands = stands_wider s.nodes s.limit (min s.limit homes) s.blocks s.next next' versions (λ page node lt at. (let h = shown page node at in omega (arith, lt, h))) more level all_keys root has.stands.stands;
-    rising = has.stands.rising;
-    in_keys = has.stands.in_keys;
-    in_time = has.stands.in_time;
+  represents_all = record {
+    some_level = has.represents_all.some_level;
+    few_levels = has.represents_all.few_levels;
+    represents_all = stands_wider s.nodes s.limit (min s.limit homes) s.blocks s.next next' versions (λ page node lt at. (let h = shown page node at in omega (arith, lt, h))) more level all_keys root has.represents_all.represents_all;
+    rising = has.represents_all.rising;
+    in_keys = has.represents_all.in_keys;
+    in_time = has.represents_all.in_time;
   };
   bounded = has.bounded;
   next_stamp = has.next_stamp;
 }
 
-pub shown_below : (shown : List (List ℕ)) (nodes : ℕ → Option PageNode) → AreShown shown nodes → (page : ℕ) (node : PageNode) → nodes page ≡ Some node → page < length shown
-shown_below shown nodes says page node at = let s = says page node at in slice_get_within shown page s.octets s.at
+pub shown_below : (shown : List (List ℕ)) (nodes : ℕ → Option PageNode) → RepresentNodes shown nodes → (page : ℕ) (node : PageNode) → nodes page ≡ Some node → page < length shown
+shown_below shown nodes represents_node page node at = let s = represents_node page node at in slice_get_within shown page s.octets s.at
 
 -- a page by what is at its place
 page_of : (old new : List (List ℕ)) (n : ℕ) → slice_get new n ≡ slice_get old n → page_at new n ≡ page_at old n
@@ -95,19 +95,19 @@ module _ {P : Type 0} (pages : Ghosts P) (held : P) {O Pen Seen : Type 0} (devic
     (t : TreeLocated (device.block_count (disk_of shelf)) shown (settled_in (device.model (pen_of shelf))) low root fresh block stamp versions) where
   pub has_here : TreeHas (store_at t.store (pages.next held) (next_of shelf)) versions root t.level stamp
   has_here =
-      let wide = has_wider t.store versions root t.level stamp (length shown) (next_of shelf) (shown_below shown t.store.nodes t.says) (let n = t.next in omega (arith, n, onward)) t.has in
+      let wide = has_wider t.store versions root t.level stamp (length shown) (next_of shelf) (shown_below shown t.store.nodes t.represents_node) (let n = t.next in omega (arith, n, onward)) t.has in
       let same : min t.store.limit (length shown) ≡ pages.next held = ap (λ (n : ℕ). min n (length shown)) t.limit ∙ (ap (min fresh) count ∙ sym next) in
       subst (λ (n : ℕ). TreeHas (store_at t.store n (next_of shelf)) versions root t.level stamp) same wide
 
-  abbrev pub shown_at : (root' level' least : ℕ) → root' ≡ root → level' ≡ t.level → least ≡ stamp → TreeShown pages held device shelf start shown versions root' level' least
+  abbrev pub shown_at : (root' level' least : ℕ) → root' ≡ root → level' ≡ t.level → least ≡ stamp → TreeRepresented pages held device shelf start shown versions root' level' least
   shown_at root' level' least e f g = record {
     store = store_at t.store (pages.next held) (next_of shelf);
     is = record {
       shows = shows;
-      reports = t.says;
+      reports = t.represents_node;
       limit = refl;
       honest = honest;
-      says = record { each = λ n node here. (let b = t.blocks n node here in record { inside = b.inside; octets = b.octets; settled = b.here; says = b.says }) };
+      represents_node = record { each = λ n node here. (let b = t.blocks n node here in record { inside = b.inside; octets = b.octets; settled = b.here; represents_node = b.represents_node }) };
       next = refl;
     };
     has = subst (λ (n : ℕ). TreeHas (store_at t.store (pages.next held) (next_of shelf)) versions root' level' n) (sym g)
@@ -117,7 +117,7 @@ module _ {P : Type 0} (pages : Ghosts P) (held : P) {O Pen Seen : Type 0} (devic
 
   -- the tree's own pages aren't before `low`, which is in use
   low_used : low < pages.next held
-  low_used = let r = root_there t.store.nodes (pages.next held) t.store.blocks (next_of shelf) versions t.level all_keys root has_here.stands.stands in
+  low_used = let r = root_there t.store.nodes (pages.next held) t.store.blocks (next_of shelf) versions t.level all_keys root has_here.represents_all.represents_all in
       elim (cases_lt root low) [
         | inl lt ↦ (let none = t.own root lt in absurd (let bad : None ≡ Some r.1 = sym none ∙ r.2 in cc))
         | inr ge ↦ (let lt = r.0 in omega (arith, ge, lt))
@@ -138,10 +138,10 @@ module _ {P : Type 0} (pages : Ghosts P) (held : P) {O Pen Seen : Type 0} (devic
     tree = record {
       level = now.level;
       store = k.tree.store;
-      says = k.tree.is.reports;
+      represents_node = k.tree.is.reports;
       own = λ page lt. k.silent page (let u = low_used in omega (arith, lt, u)) (t.own page lt);
       limit = k.tree.is.limit;
-      blocks = λ n node here. (let b = k.tree.is.says.each n node here in record { inside = subst (λ d. n < device.block_count d) disk b.inside; octets = b.octets; here = b.settled; says = b.says });
+      blocks = λ n node here. (let b = k.tree.is.represents_node.each n node here in record { inside = subst (λ d. n < device.block_count d) disk b.inside; octets = b.octets; here = b.settled; represents_node = b.represents_node });
       next = (let e = k.tree.is.next in omega (arith, e));
       has = k.tree.has;
     };

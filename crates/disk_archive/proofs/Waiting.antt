@@ -13,4 +13,4 @@ use Rattle.disk_archive.proofs.Recalled.{own_of}
 pub rings_read : {E O Pen Seen : Type 0} {erase : EraseGhosts E} {once : OnceGhosts O Pen Seen} (a : Archive E O Pen Seen erase once) (h : History) (k : Represents a h) → AreRings k.pages a.settings a.head
 rings_read {once = once} a h k collector lane has =
     let own = own_of (once.block_count (once_of a)) a.settings (once_state a) a.head k.pages h collector lane k.head_represents has in
-    record { place = own.stands.place; waits = part collector (waiting h); holds = own.stands.holds }
+    record { place = own.represents_all.place; waits = part collector (waiting h); holds = own.represents_all.holds }

@@ -85,9 +85,9 @@ abbrev pub GoesOn : {E O Pen Seen : Type 0} {erase : EraseGhosts E} {once : Once
 GoesOn a h = Represents a h ⊎ Waits a h
 
 -- The archive represents the history. If a disk doesn't follow its model, nothing is claimed.
-abbrev pub Holds : {E O Pen Seen : Type 0} {erase : EraseGhosts E} {once : OnceGhosts O Pen Seen} → Archive E O Pen Seen erase once → History → Type 0
-Holds a h = IsHonest a → GoesOn a h
+abbrev pub RepresentsIfHonest : {E O Pen Seen : Type 0} {erase : EraseGhosts E} {once : OnceGhosts O Pen Seen} → Archive E O Pen Seen erase once → History → Type 0
+RepresentsIfHonest a h = IsHonest a → GoesOn a h
 
 -- What stays true of a history for good, whatever call comes and fails: the archive goes on with one that it begins.
-abbrev pub Stands : {E O Pen Seen : Type 0} {erase : EraseGhosts E} {once : OnceGhosts O Pen Seen} → Archive E O Pen Seen erase once → History → Type 0
-Stands a h = (g : History) × Begins h g × GoesOn a g
+abbrev pub ContinuesFrom : {E O Pen Seen : Type 0} {erase : EraseGhosts E} {once : OnceGhosts O Pen Seen} → Archive E O Pen Seen erase once → History → Type 0
+ContinuesFrom a h = (g : History) × Begins h g × GoesOn a g

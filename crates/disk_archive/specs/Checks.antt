@@ -6,7 +6,7 @@ use Rattle.buffer_pool.specs.Pool.{Maps}
 use Rattle.once_store.specs.Shelves.{next_of}
 use Rattle.page_tx.specs.Tx.{pool_of}
 use Rattle.version_model.specs.Pages.{all_keys}
-use Rattle.tsb_tree.specs.Opened.{ShowsRoot}
+use Rattle.tsb_tree.specs.Opened.{IsShownRoot}
 use Rattle.tsb_walk.specs.declared.page_place.PagePlace.{PagePlace}
 use Rattle.tsb_walk.specs.Shown.{keys_at}
 use Rattle.tsb_check.specs.declared.in_use.InUse.{InUse}
@@ -49,7 +49,7 @@ pub record IsAllRead (pages : List (List ℕ)) (known : ℕ → Option (List ℕ
 -- page or a block that isn't in use, as the page of a column that names a block which was never burnt, and page 0 for the others; or it is
 -- page 0, and the tree, whose pages and blocks all are what they have to be, has another number of versions than the head counts.
 pub data IsBadPage (pages : List (List ℕ)) (known : ℕ → Option (List ℕ)) (blocks root applied : ℕ) (in_use : InUse) : ℕ → Type 0 where
-  no_root : ((level : ℕ) → ShowsRoot pages root level → ⊥) → IsBadPage pages known blocks root applied in_use root
+  no_root : ((level : ℕ) → IsShownRoot pages root level → ⊥) → IsBadPage pages known blocks root applied in_use root
   bad_under : (place : PagePlace) → IsRootPlace root place → (page : ℕ) → IsBadUnder pages (place ∷ []) page → IsBadPage pages known blocks root applied in_use page
   unused_under : (place : PagePlace) → IsRootPlace root place → (page : ℕ) → IsUnusedUnder pages in_use (place ∷ []) page → IsBadPage pages known blocks root applied in_use page
   other_number : (n : ℕ) → IsAllRead pages known blocks root in_use n → (n ≡ applied → ⊥) → IsBadPage pages known blocks root applied in_use 0

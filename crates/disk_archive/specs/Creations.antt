@@ -1,7 +1,7 @@
 -- What an archive begins with, and what a crash leaves of it then.
 use Rattle.std.specs.Prelude.{◌≡◌, ◌<◌, ◌⊎◌, ℕ, ◌+◌, ◌-◌, ◌/◌, min}
 use Rattle.disk_models.specs.Left.{Left}
-use Rattle.page_journal.specs.Identity.{HoldsNone}
+use Rattle.page_journal.specs.Identity.{HasNoJournal}
 use Rattle.interleaving_core.specs.Steps.{empty}
 use Rattle.archive_pages.specs.declared.settings.Settings.{Settings}
 use Rattle.archive_pages.specs.Places.{tree_low}
@@ -22,7 +22,7 @@ site_on s size blocks = record { settings = s; homes = homes_on size; note = not
 
 -- What a crash left has no journal, or represents the history of an archive to which nothing was given.
 abbrev pub LeavesNoneOrEmpty : Site → Left → Type 0
-LeavesNoneOrEmpty site left = HoldsNone left.erase ⊎ LeftRepresents site (empty site.settings.collectors) left
+LeavesNoneOrEmpty site left = HasNoJournal left.erase ⊎ LeftRepresents site (empty site.settings.collectors) left
 
 -- one of both disks failed once, and the other didn't: these are their counts of failures before and afterwards
 abbrev pub CountsOne : ℕ → ℕ → ℕ → ℕ → Type 0

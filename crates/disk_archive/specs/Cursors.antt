@@ -6,7 +6,7 @@ use Rattle.interleaving_core.specs.declared.query.Query.TheVariants as queries
 use Rattle.route_history.specs.declared.changed.ChangedCursor.{ChangedCursor}
 use Rattle.route_history.specs.Changes.{HasChangedSo}
 use Rattle.route_history.specs.Fronts.{front_number}
-use Rattle.route_history.specs.Kept.{Kept}
+use Rattle.route_history.specs.Kept.{HaveVersions}
 use Rattle.route_history.specs.Spans.{HasReportedSo, IsSameReporting}
 use Rattle.route_history.specs.Walks.{Gathered, IsSame}
 use Rattle.version_model.specs.Versions.{Version}
@@ -30,15 +30,15 @@ HasGathered all h (Events c) = HasReportedSo all (applied h) c
 
 -- What it has gathered is right over this history, and over each right one that this begins, whatever versions represent what is applied.
 abbrev pub IsGathered : Cursor → History → Type 0
-IsGathered c h = (g : History) → IsHistory g → Begins h g → (all : List Version) → Kept (applied g) all → HasGathered all g c
+IsGathered c h = (g : History) → IsHistory g → Begins h g → (all : List Version) → HaveVersions (applied g) all → HasGathered all g c
 
 -- the same of a walk over what changed
 abbrev pub IsWalked : ChangedCursor → History → Type 0
-IsWalked c h = (g : History) → IsHistory g → Begins h g → (all : List Version) → Kept (applied g) all → HasChangedSo (applied g) c
+IsWalked c h = (g : History) → IsHistory g → Begins h g → (all : List Version) → HaveVersions (applied g) all → HasChangedSo (applied g) c
 
 -- both are the same
-abbrev pub SaysSame : Cursor → Cursor → Type 0
-SaysSame (Rows c) (Rows d) = IsSame c d
-SaysSame (Rows c) (Events d) = ⊥
-SaysSame (Events c) (Rows d) = ⊥
-SaysSame (Events c) (Events d) = IsSameReporting c d
+abbrev pub IsSameCursor : Cursor → Cursor → Type 0
+IsSameCursor (Rows c) (Rows d) = IsSame c d
+IsSameCursor (Rows c) (Events d) = ⊥
+IsSameCursor (Events c) (Rows d) = ⊥
+IsSameCursor (Events c) (Events d) = IsSameReporting c d

@@ -6,13 +6,13 @@ use Rattle.once_store.specs.Readers.{reader_disk}
 use Rattle.route_meaning.specs.History.{History, IsHistory, applied, settled}
 use Rattle.interleaving_core.specs.Does.{last_moment}
 use Rattle.interleaving_core.specs.Headline.{IsAnswered}
-use Rattle.route_history.specs.EventTurns.{IsEventsErrandOf, Stand}
-use Rattle.route_history.specs.Kept.{Kept}
+use Rattle.route_history.specs.EventTurns.{IsEventsErrandOf, BothRepresent}
+use Rattle.route_history.specs.Kept.{HaveVersions}
 use Rattle.route_history.specs.RowTurns.{IsErrandOf}
 use Rattle.route_history.specs.Walks.{Rose, NotBack}
 use Rattle.tsb_walk.specs.Looked.{PartsBelow}
 use Rattle.tsb_walk.specs.Knowing.{ReadsWell}
-use Rattle.version_model.specs.Blocks.{BlockNode, PlaceStands}
+use Rattle.version_model.specs.Blocks.{BlockNode, PlaceRepresents}
 use Rattle.version_model.specs.Versions.{Version}
 use Rattle.disk_archive.specs.Trees.{IsBlock}
 use Rattle.disk_archive.specs.Cursors.{asks, walked_to, IsGathered}
@@ -31,11 +31,11 @@ IsErrandFor (Events c) (errands.Rows errand) = ⊥
 IsErrandFor (Events c) (errands.Events errand) = IsEventsErrandOf c errand
 
 -- the places of the errand represent these versions by these blocks
-abbrev pub StandsFor : (ℕ → Option BlockNode) → List Version → Cursor → Errand → Type 0
-StandsFor blocks all (Rows c) (errands.Rows errand) = PlaceStands blocks all errand.place
-StandsFor blocks all (Rows c) (errands.Events errand) = ⊥
-StandsFor blocks all (Events c) (errands.Rows errand) = ⊥
-StandsFor blocks all (Events c) (errands.Events errand) = Stand blocks all c errand
+abbrev pub PlacesRepresent : (ℕ → Option BlockNode) → List Version → Cursor → Errand → Type 0
+PlacesRepresent blocks all (Rows c) (errands.Rows errand) = PlaceRepresents blocks all errand.place
+PlacesRepresent blocks all (Rows c) (errands.Events errand) = ⊥
+PlacesRepresent blocks all (Events c) (errands.Rows errand) = ⊥
+PlacesRepresent blocks all (Events c) (errands.Events errand) = BothRepresent blocks all c errand
 
 -- the block is settled with these octets, by what is known of blocks
 abbrev pub is_known : (ℕ → Option (List ℕ)) → ℕ → List ℕ → Type 0
@@ -49,10 +49,10 @@ pub record Located (count : ℕ) (known : ℕ → Option (List ℕ)) (errand : E
   pub below : last_moment (asks c) < settled h
   pub gathered : IsGathered c h
   pub versions : List Version
-  pub kept : Kept (applied h) versions
-  pub says : ℕ → Option BlockNode
-  pub are : (n : ℕ) (node : BlockNode) → says n ≡ Some node → IsBlock count (is_known known) n node
-  pub stands : StandsFor says versions c errand
+  pub kept : HaveVersions (applied h) versions
+  pub represents_node : ℕ → Option BlockNode
+  pub are : (n : ℕ) (node : BlockNode) → represents_node n ≡ Some node → IsBlock count (is_known known) n node
+  pub represents_all : PlacesRepresent represents_node versions c errand
 
 -- a reader reads well, and the errand lies in the blocks that it knows
 pub record LocatedKnown {O Pen Seen : Type 0} (device : Ghosts O Pen Seen) (reader : ShelfReader O Pen Seen device) (seen : Seen) (errand : Errand) (c : Cursor) (h : History) : Type 0 where

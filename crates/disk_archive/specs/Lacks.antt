@@ -7,7 +7,7 @@ use Rattle.version_model.specs.Versions.{Version}
 use Rattle.route_history.specs.Kept.{AreVersions, timed}
 use Rattle.tsb_tree.specs.NoRoom.{AtRoot}
 use Rattle.tsb_tree.specs.Needs.{NeedsLevel, NeedsPages}
-use Rattle.tsb_tree.specs.Opened.{ShowsRoot}
+use Rattle.tsb_tree.specs.Opened.{IsShownRoot}
 use Rattle.tsb_tree.specs.Outlived.{LeadsToOutdated}
 use Rattle.archive_pages.specs.Changes.{next_change}
 
@@ -31,7 +31,7 @@ pub record LacksPages (is : Version → Type 0) (pages : List (List ℕ)) (left 
 pub record LacksLevel (is : Version → Type 0) (pages : List (List ℕ)) (root : ℕ) : Type 0 where
   pub version : Version
   pub its : is version
-  pub highest : ShowsRoot pages root 7
+  pub highest : IsShownRoot pages root 7
   pub needs : AtRoot (NeedsLevel pages version) root 7
 
 -- To take the version of which this holds, the tree with this root on these pages has to split a full leaf by time, which moves versions

@@ -6,8 +6,8 @@ use Rattle.route_model.specs.Admission.{Admitted}
 use Rattle.archive_head.specs.Head.{Contents}
 use Rattle.archive_head.specs.declared.lane.Lane.{Lane}
 use Rattle.intake.specs.declared.ring.Ring.{Ring}
-use Rattle.intake.specs.Ring.{Holds, IsRing}
-use Rattle.intake.specs.Standing.{BreaksOn}
+use Rattle.intake.specs.Ring.{RingRepresents, IsRing}
+use Rattle.intake.specs.Outlines.{BreaksOn}
 use Rattle.archive_pages.specs.declared.settings.Settings.{Settings}
 use Rattle.archive_pages.specs.Batches.{HasLane}
 use Rattle.archive_pages.specs.Places.{ring_of}
@@ -21,7 +21,7 @@ head_in a = a.head
 pub record IsReadRing (pages : List (List ℕ)) (ring : Ring) : Type 0 where
   pub place : IsRing (length pages) ring
   pub waits : List Admitted
-  pub holds : Holds pages ring waits
+  pub holds : RingRepresents pages ring waits
 
 -- so it is with the ring of each collector
 abbrev pub AreRings : List (List ℕ) → Settings → Contents → Type 0

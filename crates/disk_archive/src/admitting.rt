@@ -93,7 +93,7 @@ fn reply_to_none(alloc: Global, collector: u8, lane: Lane) -> BatchReply
 }
 
 impl<E: EraseDisk + Drop, O: OnceDisk + Drop> Archive<E, O> {
-    ghost use Rattle.disk_archive.specs.Archives.{Represents, GoesOn, Holds, Stands, IsHonest, erase_of, erase_state, is_down, once_of, once_state, pen_in, settings_of, site_of};
+    ghost use Rattle.disk_archive.specs.Archives.{Represents, GoesOn, RepresentsIfHonest, ContinuesFrom, IsHonest, erase_of, erase_state, is_down, once_of, once_state, pen_in, settings_of, site_of};
     ghost use Rattle.disk_archive.specs.Sites.{LeftEither};
     ghost use Rattle.disk_archive.specs.Crashes.{Crashes, Lasts};
     ghost use Rattle.disk_archive.specs.Limits.{IsCounterFull, IsRingFull};
@@ -161,12 +161,12 @@ impl<E: EraseDisk + Drop, O: OnceDisk + Drop> Archive<E, O> {
     /// From an Ok on each crash leaves a history with the batch. After a refusal the archive represents the history from before the call; if
     /// a write or a sync failed, it must be opened again, and the batch is then in the history whole or not at all.
     pub fn admit(&mut self, collector: u8, batch: &[Admission]) -> Result<BatchReply, AdmitError>
-        ensures ok { OnOk result ((h : History) → Holds self.old h → Holds self.new (given h collector batch.now)) }
-        ensures reply { IsHonest self.old → (h : History) → Holds self.old h → (i : Intake) → slice_get h.intakes collector ≡ Some i → IfOk result (IsReply i collector batch.now) }
-        ensures err { OnErr result ((h : History) → Holds self.old h → Holds self.new h) }
+        ensures ok { OnOk result ((h : History) → RepresentsIfHonest self.old h → RepresentsIfHonest self.new (given h collector batch.now)) }
+        ensures reply { IsHonest self.old → (h : History) → RepresentsIfHonest self.old h → (i : Intake) → slice_get h.intakes collector ≡ Some i → IfOk result (IsReply i collector batch.now) }
+        ensures err { OnErr result ((h : History) → RepresentsIfHonest self.old h → RepresentsIfHonest self.new h) }
         ensures crash { (h : History) → Represents self.old h → Crashes self.old self.new (LeftEither (site_of self.old) h (given h collector batch.now)) }
-        ensures lasts { (h : History) → Stands self.old h → Lasts self.old self.new h }
-        ensures memory { IsHonest self.old → (h : History) → Holds self.old h → result ≡ Err AdmitError.OutOfMemory → (erase_state self.new).clock ≡ (erase_state self.old).clock }
+        ensures lasts { (h : History) → ContinuesFrom self.old h → Lasts self.old self.new h }
+        ensures memory { IsHonest self.old → (h : History) → RepresentsIfHonest self.old h → result ≡ Err AdmitError.OutOfMemory → (erase_state self.new).clock ≡ (erase_state self.old).clock }
         ensures usable { OnOk result (is_down self.old ≡ false) }
         ensures idle { is_down self.old ≡ true → (erase_of self.new ≡ erase_of self.old) × (once_state self.new ≡ once_state self.old) × (is_down self.new ≡ true) }
         ensures still_usable { OnOk result (is_down self.new ≡ false) }
@@ -177,11 +177,11 @@ impl<E: EraseDisk + Drop, O: OnceDisk + Drop> Archive<E, O> {
         ensures recovery { (result ≡ Err AdmitError.NeedsRecovery) ↔ (is_down self.old ≡ true) }
         ensures no_collector { (result ≡ Err AdmitError.NoCollector) ↔ ((is_down self.old ≡ false) × ((settings_of self.old).collectors ≤ collector)) }
         ensures too_large { (result ≡ Err AdmitError.BatchTooLarge) ↔ ((is_down self.old ≡ false) × (collector < (settings_of self.old).collectors) × (262144 < sum_by entry_octets batch.now)) }
-        ensures counter_full { IsHonest self.old → (h : History) → Holds self.old h → (result ≡ Err AdmitError.CounterFull) ↔ ((is_down self.old ≡ false) × (sum_by entry_octets batch.now ≤ 262144) × IsCounterFull h collector (length batch.now)) }
-        ensures intake_full { IsHonest self.old → (h : History) → Holds self.old h → (result ≡ Err AdmitError.IntakeFull)
+        ensures counter_full { IsHonest self.old → (h : History) → RepresentsIfHonest self.old h → (result ≡ Err AdmitError.CounterFull) ↔ ((is_down self.old ≡ false) × (sum_by entry_octets batch.now ≤ 262144) × IsCounterFull h collector (length batch.now)) }
+        ensures intake_full { IsHonest self.old → (h : History) → RepresentsIfHonest self.old h → (result ≡ Err AdmitError.IntakeFull)
             ↔ ((is_down self.old ≡ false) × (sum_by entry_octets batch.now ≤ 262144) × (IsCounterFull h collector (length batch.now) → ⊥) × IsRingFull (settings_of self.old) h collector batch.now) }
         ensures empty { batch.now ≡ [] → (erase_of self.new ≡ erase_of self.old) × IfErr result (λ e. (e ≡ AdmitError.NeedsRecovery) ⊎ (e ≡ AdmitError.NoCollector)) }
-        ensures undamaged { IsHonest self.old → (h : History) → Holds self.old h → (page : ℕ) → result ≡ Err (AdmitError.BadNode page) → ⊥ }
+        ensures undamaged { IsHonest self.old → (h : History) → RepresentsIfHonest self.old h → (page : ℕ) → result ≡ Err (AdmitError.BadNode page) → ⊥ }
         ensures honest { IsHonest self.old ↔ IsHonest self.new }
         ensures settings { settings_of self.new ≡ settings_of self.old }
         ensures disk { once_of self.new ≡ once_of self.old }

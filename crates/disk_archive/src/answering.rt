@@ -10,10 +10,10 @@ ghost use Rattle.route_meaning.specs.Merged.{Placed};
 ghost use Rattle.sequencer.specs.Lanes.{bound_of};
 ghost use Rattle.interleaving_core.specs.Does.{last_moment};
 ghost use Rattle.interleaving_core.specs.Headline.{IsAnswered};
-ghost use Rattle.version_model.specs.Pages.{Store, TreeStands, all_keys};
+ghost use Rattle.version_model.specs.Pages.{Store, TreeRepresents, all_keys};
 ghost use Rattle.version_model.specs.Versions.{Version};
 ghost use Rattle.tsb_walk.specs.Knowing.{ReadsWell};
-ghost use Rattle.tsb_walk.specs.Shown.{AreShown, StandsShown, keys_at};
+ghost use Rattle.tsb_walk.specs.Shown.{RepresentNodes, RepresentsShown, keys_at};
 ghost use Rattle.disk_archive.specs.inner.Asking.{BlamesNone, HasTree, LookRefusal};
 ghost use Rattle.disk_archive.specs.Failures.{ReportsOne};
 
@@ -64,8 +64,8 @@ pub(crate) fn check_moment(sequencer: &Sequencer, moment: Moment) -> Result<(), 
 pub(crate) fn root_of<P: Pages>(pages: &mut P, head: &Head) -> Result<PagePlace, AskError>
     ensures all { IfOk result (λ place. keys_at place ≡ all_keys) }
     ensures level { IfOk result (λ place. 1 ≤ place.level) }
-    ensures stands { (start : Start) (shown : List (List ℕ)) (s : Store) (all : List Version) (level : ℕ) → P.shows pages.old start shown → AreShown shown s.nodes → TreeStands s all head.now.root level → IfOk result (StandsShown shown s all) }
-    ensures blames { (start : Start) (shown : List (List ℕ)) (s : Store) (all : List Version) (level : ℕ) → P.shows pages.old start shown → AreShown shown s.nodes → TreeStands s all head.now.root level → IfErr result BlamesNone }
+    ensures represents_all { (start : Start) (shown : List (List ℕ)) (s : Store) (all : List Version) (level : ℕ) → P.shows pages.old start shown → RepresentNodes shown s.nodes → TreeRepresents s all head.now.root level → IfOk result (RepresentsShown shown s all) }
+    ensures blames { (start : Start) (shown : List (List ℕ)) (s : Store) (all : List Version) (level : ℕ) → P.shows pages.old start shown → RepresentNodes shown s.nodes → TreeRepresents s all head.now.root level → IfErr result BlamesNone }
     ensures refused { IfErr result (LookRefusal (P.down pages.old)) }
     ensures undamaged { (block : ℕ) → result ≡ Err (AskError.Damaged block) → ⊥ }
     ensures reads { (start : Start) (shown : List (List ℕ)) → P.shows pages.old start shown → P.shows pages.new start shown }
@@ -124,7 +124,7 @@ pub(crate) fn answer_by<P: Pages, O: OnceDisk + Drop>(
 }
 
 impl<E: EraseDisk + Drop, O: OnceDisk + Drop> Archive<E, O> {
-    ghost use Rattle.disk_archive.specs.Archives.{Represents, Holds, Stands, IsHonest, erase_of, erase_state, is_down, once_of, once_state, settings_of, site_of};
+    ghost use Rattle.disk_archive.specs.Archives.{Represents, RepresentsIfHonest, ContinuesFrom, IsHonest, erase_of, erase_state, is_down, once_of, once_state, settings_of, site_of};
     ghost use Rattle.disk_archive.specs.Sites.{LeftRepresents, LeftEither};
     ghost use Rattle.disk_archive.specs.Crashes.{Crashes, Lasts};
     ghost use Rattle.disk_archive.specs.Failures.{ReportsFailure};
@@ -175,19 +175,19 @@ impl<E: EraseDisk + Drop, O: OnceDisk + Drop> Archive<E, O> {
     /// which the pages stay in the archive's cache, and at most 64 blocks in one for the time of the call. `Fault` is returned exactly if a
     /// read, or the look at what is settled, failed. After each outcome the archive represents the same history as before.
     pub fn answer(&mut self, query: Query) -> Result<Answer, AskError>
-        ensures answered { IfOk result (λ answer. IsHonest self.old → (h : History) → Holds self.old h → IsAnswered (applied h) query answer) }
-        ensures below { OnOk result (IsHonest self.old → (h : History) → Holds self.old h → last_moment query < settled h) }
-        ensures above { IsHonest self.old → (h : History) → Holds self.old h → (mark : ℕ) → (result ≡ Err (AskError.AboveWatermark mark)) ↔ ((is_down self.old ≡ false) × (mark ≡ settled h) × (settled h ≤ last_moment query)) }
-        ensures holds { (h : History) → Holds self.old h → Holds self.new h }
+        ensures answered { IfOk result (λ answer. IsHonest self.old → (h : History) → RepresentsIfHonest self.old h → IsAnswered (applied h) query answer) }
+        ensures below { OnOk result (IsHonest self.old → (h : History) → RepresentsIfHonest self.old h → last_moment query < settled h) }
+        ensures above { IsHonest self.old → (h : History) → RepresentsIfHonest self.old h → (mark : ℕ) → (result ≡ Err (AskError.AboveWatermark mark)) ↔ ((is_down self.old ≡ false) × (mark ≡ settled h) × (settled h ≤ last_moment query)) }
+        ensures holds { (h : History) → RepresentsIfHonest self.old h → RepresentsIfHonest self.new h }
         ensures crash { (h : History) → Represents self.old h → Crashes self.old self.new (LeftRepresents (site_of self.old) h) }
-        ensures lasts { (h : History) → Stands self.old h → Lasts self.old self.new h }
-        ensures still { IsHonest self.old → (h : History) → Holds self.old h → (erase_state self.new).clock ≡ (erase_state self.old).clock }
+        ensures lasts { (h : History) → ContinuesFrom self.old h → Lasts self.old self.new h }
+        ensures still { IsHonest self.old → (h : History) → RepresentsIfHonest self.old h → (erase_state self.new).clock ≡ (erase_state self.old).clock }
         ensures usable { OnOk result (is_down self.old ≡ false) }
         ensures idle { is_down self.old ≡ true → (erase_of self.new ≡ erase_of self.old) × (once_state self.new ≡ once_state self.old) × (is_down self.new ≡ true) }
         ensures down { is_down self.new ≡ is_down self.old }
         ensures recovery { (result ≡ Err AskError.NeedsRecovery) ↔ (is_down self.old ≡ true) }
-        ensures sound { IsHonest self.old → (h : History) → Holds self.old h → (page : ℕ) → result ≡ Err (AskError.BadNode page) → ⊥ }
-        ensures undamaged { IsHonest self.old → (h : History) → Holds self.old h → (block : ℕ) → result ≡ Err (AskError.Damaged block) → ⊥ }
+        ensures sound { IsHonest self.old → (h : History) → RepresentsIfHonest self.old h → (page : ℕ) → result ≡ Err (AskError.BadNode page) → ⊥ }
+        ensures undamaged { IsHonest self.old → (h : History) → RepresentsIfHonest self.old h → (block : ℕ) → result ≡ Err (AskError.Damaged block) → ⊥ }
         ensures failed { ReportsFailure self.old self.new (once_of self.old) (result ≡ Err AskError.Fault) }
         ensures honest { IsHonest self.old ↔ IsHonest self.new }
         ensures settings { settings_of self.new ≡ settings_of self.old }

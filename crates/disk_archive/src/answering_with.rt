@@ -16,7 +16,7 @@ use interleaving_core::{Answer, Query};
 use once_store::ShelfReader;
 
 impl<E: EraseDisk + Drop, O: OnceDisk + Drop> Archive<E, O> {
-    ghost use Rattle.disk_archive.specs.Archives.{Represents, Holds, Stands, IsHonest, erase_of, erase_state, is_down, once_of, once_state, settings_of, site_of};
+    ghost use Rattle.disk_archive.specs.Archives.{Represents, RepresentsIfHonest, ContinuesFrom, IsHonest, erase_of, erase_state, is_down, once_of, once_state, settings_of, site_of};
     ghost use Rattle.disk_archive.specs.Sites.{LeftRepresents, LeftEither};
     ghost use Rattle.disk_archive.specs.Crashes.{Crashes, Lasts};
     ghost use Rattle.disk_archive.specs.Failures.{ReportsFailure};
@@ -77,21 +77,21 @@ impl<E: EraseDisk + Drop, O: OnceDisk + Drop> Archive<E, O> {
         reader: &mut ShelfReader<O>,
         query: Query,
     ) -> Result<Answer, AskError>
-        ensures answered { IfOk result (λ answer. IsHonest self.old → (h : History) → Holds self.old h → ReadsFrom self.old reader.old → IsAnswered (applied h) query answer) }
-        ensures reads { IsHonest self.old → (h : History) → Holds self.old h → ReadsFrom self.old reader.old → ReadsFrom self.new reader.new }
+        ensures answered { IfOk result (λ answer. IsHonest self.old → (h : History) → RepresentsIfHonest self.old h → ReadsFrom self.old reader.old → IsAnswered (applied h) query answer) }
+        ensures reads { IsHonest self.old → (h : History) → RepresentsIfHonest self.old h → ReadsFrom self.old reader.old → ReadsFrom self.new reader.new }
         ensures capacity { capacity_of reader.new ≡ capacity_of reader.old }
-        ensures below { OnOk result (IsHonest self.old → (h : History) → Holds self.old h → last_moment query < settled h) }
-        ensures above { IsHonest self.old → (h : History) → Holds self.old h → (mark : ℕ) → (result ≡ Err (AskError.AboveWatermark mark)) ↔ ((is_down self.old ≡ false) × (mark ≡ settled h) × (settled h ≤ last_moment query)) }
-        ensures holds { (h : History) → Holds self.old h → Holds self.new h }
+        ensures below { OnOk result (IsHonest self.old → (h : History) → RepresentsIfHonest self.old h → last_moment query < settled h) }
+        ensures above { IsHonest self.old → (h : History) → RepresentsIfHonest self.old h → (mark : ℕ) → (result ≡ Err (AskError.AboveWatermark mark)) ↔ ((is_down self.old ≡ false) × (mark ≡ settled h) × (settled h ≤ last_moment query)) }
+        ensures holds { (h : History) → RepresentsIfHonest self.old h → RepresentsIfHonest self.new h }
         ensures crash { (h : History) → Represents self.old h → Crashes self.old self.new (LeftRepresents (site_of self.old) h) }
-        ensures lasts { (h : History) → Stands self.old h → Lasts self.old self.new h }
-        ensures still { IsHonest self.old → (h : History) → Holds self.old h → (erase_state self.new).clock ≡ (erase_state self.old).clock }
+        ensures lasts { (h : History) → ContinuesFrom self.old h → Lasts self.old self.new h }
+        ensures still { IsHonest self.old → (h : History) → RepresentsIfHonest self.old h → (erase_state self.new).clock ≡ (erase_state self.old).clock }
         ensures usable { OnOk result (is_down self.old ≡ false) }
         ensures idle { is_down self.old ≡ true → (erase_of self.new ≡ erase_of self.old) × (once_state self.new ≡ once_state self.old) × (is_down self.new ≡ true) }
         ensures down { is_down self.new ≡ is_down self.old }
         ensures recovery { (result ≡ Err AskError.NeedsRecovery) ↔ (is_down self.old ≡ true) }
-        ensures sound { IsHonest self.old → (h : History) → Holds self.old h → ReadsFrom self.old reader.old → (page : ℕ) → result ≡ Err (AskError.BadNode page) → ⊥ }
-        ensures undamaged { IsHonest self.old → (h : History) → Holds self.old h → ReadsFrom self.old reader.old → (block : ℕ) → result ≡ Err (AskError.Damaged block) → ⊥ }
+        ensures sound { IsHonest self.old → (h : History) → RepresentsIfHonest self.old h → ReadsFrom self.old reader.old → (page : ℕ) → result ≡ Err (AskError.BadNode page) → ⊥ }
+        ensures undamaged { IsHonest self.old → (h : History) → RepresentsIfHonest self.old h → ReadsFrom self.old reader.old → (block : ℕ) → result ≡ Err (AskError.Damaged block) → ⊥ }
         ensures failed { ReportsFailure self.old self.new (reader_disk reader.old) (result ≡ Err AskError.Fault) }
         ensures honest { IsHonest self.old ↔ IsHonest self.new }
         ensures settings { settings_of self.new ≡ settings_of self.old }

@@ -45,7 +45,7 @@ fn begin_from<E: EraseDisk + Drop>(tx: &mut Tx<E>, head: &Head) -> Result<(), Ne
 
 impl<E: EraseDisk + Drop, O: OnceDisk + Drop> Archive<E, O> {
     ghost use Rattle.disk_models.specs.Once.{Grows};
-    ghost use Rattle.disk_archive.specs.Archives.{Represents, GoesOn, Holds, Stands, IsHonest, erase_of, erase_state, is_down, once_of, once_state, pen_in, settings_of, site_of};
+    ghost use Rattle.disk_archive.specs.Archives.{Represents, GoesOn, RepresentsIfHonest, ContinuesFrom, IsHonest, erase_of, erase_state, is_down, once_of, once_state, pen_in, settings_of, site_of};
     ghost use Rattle.disk_archive.specs.Blanks.{NoneBlank, unused_pages};
     ghost use Rattle.disk_archive.specs.Checks.{HasPages, root_in};
     ghost use Rattle.disk_archive.specs.Failures.{ReportsOne};
@@ -114,31 +114,31 @@ impl<E: EraseDisk + Drop, O: OnceDisk + Drop> Archive<E, O> {
     /// After a refusal the archive represents the history from before the call, and the call leaves nothing but spent blocks; if a write or a
     /// sync of pages failed, it must be opened again, and the changes are then applied, all of them or none.
     pub fn apply_step(&mut self) -> Result<Step, ApplyError>
-        ensures applied { IfOk result (λ step. step ≡ Step.Applied → IsHonest self.old → (h : History) → Holds self.old h → (g : History) × Moves h g × Holds self.new g) }
-        ensures idle { IfOk result (λ step. IsHonest self.old → (h : History) → Holds self.old h → (step ≡ Step.Idle) ↔ NothingToApply h) }
-        ensures idle_same { result ≡ Ok Step.Idle → (h : History) → Holds self.old h → Holds self.new h }
+        ensures applied { IfOk result (λ step. step ≡ Step.Applied → IsHonest self.old → (h : History) → RepresentsIfHonest self.old h → (g : History) × Moves h g × RepresentsIfHonest self.new g) }
+        ensures idle { IfOk result (λ step. IsHonest self.old → (h : History) → RepresentsIfHonest self.old h → (step ≡ Step.Idle) ↔ NothingToApply h) }
+        ensures idle_same { result ≡ Ok Step.Idle → (h : History) → RepresentsIfHonest self.old h → RepresentsIfHonest self.new h }
         ensures still { result ≡ Ok Step.Idle → erase_of self.new ≡ erase_of self.old }
         ensures unspent { result ≡ Ok Step.Idle → once_state self.new ≡ once_state self.old }
-        ensures err { OnErr result ((h : History) → Holds self.old h → Holds self.new h) }
+        ensures err { OnErr result ((h : History) → RepresentsIfHonest self.old h → RepresentsIfHonest self.new h) }
         ensures crash { (h : History) → Represents self.old h → (g : History) × ((g ≡ h) ⊎ Moves h g) × Crashes self.old self.new (LeftEither (site_of self.old) h g) }
-        ensures lasts { (h : History) → Stands self.old h → Lasts self.old self.new h }
-        ensures memory { IsHonest self.old → (h : History) → Holds self.old h → result ≡ Err ApplyError.OutOfMemory → (erase_state self.new).clock ≡ (erase_state self.old).clock }
+        ensures lasts { (h : History) → ContinuesFrom self.old h → Lasts self.old self.new h }
+        ensures memory { IsHonest self.old → (h : History) → RepresentsIfHonest self.old h → result ≡ Err ApplyError.OutOfMemory → (erase_state self.new).clock ≡ (erase_state self.old).clock }
         ensures usable { OnOk result (is_down self.old ≡ false) }
         ensures down_idle { is_down self.old ≡ true → (erase_of self.new ≡ erase_of self.old) × (once_state self.new ≡ once_state self.old) × (is_down self.new ≡ true) }
         ensures still_usable { OnOk result (is_down self.new ≡ false) }
         ensures falls { is_down self.old ≡ false → is_down self.new ≡ true → result ≡ Err ApplyError.Fault }
         ensures failed { ReportsOne (E.fault_count (erase_of self.old)) (E.fault_count (erase_of self.new)) (O.pen_fault_count (pen_in self.old)) (O.pen_fault_count (pen_in self.new)) (result ≡ Err ApplyError.Fault) }
         ensures recovery { (result ≡ Err ApplyError.NeedsRecovery) ↔ (is_down self.old ≡ true) }
-        ensures counter_full { IsHonest self.old → (h : History) → Holds self.old h → result ≡ Err ApplyError.CounterFull → sum_by (λ p. length p.item.changes) (applied h) ≡ 18446744073709551615 }
+        ensures counter_full { IsHonest self.old → (h : History) → RepresentsIfHonest self.old h → result ≡ Err ApplyError.CounterFull → sum_by (λ p. length p.item.changes) (applied h) ≡ 18446744073709551615 }
         ensures pages_full { result ≡ Err ApplyError.PagesFull → unused_pages self.old < 9 }
-        ensures pages_needed { IsHonest self.old → (h : History) → Holds self.old h → result ≡ Err ApplyError.PagesFull → (pages : List (List ℕ)) × HasPages self.old pages × LacksPages (IsNextVersion h) pages (unused_pages self.old) (root_in self.old) }
+        ensures pages_needed { IsHonest self.old → (h : History) → RepresentsIfHonest self.old h → result ≡ Err ApplyError.PagesFull → (pages : List (List ℕ)) × HasPages self.old pages × LacksPages (IsNextVersion h) pages (unused_pages self.old) (root_in self.old) }
         ensures too_high { IsHonest self.old → (pages : List (List ℕ)) → HasPages self.old pages → result ≡ Err ApplyError.TooHigh → HasRootLevel pages (root_in self.old) 7 }
-        ensures level_needed { IsHonest self.old → (h : History) → Holds self.old h → result ≡ Err ApplyError.TooHigh → (pages : List (List ℕ)) × HasPages self.old pages × LacksLevel (IsNextVersion h) pages (root_in self.old) }
+        ensures level_needed { IsHonest self.old → (h : History) → RepresentsIfHonest self.old h → result ≡ Err ApplyError.TooHigh → (pages : List (List ℕ)) × HasPages self.old pages × LacksLevel (IsNextVersion h) pages (root_in self.old) }
         ensures full { IsHonest self.old → result ≡ Err ApplyError.OnceFull → NoneBlank self.new }
-        ensures room { result ≡ Ok Step.Applied → IsHonest self.old → (h : History) → Holds self.old h → (pages : List (List ℕ)) × HasPages self.old pages × HasRoom (IsNextVersion h) pages (unused_pages self.old) (root_in self.old) (sum_by (λ p. length p.item.changes) (applied h)) (NoneBlank self.old) }
-        ensures block_needed { IsHonest self.old → (h : History) → Holds self.old h → result ≡ Err ApplyError.OnceFull → (pages : List (List ℕ)) × HasPages self.old pages × NeedsBlock (IsNextVersion h) pages (root_in self.old) }
+        ensures room { result ≡ Ok Step.Applied → IsHonest self.old → (h : History) → RepresentsIfHonest self.old h → (pages : List (List ℕ)) × HasPages self.old pages × HasRoom (IsNextVersion h) pages (unused_pages self.old) (root_in self.old) (sum_by (λ p. length p.item.changes) (applied h)) (NoneBlank self.old) }
+        ensures block_needed { IsHonest self.old → (h : History) → RepresentsIfHonest self.old h → result ≡ Err ApplyError.OnceFull → (pages : List (List ℕ)) × HasPages self.old pages × NeedsBlock (IsNextVersion h) pages (root_in self.old) }
         ensures spends { IsHonest self.old → SpendsAtMost 2000 (once_state self.old) (once_state self.new) }
-        ensures sound { IsHonest self.old → (h : History) → Holds self.old h → (page : ℕ) → result ≡ Err (ApplyError.BadNode page) → ⊥ }
+        ensures sound { IsHonest self.old → (h : History) → RepresentsIfHonest self.old h → (page : ℕ) → result ≡ Err (ApplyError.BadNode page) → ⊥ }
         ensures honest { IsHonest self.old ↔ IsHonest self.new }
         ensures settings { settings_of self.new ≡ settings_of self.old }
         ensures disk { once_of self.new ≡ once_of self.old }

@@ -45,13 +45,13 @@ pub struct Archive<E: EraseDisk + Drop, O: OnceDisk + Drop> {
 }
 
 impl<E: EraseDisk + Drop, O: OnceDisk + Drop> Archive<E, O> {
-    ghost use Rattle.disk_archive.specs.Archives.{Holds, IsHonest, erase_of, is_down, once_of, once_state, pen_in, settings_of, site_of};
+    ghost use Rattle.disk_archive.specs.Archives.{RepresentsIfHonest, IsHonest, erase_of, is_down, once_of, once_state, pen_in, settings_of, site_of};
     ghost use Rattle.disk_archive.specs.Checks.{applied_in};
 
     /// How many collectors there are, 1 to 16. Their numbers begin with 0.
     pub fn collectors(&self) -> u8
         ensures settings { result ≡ (settings_of self.now).collectors }
-        ensures count { IsHonest self.now → (h : History) → Holds self.now h → length h.intakes ≡ result }
+        ensures count { IsHonest self.now → (h : History) → RepresentsIfHonest self.now h → length h.intakes ≡ result }
         ensures some { 1 ≤ result }
         ensures few { result ≤ 16 }
     {
@@ -68,7 +68,7 @@ impl<E: EraseDisk + Drop, O: OnceDisk + Drop> Archive<E, O> {
     /// The settled watermark: a question of a moment below it is answered. An archive that must be opened again returns the value from
     /// before the call that failed.
     pub fn settled(&self) -> Mark
-        ensures settled { IsHonest self.now → (h : History) → Holds self.now h → result ≡ settled h }
+        ensures settled { IsHonest self.now → (h : History) → RepresentsIfHonest self.now h → result ≡ settled h }
     {
         self.sequencer.settled()
     }
@@ -76,7 +76,7 @@ impl<E: EraseDisk + Drop, O: OnceDisk + Drop> Archive<E, O> {
     /// Where the collector's feed goes on. An archive that must be opened again returns the value from before the call that failed.
     pub fn resume(&self, collector: u8) -> Resume
         requires collector { collector < (settings_of self.now).collectors }
-        ensures resume { IsHonest self.now → (h : History) → Holds self.now h → slice_get (map resume_of h.intakes) collector ≡ Some result }
+        ensures resume { IsHonest self.now → (h : History) → RepresentsIfHonest self.now h → slice_get (map resume_of h.intakes) collector ≡ Some result }
     {
         let lane = lane_of(&self.head, collector);
         Resume {
@@ -90,7 +90,7 @@ impl<E: EraseDisk + Drop, O: OnceDisk + Drop> Archive<E, O> {
     /// that failed.
     pub fn applied(&self) -> u64
         ensures head { result ≡ applied_in self.now }
-        ensures counted { IsHonest self.now → (h : History) → Holds self.now h → result ≡ sum_by (λ p. length p.item.changes) (applied h) }
+        ensures counted { IsHonest self.now → (h : History) → RepresentsIfHonest self.now h → result ≡ sum_by (λ p. length p.item.changes) (applied h) }
     {
         self.head.applied
     }
@@ -123,7 +123,7 @@ impl<E: EraseDisk + Drop, O: OnceDisk + Drop> Archive<E, O> {
         ensures known { IsHonest self.old → IfOk result (λ seen. O.known seen ≡ (once_state self.old).settled) }
         ensures fresh { IfOk result (λ seen. O.seen_fault_count seen ≡ 0) }
         ensures counts { Counts (O.pen_fault_count (pen_in self.old)) (O.pen_fault_count (pen_in self.new)) result }
-        ensures holds { (h : History) → Holds self.old h → Holds self.new h }
+        ensures holds { (h : History) → RepresentsIfHonest self.old h → RepresentsIfHonest self.new h }
         ensures pages { erase_of self.new ≡ erase_of self.old }
         ensures down { is_down self.new ≡ is_down self.old }
         ensures honest { IsHonest self.old ↔ IsHonest self.new }

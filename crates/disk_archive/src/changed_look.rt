@@ -9,7 +9,7 @@ ghost use Rattle.route_meaning.specs.History.{History, applied, settled};
 ghost use Rattle.route_meaning.specs.Merged.{Placed};
 ghost use Rattle.route_history.specs.Changes.{HasChangedSo};
 ghost use Rattle.route_history.specs.Walks.{left_of};
-ghost use Rattle.tsb_walk.specs.Inside.{KeepsInside};
+ghost use Rattle.tsb_walk.specs.Inside.{CachesInside};
 ghost use Rattle.tsb_walk.specs.Knowing.{ReadsWell};
 ghost use Rattle.disk_archive.specs.Cursors.{IsWalked};
 ghost use Rattle.disk_archive.specs.Failures.{ReportsOne};
@@ -51,7 +51,7 @@ fn look_by<P: Pages, O: OnceDisk + Drop>(
     ensures down { P.down pages.new ≡ P.down pages.old }
     ensures honest { P.honest pages.old ↔ P.honest pages.new }
     ensures keeps { (ps : List (Placed Admitted)) → HasTree P.Pages pages.old O.OnceDisk reader.old seen.old head.now.root head.now.fresh head.now.block ps → ReadsWell O.OnceDisk reader.new seen.new }
-    ensures on_disk { KeepsInside O.OnceDisk reader.old → KeepsInside O.OnceDisk reader.new }
+    ensures on_disk { CachesInside O.OnceDisk reader.old → CachesInside O.OnceDisk reader.new }
     ensures known { O.honest_seen (reader_disk reader.old) seen.old → O.known seen.new ≡ O.known seen.old }
     ensures disk { reader_disk reader.new ≡ reader_disk reader.old }
     ensures capacity { capacity_of reader.new ≡ capacity_of reader.old }
@@ -74,7 +74,7 @@ pub fn start_walk(alloc: Global, question: ChangedQuestion) -> ChangedCursor
 }
 
 impl<E: EraseDisk + Drop, O: OnceDisk + Drop> Archive<E, O> {
-    ghost use Rattle.disk_archive.specs.Archives.{Represents, Holds, IsHonest, erase_state, is_down, once_of, once_state, settings_of, site_of};
+    ghost use Rattle.disk_archive.specs.Archives.{Represents, RepresentsIfHonest, IsHonest, erase_state, is_down, once_of, once_state, settings_of, site_of};
     ghost use Rattle.disk_archive.specs.Sites.{LeftEither};
     ghost use Rattle.disk_archive.specs.Crashes.{Crashes};
     ghost use Rattle.disk_archive.specs.Failures.{ReportsFailure};
@@ -117,7 +117,7 @@ impl<E: EraseDisk + Drop, O: OnceDisk + Drop> Archive<E, O> {
         ensures disk { once_of self.new ≡ once_of self.old }
         ensures blocks { IsHonest self.old → once_state self.new ≡ once_state self.old }
         ensures reads { (h : History) → Represents self.old h → ReadsFrom self.old reader.old → ReadsFrom self.new reader.new }
-        ensures on_disk { KeepsInside O.OnceDisk reader.old → KeepsInside O.OnceDisk reader.new }
+        ensures on_disk { CachesInside O.OnceDisk reader.old → CachesInside O.OnceDisk reader.new }
         ensures same_disk { reader_disk reader.new ≡ reader_disk reader.old }
         ensures capacity { capacity_of reader.new ≡ capacity_of reader.old }
         ensures failed { ReportsFailure self.old self.new (reader_disk reader.old) (result ≡ Err AskError.Fault) }
@@ -150,19 +150,19 @@ impl<E: EraseDisk + Drop, O: OnceDisk + Drop> Archive<E, O> {
         reader: &mut ShelfReader<O>,
         cursor: &mut ChangedCursor,
     ) -> Result<Option<ChangedAnswer>, AskError>
-        ensures walked { IfOk result (λ found. IsHonest self.old → (h : History) → Holds self.old h → ReadsFrom self.old reader.old → IsWalked cursor.old h → IfNone found (IsWalked cursor.new h)) }
-        ensures answer { IfOk result (λ found. IsHonest self.old → (h : History) → Holds self.old h → ReadsFrom self.old reader.old → IsWalked cursor.old h → IfSome found (λ answer. IsChangedAnswer (applied h) cursor.old.question answer.spots.items answer.more)) }
+        ensures walked { IfOk result (λ found. IsHonest self.old → (h : History) → RepresentsIfHonest self.old h → ReadsFrom self.old reader.old → IsWalked cursor.old h → IfNone found (IsWalked cursor.new h)) }
+        ensures answer { IfOk result (λ found. IsHonest self.old → (h : History) → RepresentsIfHonest self.old h → ReadsFrom self.old reader.old → IsWalked cursor.old h → IfSome found (λ answer. IsChangedAnswer (applied h) cursor.old.question answer.spots.items answer.more)) }
         ensures onward { IfOk result (λ found. IfNone found (left_of cursor.new.front < left_of cursor.old.front)) }
         ensures question { cursor.new.question ≡ cursor.old.question }
-        ensures reads { IsHonest self.old → (h : History) → Holds self.old h → ReadsFrom self.old reader.old → ReadsFrom self.new reader.new }
-        ensures on_disk { KeepsInside O.OnceDisk reader.old → KeepsInside O.OnceDisk reader.new }
+        ensures reads { IsHonest self.old → (h : History) → RepresentsIfHonest self.old h → ReadsFrom self.old reader.old → ReadsFrom self.new reader.new }
+        ensures on_disk { CachesInside O.OnceDisk reader.old → CachesInside O.OnceDisk reader.new }
         ensures same_disk { reader_disk reader.new ≡ reader_disk reader.old }
         ensures capacity { capacity_of reader.new ≡ capacity_of reader.old }
-        ensures below { OnOk result (IsHonest self.old → (h : History) → Holds self.old h → cursor.old.question.to < settled h) }
-        ensures above { IsHonest self.old → (h : History) → Holds self.old h → (mark : ℕ) → (result ≡ Err (AskError.AboveWatermark mark)) ↔ ((is_down self.old ≡ false) × (mark ≡ settled h) × (settled h ≤ cursor.old.question.to)) }
+        ensures below { OnOk result (IsHonest self.old → (h : History) → RepresentsIfHonest self.old h → cursor.old.question.to < settled h) }
+        ensures above { IsHonest self.old → (h : History) → RepresentsIfHonest self.old h → (mark : ℕ) → (result ≡ Err (AskError.AboveWatermark mark)) ↔ ((is_down self.old ≡ false) × (mark ≡ settled h) × (settled h ≤ cursor.old.question.to)) }
         ensures recovery { (result ≡ Err AskError.NeedsRecovery) ↔ (is_down self.old ≡ true) }
-        ensures sound { IsHonest self.old → (h : History) → Holds self.old h → ReadsFrom self.old reader.old → (page : ℕ) → result ≡ Err (AskError.BadNode page) → ⊥ }
-        ensures undamaged { IsHonest self.old → (h : History) → Holds self.old h → ReadsFrom self.old reader.old → (block : ℕ) → result ≡ Err (AskError.Damaged block) → ⊥ }
+        ensures sound { IsHonest self.old → (h : History) → RepresentsIfHonest self.old h → ReadsFrom self.old reader.old → (page : ℕ) → result ≡ Err (AskError.BadNode page) → ⊥ }
+        ensures undamaged { IsHonest self.old → (h : History) → RepresentsIfHonest self.old h → ReadsFrom self.old reader.old → (block : ℕ) → result ≡ Err (AskError.Damaged block) → ⊥ }
         ensures failed { ReportsFailure self.old self.new (reader_disk reader.old) (result ≡ Err AskError.Fault) }
         ensures leaves { LeavesArchive self.old self.new }
     {

@@ -8,11 +8,11 @@ ghost use Rattle.route_model.specs.Admission.{Admitted};
 ghost use Rattle.route_meaning.specs.History.{History, applied};
 ghost use Rattle.route_meaning.specs.Merged.{Placed};
 ghost use Rattle.route_history.specs.Kept.{timed};
-ghost use Rattle.version_model.specs.Pages.{Store, TreeStands};
+ghost use Rattle.version_model.specs.Pages.{Store, TreeRepresents};
 ghost use Rattle.version_model.specs.Versions.{Version};
-ghost use Rattle.tsb_tree.specs.Opened.{ShowsRoot};
+ghost use Rattle.tsb_tree.specs.Opened.{IsShownRoot};
 ghost use Rattle.tsb_walk.specs.Knowing.{ReadsWell};
-ghost use Rattle.tsb_walk.specs.Shown.{AreShown};
+ghost use Rattle.tsb_walk.specs.Shown.{RepresentNodes};
 ghost use Rattle.disk_archive.specs.Checks.{IsAllRead, IsBadBlock, IsBadPage, IsRootPlace};
 ghost use Rattle.disk_archive.specs.Rings.{AreRings, IsBadRing};
 ghost use Rattle.disk_archive.specs.inner.Asking.{HasTree};
@@ -40,9 +40,9 @@ const KEPT_BLOCKS: usize = 64;
 // Where the root of a tree lies.
 fn root_of<P: Pages>(pages: &mut P, root: u64) -> Result<PagePlace, CheckError>
     ensures place { IfOk result (IsRootPlace root) }
-    ensures stands { (start : Start) (shown : List (List ℕ)) (s : Store) (all : List Version) (level : ℕ) → P.shows pages.old start shown → AreShown shown s.nodes → TreeStands s all root level → IfOk result (λ place. TreeStands s all place.page place.level) }
-    ensures finds { (start : Start) (shown : List (List ℕ)) (s : Store) (all : List Version) (level : ℕ) → P.shows pages.old start shown → AreShown shown s.nodes → TreeStands s all root level → IfErr result FindsNone }
-    ensures bad { (start : Start) (shown : List (List ℕ)) → P.shows pages.old start shown → (page : ℕ) → result ≡ Err (CheckError.BadNode page) → (page ≡ root) × ((level : ℕ) → ShowsRoot shown root level → ⊥) }
+    ensures represents_all { (start : Start) (shown : List (List ℕ)) (s : Store) (all : List Version) (level : ℕ) → P.shows pages.old start shown → RepresentNodes shown s.nodes → TreeRepresents s all root level → IfOk result (λ place. TreeRepresents s all place.page place.level) }
+    ensures finds { (start : Start) (shown : List (List ℕ)) (s : Store) (all : List Version) (level : ℕ) → P.shows pages.old start shown → RepresentNodes shown s.nodes → TreeRepresents s all root level → IfErr result FindsNone }
+    ensures bad { (start : Start) (shown : List (List ℕ)) → P.shows pages.old start shown → (page : ℕ) → result ≡ Err (CheckError.BadNode page) → (page ≡ root) × ((level : ℕ) → IsShownRoot shown root level → ⊥) }
     ensures damaged { (block : ℕ) → result ≡ Err (CheckError.Damaged block) → ⊥ }
     ensures refused { IfErr result (CountRefusal (P.down pages.old)) }
     ensures reads { (start : Start) (shown : List (List ℕ)) → P.shows pages.old start shown → P.shows pages.new start shown }
@@ -139,7 +139,7 @@ fn count_by<P: Pages, O: OnceDisk + Drop>(
 }
 
 impl<E: EraseDisk + Drop, O: OnceDisk + Drop> Archive<E, O> {
-    ghost use Rattle.disk_archive.specs.Archives.{Represents, Holds, Stands, IsHonest, erase_of, erase_state, is_down, once_of, once_state, settings_of, site_of};
+    ghost use Rattle.disk_archive.specs.Archives.{Represents, RepresentsIfHonest, ContinuesFrom, IsHonest, erase_of, erase_state, is_down, once_of, once_state, settings_of, site_of};
     ghost use Rattle.disk_archive.specs.Checks.{HasPages, applied_in, in_use_of, root_in};
     ghost use Rattle.disk_archive.specs.Rings.{head_in};
     ghost use Rattle.disk_archive.specs.Sites.{LeftRepresents, LeftEither};
@@ -194,10 +194,10 @@ impl<E: EraseDisk + Drop, O: OnceDisk + Drop> Archive<E, O> {
     /// Nothing is written. Pages come through the archive's cache, and at most 64 blocks are cached, during the call. `Fault` is returned
     /// only if a read, or the look at what is settled, failed. After each outcome the archive represents the same history.
     pub fn check(&mut self) -> Result<u64, CheckError>
-        ensures counted { IfOk result (λ n. IsHonest self.old → (h : History) → Holds self.old h → n ≡ sum_by (λ p. length p.item.changes) (applied h)) }
+        ensures counted { IfOk result (λ n. IsHonest self.old → (h : History) → RepresentsIfHonest self.old h → n ≡ sum_by (λ p. length p.item.changes) (applied h)) }
         ensures head { IfOk result (λ n. n ≡ applied_in self.old) }
-        ensures sound { IsHonest self.old → (h : History) → Holds self.old h → (page : ℕ) → result ≡ Err (CheckError.BadNode page) → ⊥ }
-        ensures undamaged { IsHonest self.old → (h : History) → Holds self.old h → (block : ℕ) → result ≡ Err (CheckError.Damaged block) → ⊥ }
+        ensures sound { IsHonest self.old → (h : History) → RepresentsIfHonest self.old h → (page : ℕ) → result ≡ Err (CheckError.BadNode page) → ⊥ }
+        ensures undamaged { IsHonest self.old → (h : History) → RepresentsIfHonest self.old h → (block : ℕ) → result ≡ Err (CheckError.Damaged block) → ⊥ }
         ensures failed { ReportsFailure self.old self.new (once_of self.old) (result ≡ Err CheckError.Fault) }
         ensures read { IsHonest self.old → (pages : List (List ℕ)) → HasPages self.old pages → IfOk result (IsAllRead pages (once_state self.old).settled (O.block_count (once_of self.old)) (root_in self.old) (in_use_of self.old)) }
         ensures rings { IsHonest self.old → (pages : List (List ℕ)) → HasPages self.old pages → OnOk result (AreRings pages (settings_of self.old) (head_in self.old)) }
@@ -205,10 +205,10 @@ impl<E: EraseDisk + Drop, O: OnceDisk + Drop> Archive<E, O> {
             → (page : ℕ) → result ≡ Err (CheckError.BadNode page) → IsBadPage pages (once_state self.old).settled (O.block_count (once_of self.old)) (root_in self.old) (applied_in self.old) (in_use_of self.old) page ⊎ IsBadRing pages (settings_of self.old) (head_in self.old) page }
         ensures damaged { IsHonest self.old → (pages : List (List ℕ)) → HasPages self.old pages
             → (block : ℕ) → result ≡ Err (CheckError.Damaged block) → IsBadBlock pages (once_state self.old).settled (O.block_count (once_of self.old)) (root_in self.old) block }
-        ensures holds { (h : History) → Holds self.old h → Holds self.new h }
+        ensures holds { (h : History) → RepresentsIfHonest self.old h → RepresentsIfHonest self.new h }
         ensures crash { (h : History) → Represents self.old h → Crashes self.old self.new (LeftRepresents (site_of self.old) h) }
-        ensures lasts { (h : History) → Stands self.old h → Lasts self.old self.new h }
-        ensures still { IsHonest self.old → (h : History) → Holds self.old h → (erase_state self.new).clock ≡ (erase_state self.old).clock }
+        ensures lasts { (h : History) → ContinuesFrom self.old h → Lasts self.old self.new h }
+        ensures still { IsHonest self.old → (h : History) → RepresentsIfHonest self.old h → (erase_state self.new).clock ≡ (erase_state self.old).clock }
         ensures usable { OnOk result (is_down self.old ≡ false) }
         ensures idle { is_down self.old ≡ true → (erase_of self.new ≡ erase_of self.old) × (once_state self.new ≡ once_state self.old) × (is_down self.new ≡ true) }
         ensures down { is_down self.new ≡ is_down self.old }

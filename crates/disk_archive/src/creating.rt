@@ -13,7 +13,7 @@ ghost use Rattle.interleaving_core.specs.Steps.{empty};
 ghost use Rattle.archive_pages.specs.Places.{AreSettings, tree_low};
 ghost use Rattle.disk_archive.specs.Creations.{CountsOne, IsTooSmall, LeavesNoneOrEmpty, homes_on, site_on};
 ghost use Rattle.disk_archive.specs.Notes.{note_octets};
-ghost use Rattle.disk_archive.specs.inner.Creating.{Means, disk_left, reported};
+ghost use Rattle.disk_archive.specs.inner.Creating.{CrashRepresents, disk_left, reported};
 
 use crate::archive::Archive;
 use crate::beginning::{Empty, make_empty};
@@ -71,7 +71,7 @@ fn make_pages<E: EraseDisk + Drop>(
 
     // If memory runs out the disk is returned as it was, or with all these pages.
     ensures memory { E.honest erase → IfErr result (λ refused. refused.error ≡ CreateError.OutOfMemory
-        → (refused.disk ≡ erase) ⊎ Means homes note (E.model refused.disk) (laid images.now (homes_from (E.model erase).octet 0 homes))) }
+        → (refused.disk ≡ erase) ⊎ CrashRepresents homes note (E.model refused.disk) (laid images.now (homes_from (E.model erase).octet 0 homes))) }
     ensures crash { E.honest erase → Leaves (E.model erase) (E.model (disk_left result)) (NoneOrJournal homes note (laid images.now (homes_from (E.model erase).octet 0 homes))) }
 {
     match Journal::create_with(alloc, erase, homes, note, images) {

@@ -100,7 +100,7 @@ fn descend_by<P: Pages>(
 }
 
 impl<E: EraseDisk + Drop, O: OnceDisk + Drop> Archive<E, O> {
-    ghost use Rattle.disk_archive.specs.Archives.{Represents, Holds, Stands, IsHonest, erase_of, erase_state, is_down, once_of, once_state, pen_in, settings_of, site_of};
+    ghost use Rattle.disk_archive.specs.Archives.{Represents, RepresentsIfHonest, ContinuesFrom, IsHonest, erase_of, erase_state, is_down, once_of, once_state, pen_in, settings_of, site_of};
     ghost use Rattle.disk_archive.specs.Blanks.{next_block};
     ghost use Rattle.disk_archive.specs.Sites.{LeftRepresents, LeftEither};
     ghost use Rattle.disk_archive.specs.Crashes.{Crashes, Lasts};
@@ -158,23 +158,23 @@ impl<E: EraseDisk + Drop, O: OnceDisk + Drop> Archive<E, O> {
     /// in its leaf, or at one stamp, reads only pages, which stay in the archive's cache, and writes nothing. After each outcome the
     /// archive represents the same history as before, and what the question has gathered is right over it.
     pub fn descend(&mut self, cursor: &mut Cursor) -> Result<Descent, AskError>
-        ensures descends { IfOk result (λ descent. IsHonest self.old → (h : History) → Holds self.old h → IsGathered cursor.old h → Descends (O.block_count (once_of self.old)) (once_state self.old).settled h cursor.old cursor.new descent) }
+        ensures descends { IfOk result (λ descent. IsHonest self.old → (h : History) → RepresentsIfHonest self.old h → IsGathered cursor.old h → Descends (O.block_count (once_of self.old)) (once_state self.old).settled h cursor.old cursor.new descent) }
         ensures further { IfOk result (GoesFurther cursor.old cursor.new) }
         ensures burnt { IfOk result (ReadsBelow (next_block self.old)) }
-        ensures gathered { IsHonest self.old → (h : History) → Holds self.old h → IsGathered cursor.old h → IsGathered cursor.new h }
+        ensures gathered { IsHonest self.old → (h : History) → RepresentsIfHonest self.old h → IsGathered cursor.old h → IsGathered cursor.new h }
         ensures asks { asks cursor.new ≡ asks cursor.old }
-        ensures below { OnOk result (IsHonest self.old → (h : History) → Holds self.old h → last_moment (asks cursor.old) < settled h) }
-        ensures above { IsHonest self.old → (h : History) → Holds self.old h → (mark : ℕ) → (result ≡ Err (AskError.AboveWatermark mark)) ↔ ((is_down self.old ≡ false) × (mark ≡ settled h) × (settled h ≤ last_moment (asks cursor.old))) }
-        ensures holds { (h : History) → Holds self.old h → Holds self.new h }
+        ensures below { OnOk result (IsHonest self.old → (h : History) → RepresentsIfHonest self.old h → last_moment (asks cursor.old) < settled h) }
+        ensures above { IsHonest self.old → (h : History) → RepresentsIfHonest self.old h → (mark : ℕ) → (result ≡ Err (AskError.AboveWatermark mark)) ↔ ((is_down self.old ≡ false) × (mark ≡ settled h) × (settled h ≤ last_moment (asks cursor.old))) }
+        ensures holds { (h : History) → RepresentsIfHonest self.old h → RepresentsIfHonest self.new h }
         ensures crash { (h : History) → Represents self.old h → Crashes self.old self.new (LeftRepresents (site_of self.old) h) }
-        ensures lasts { (h : History) → Stands self.old h → Lasts self.old self.new h }
-        ensures still { IsHonest self.old → (h : History) → Holds self.old h → (erase_state self.new).clock ≡ (erase_state self.old).clock }
+        ensures lasts { (h : History) → ContinuesFrom self.old h → Lasts self.old self.new h }
+        ensures still { IsHonest self.old → (h : History) → RepresentsIfHonest self.old h → (erase_state self.new).clock ≡ (erase_state self.old).clock }
         ensures usable { OnOk result (is_down self.old ≡ false) }
         ensures idle { is_down self.old ≡ true → (erase_of self.new ≡ erase_of self.old) × (once_state self.new ≡ once_state self.old) × (is_down self.new ≡ true) }
         ensures unmoved { is_down self.old ≡ true → cursor.new ≡ cursor.old }
         ensures down { is_down self.new ≡ is_down self.old }
         ensures recovery { (result ≡ Err AskError.NeedsRecovery) ↔ (is_down self.old ≡ true) }
-        ensures sound { IsHonest self.old → (h : History) → Holds self.old h → (page : ℕ) → result ≡ Err (AskError.BadNode page) → ⊥ }
+        ensures sound { IsHonest self.old → (h : History) → RepresentsIfHonest self.old h → (page : ℕ) → result ≡ Err (AskError.BadNode page) → ⊥ }
         ensures undamaged { (block : ℕ) → result ≡ Err (AskError.Damaged block) → ⊥ }
         ensures quiet { result ≢ Err AskError.Fault → E.fault_count (erase_of self.new) ≡ E.fault_count (erase_of self.old) }
         ensures counted { result ≡ Err AskError.Fault → E.fault_count (erase_of self.new) ≡ min (E.fault_count (erase_of self.old) + 1) 18446744073709551615 }

@@ -4,9 +4,9 @@ ghost use Rattle.std.specs.Prelude.{◌≡◌, ◌↔◌, ◌+◌, ℕ, OnOk, On
 ghost use Rattle.route_meaning.specs.History.{History};
 ghost use Rattle.once_store.specs.Readers.{capacity_of, reader_disk};
 ghost use Rattle.route_history.specs.Walks.{Rose};
-ghost use Rattle.tsb_walk.specs.Inside.{KeepsInside};
+ghost use Rattle.tsb_walk.specs.Inside.{CachesInside};
 ghost use Rattle.tsb_walk.specs.Knowing.{ReadsWell};
-ghost use Rattle.disk_archive.specs.Cursors.{IsGathered, SaysSame, asks, walked_to};
+ghost use Rattle.disk_archive.specs.Cursors.{IsGathered, IsSameCursor, asks, walked_to};
 ghost use Rattle.disk_archive.specs.Descents.{IsErrandFor, LocatedKnown};
 
 use crate::cursor::Cursor;
@@ -41,11 +41,11 @@ impl Errand {
         ensures gathered { (h : History) → LocatedKnown O.OnceDisk reader.old seen.old self cursor.old h → OnOk result (IsGathered cursor.new h) }
         ensures further { (h : History) → LocatedKnown O.OnceDisk reader.old seen.old self cursor.old h → OnOk result (Rose (walked_to cursor.old) (walked_to cursor.new)) }
         ensures asks { asks cursor.new ≡ asks cursor.old }
-        ensures refused { OnErr result (SaysSame cursor.old cursor.new) }
+        ensures refused { OnErr result (IsSameCursor cursor.old cursor.new) }
         ensures kept { OnErr result ((h : History) → IsGathered cursor.old h → IsGathered cursor.new h) }
         ensures undamaged { (h : History) → LocatedKnown O.OnceDisk reader.old seen.old self cursor.old h → (block : ℕ) → result ≡ Err (BlockError.Damaged block) → ⊥ }
         ensures reads { (h : History) → LocatedKnown O.OnceDisk reader.old seen.old self cursor.old h → ReadsWell O.OnceDisk reader.new seen.new }
-        ensures inside { KeepsInside O.OnceDisk reader.old → KeepsInside O.OnceDisk reader.new }
+        ensures inside { CachesInside O.OnceDisk reader.old → CachesInside O.OnceDisk reader.new }
         ensures known { O.honest_seen (reader_disk reader.old) seen.old → O.known seen.new ≡ O.known seen.old }
         ensures disk { reader_disk reader.new ≡ reader_disk reader.old }
         ensures capacity { capacity_of reader.new ≡ capacity_of reader.old }

@@ -52,7 +52,7 @@ fn write_home<E: EraseDisk + Drop>(tx: &mut Tx<E>) -> Result<Flush, UseError>
 }
 
 impl<E: EraseDisk + Drop, O: OnceDisk + Drop> Archive<E, O> {
-    ghost use Rattle.disk_archive.specs.Archives.{Represents, GoesOn, Holds, Stands, IsHonest, erase_of, is_down, once_of, once_state, pen_in, settings_of, site_of};
+    ghost use Rattle.disk_archive.specs.Archives.{Represents, GoesOn, RepresentsIfHonest, ContinuesFrom, IsHonest, erase_of, is_down, once_of, once_state, pen_in, settings_of, site_of};
     ghost use Rattle.disk_archive.specs.Sites.{LeftRepresents, LeftEither};
     ghost use Rattle.disk_archive.specs.Crashes.{Crashes, Lasts};
     ghost use Rattle.disk_archive.specs.Homes.{closed_in, dirty_pages};
@@ -86,9 +86,9 @@ impl<E: EraseDisk + Drop, O: OnceDisk + Drop> Archive<E, O> {
     /// The archive represents the same history, and so does what any crash leaves. After a refusal the same pages wait; after a write or a
     /// sync that failed the archive must be opened again.
     pub fn flush_step(&mut self) -> Result<Flush, FlushError>
-        ensures holds { (h : History) → Holds self.old h → Holds self.new h }
+        ensures holds { (h : History) → RepresentsIfHonest self.old h → RepresentsIfHonest self.new h }
         ensures crash { (h : History) → Represents self.old h → Crashes self.old self.new (LeftRepresents (site_of self.old) h) }
-        ensures lasts { (h : History) → Stands self.old h → Lasts self.old self.new h }
+        ensures lasts { (h : History) → ContinuesFrom self.old h → Lasts self.old self.new h }
         ensures usable { OnOk result ((is_down self.old ≡ false) × (is_down self.new ≡ false)) }
         ensures idle { is_down self.old ≡ true → (erase_of self.new ≡ erase_of self.old) × (once_state self.new ≡ once_state self.old) × (is_down self.new ≡ true) }
         ensures recovery { (result ≡ Err FlushError.NeedsRecovery) ↔ (is_down self.old ≡ true) }

@@ -109,7 +109,7 @@ fn plan_mark<P: Pages>(
 }
 
 impl<E: EraseDisk + Drop, O: OnceDisk + Drop> Archive<E, O> {
-    ghost use Rattle.disk_archive.specs.Archives.{Represents, GoesOn, Holds, Stands, IsHonest, erase_of, erase_state, is_down, once_of, once_state, pen_in, settings_of, site_of};
+    ghost use Rattle.disk_archive.specs.Archives.{Represents, GoesOn, RepresentsIfHonest, ContinuesFrom, IsHonest, erase_of, erase_state, is_down, once_of, once_state, pen_in, settings_of, site_of};
     ghost use Rattle.disk_archive.specs.Sites.{LeftMarked};
     ghost use Rattle.disk_archive.specs.Crashes.{Crashes, Lasts};
     ghost use Rattle.disk_archive.specs.inner.Idle.{IsAsBefore};
@@ -154,11 +154,11 @@ impl<E: EraseDisk + Drop, O: OnceDisk + Drop> Archive<E, O> {
     /// From an Ok on each crash leaves a history with the mark. After a refusal the archive represents the history from before the call; if
     /// a write or a sync failed, it must be opened again, and the collector then has its mark from before the call, or this one.
     pub fn mark(&mut self, collector: u8, mark: Mark) -> Result<(), MarkError>
-        ensures ok { OnOk result ((h : History) → Holds self.old h → Holds self.new (marked h collector mark)) }
-        ensures err { OnErr result ((h : History) → Holds self.old h → Holds self.new h) }
+        ensures ok { OnOk result ((h : History) → RepresentsIfHonest self.old h → RepresentsIfHonest self.new (marked h collector mark)) }
+        ensures err { OnErr result ((h : History) → RepresentsIfHonest self.old h → RepresentsIfHonest self.new h) }
         ensures crash { (h : History) → Represents self.old h → Crashes self.old self.new (LeftMarked (site_of self.old) h collector mark) }
-        ensures lasts { (h : History) → Stands self.old h → Lasts self.old self.new h }
-        ensures memory { IsHonest self.old → (h : History) → Holds self.old h → result ≡ Err MarkError.OutOfMemory → (erase_state self.new).clock ≡ (erase_state self.old).clock }
+        ensures lasts { (h : History) → ContinuesFrom self.old h → Lasts self.old self.new h }
+        ensures memory { IsHonest self.old → (h : History) → RepresentsIfHonest self.old h → result ≡ Err MarkError.OutOfMemory → (erase_state self.new).clock ≡ (erase_state self.old).clock }
         ensures usable { OnOk result (is_down self.old ≡ false) }
         ensures idle { is_down self.old ≡ true → (erase_of self.new ≡ erase_of self.old) × (once_state self.new ≡ once_state self.old) × (is_down self.new ≡ true) }
         ensures still_usable { OnOk result (is_down self.new ≡ false) }
@@ -168,8 +168,8 @@ impl<E: EraseDisk + Drop, O: OnceDisk + Drop> Archive<E, O> {
         ensures pen { pen_in self.new ≡ pen_in self.old }
         ensures recovery { (result ≡ Err MarkError.NeedsRecovery) ↔ (is_down self.old ≡ true) }
         ensures no_collector { (result ≡ Err MarkError.NoCollector) ↔ ((is_down self.old ≡ false) × ((settings_of self.old).collectors ≤ collector)) }
-        ensures mark_back { IsHonest self.old → (h : History) → Holds self.old h → (result ≡ Err MarkError.MarkBack) ↔ ((is_down self.old ≡ false) × IsMarkAbove h collector mark) }
-        ensures present { IsHonest self.old → is_down self.old ≡ false → (h : History) → Holds self.old h → (i : Intake) → slice_get h.intakes collector ≡ Some i → mark ≡ i.mark → IsOk result × (erase_of self.new ≡ erase_of self.old) }
+        ensures mark_back { IsHonest self.old → (h : History) → RepresentsIfHonest self.old h → (result ≡ Err MarkError.MarkBack) ↔ ((is_down self.old ≡ false) × IsMarkAbove h collector mark) }
+        ensures present { IsHonest self.old → is_down self.old ≡ false → (h : History) → RepresentsIfHonest self.old h → (i : Intake) → slice_get h.intakes collector ≡ Some i → mark ≡ i.mark → IsOk result × (erase_of self.new ≡ erase_of self.old) }
         ensures honest { IsHonest self.old ↔ IsHonest self.new }
         ensures settings { settings_of self.new ≡ settings_of self.old }
         ensures disk { once_of self.new ≡ once_of self.old }

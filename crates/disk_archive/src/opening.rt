@@ -5,7 +5,7 @@ ghost use Rattle.disk_models.specs.Erase.{Counts, MayLeave};
 ghost use Rattle.disk_models.specs.Left.{CrashPair, IsFound, Left, LeftNow};
 ghost use Rattle.disk_models.specs.Once.{OnceState, settled_in};
 ghost use Rattle.page_journal.specs.Journal.{disk_of, home_pages, needs_recovery, note_of};
-ghost use Rattle.page_journal.specs.Identity.{HoldsNone};
+ghost use Rattle.page_journal.specs.Identity.{HasNoJournal};
 ghost use Rattle.page_journal.specs.Layout.{home_place};
 ghost use Rattle.page_journal.specs.Recovers.{Recovers};
 ghost use Rattle.buffer_pool.specs.Pool.{journal_of};
@@ -19,7 +19,7 @@ ghost use Rattle.archive_pages.specs.Represented.{HeadRepresents, PagesRepresent
 ghost use Rattle.archive_pages.specs.Places.{AreSettings};
 ghost use Rattle.disk_archive.specs.Mirrors.{Mirrors};
 ghost use Rattle.disk_archive.specs.Trees.{TreeLocated};
-ghost use Rattle.disk_archive.specs.inner.Guarding.{GuardedAt, MeansOr};
+ghost use Rattle.disk_archive.specs.inner.Guarding.{GuardedAt, CrashRepresentsOr};
 ghost use Rattle.disk_archive.specs.inner.Recalling.{HasRoot, RecallRefusal};
 
 use crate::archive::Archive;
@@ -110,7 +110,7 @@ fn remember_on<E: EraseDisk + Drop, B: Before>(
 }
 
 impl<E: EraseDisk + Drop, O: OnceDisk + Drop> Archive<E, O> {
-    ghost use Rattle.disk_archive.specs.Archives.{Represents, Stands, site_of};
+    ghost use Rattle.disk_archive.specs.Archives.{Represents, ContinuesFrom, site_of};
     ghost use Rattle.disk_archive.specs.Creations.{CountsOne};
     ghost use Rattle.disk_archive.specs.Outcome.{erase_after, once_after, outcome, pen_after};
     ghost use Rattle.disk_archive.specs.Notes.{note_octets};
@@ -176,14 +176,14 @@ impl<E: EraseDisk + Drop, O: OnceDisk + Drop> Archive<E, O> {
         requires clock { B.clock ≡ (E.model erase).clock }
         requires left { (c : ℕ → ℕ) → MayLeave (E.model erase) c → B.left c }
         ensures left { E.honest erase → (homes : ℕ) (note : List ℕ) (pages : List (List ℕ)) → Recovers homes note (E.model erase).octet pages
-            → MeansOr (E.model (erase_after result)) B.clock B.left homes note pages }
+            → CrashRepresentsOr (E.model (erase_after result)) B.clock B.left homes note pages }
         ensures represents { E.honest erase → O.honest once.value pen → IfOk result (λ archive. (site : Site) (h : History) → ReadsAs site (O.block_count once.value) (E.model erase) (O.model pen) h → Represents archive h) }
         ensures site { E.honest erase → IfOk result (λ archive. (site : Site) (h : History) → ReadsAs site (O.block_count once.value) (E.model erase) (O.model pen) h → site_of archive ≡ site) }
         ensures noted { E.honest erase → IfOk result (λ archive. IsNoted (site_of archive)) }
         ensures undamaged { E.honest erase → (site : Site) (h : History) → ReadsAs site (O.block_count once.value) (E.model erase) (O.model pen) h → home_place site.homes ≤ E.octet_count erase → IfErr (outcome result) IsFaultOrMemory }
         ensures named { E.honest erase → OnOk result (NamesArchive (E.octet_count erase) (E.model erase).octet (O.block_count once.value)) }
         ensures unnamed { E.honest erase → outcome result ≡ Err OpenError.NotAJournal → NamesArchive (E.octet_count erase) (E.model erase).octet (O.block_count once.value) → ⊥ }
-        ensures none { E.honest erase → HoldsNone (E.model erase).octet → IfErr (outcome result) IsNoneFaultOrMemory }
+        ensures none { E.honest erase → HasNoJournal (E.model erase).octet → IfErr (outcome result) IsNoneFaultOrMemory }
         ensures erase { E.honest erase ↔ E.honest (erase_after result) }
         ensures disk { once_after result ≡ once.value }
         ensures once { O.honest once.value pen ↔ O.honest once.value (pen_after result) }
@@ -231,7 +231,7 @@ impl<E: EraseDisk + Drop, O: OnceDisk + Drop> Archive<E, O> {
         ensures noted { E.honest erase → IfOk result (λ archive. IsNoted (site_of archive)) }
 
         // If the disks are those of an archive that must be opened again, a history that stood there still stands.
-        ensures stands { E.honest erase → O.honest once.value pen → IfOk result (λ archive. (site : Site) (h : History) → Rests site (E.model erase) (O.model pen) h → site.blocks ≡ O.block_count once.value → IsNoted site → Stands archive h) }
+        ensures represents_all { E.honest erase → O.honest once.value pen → IfOk result (λ archive. (site : Site) (h : History) → Rests site (E.model erase) (O.model pen) h → site.blocks ≡ O.block_count once.value → IsNoted site → ContinuesFrom archive h) }
 
         // What a crash during the call or after it leaves could also be left before the call, or represents what the disks read as.
         ensures inside { E.honest erase → O.honest once.value pen → (site : Site) (h : History) → ReadsAs site (O.block_count once.value) (E.model erase) (O.model pen) h
@@ -243,7 +243,7 @@ impl<E: EraseDisk + Drop, O: OnceDisk + Drop> Archive<E, O> {
         ensures undamaged { E.honest erase → (site : Site) (h : History) → ReadsAs site (O.block_count once.value) (E.model erase) (O.model pen) h → home_place site.homes ≤ E.octet_count erase → IfErr (outcome result) IsFaultOrMemory }
         ensures named { E.honest erase → OnOk result (NamesArchive (E.octet_count erase) (E.model erase).octet (O.block_count once.value)) }
         ensures unnamed { E.honest erase → outcome result ≡ Err OpenError.NotAJournal → NamesArchive (E.octet_count erase) (E.model erase).octet (O.block_count once.value) → ⊥ }
-        ensures none { E.honest erase → HoldsNone (E.model erase).octet → IfErr (outcome result) IsNoneFaultOrMemory }
+        ensures none { E.honest erase → HasNoJournal (E.model erase).octet → IfErr (outcome result) IsNoneFaultOrMemory }
 
         // Both disks are the archive's, or returned, and nothing was burnt. One of them failed if `Fault` is returned, and otherwise
         // none did.

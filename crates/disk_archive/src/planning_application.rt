@@ -20,7 +20,7 @@ ghost use Rattle.tsb_tree.specs.Opened.{HasRootLevel};
 ghost use Rattle.tsb_tree.specs.Refusals.{IsHonest};
 ghost use Rattle.tsb_tree.specs.Shelves.{HasNoneBlank};
 ghost use Rattle.archive_head.specs.declared.lane.Lane.{Lane};
-ghost use Rattle.intake.specs.Ring.{IsRing, Holds};
+ghost use Rattle.intake.specs.Ring.{IsRing, RingRepresents};
 ghost use Rattle.intake.specs.Calls.{OnlyReads};
 ghost use Rattle.archive_pages.specs.Batches.{CanPop, HasLane};
 ghost use Rattle.archive_pages.specs.Represented.{HeadRepresents};
@@ -55,10 +55,10 @@ pub(crate) fn front_of<P: Pages>(
     kept: Option<Encoded>,
 ) -> Result<Encoded, ApplyError>
     requires collector { collector < length head.now.lanes }
-    ensures front { IfOk result (λ a. (start : Start) (shown : List (List ℕ)) (lane : Lane) (waits : List Admitted) → P.shows pages.old start shown → HasLane head.now collector lane → Holds shown (ring_of settings collector lane) waits → slice_get waits 0 ≡ Some a) }
+    ensures front { IfOk result (λ a. (start : Start) (shown : List (List ℕ)) (lane : Lane) (waits : List Admitted) → P.shows pages.old start shown → HasLane head.now collector lane → RingRepresents shown (ring_of settings collector lane) waits → slice_get waits 0 ≡ Some a) }
     ensures fits { IfOk result (λ a. (lane : Lane) → HasLane head.now collector lane → CanPop settings collector lane a) }
     ensures sound { (start : Start) (shown : List (List ℕ)) (lane : Lane) (first : Admitted) (rest : List Admitted) → P.shows pages.old start shown → HasLane head.now collector lane → IsRing (P.homes pages.old) (ring_of settings collector lane)
-        → Holds shown (ring_of settings collector lane) (first ∷ rest) → (page : ℕ) → result ≡ Err (ApplyError.BadNode page) → ⊥ }
+        → RingRepresents shown (ring_of settings collector lane) (first ∷ rest) → (page : ℕ) → result ≡ Err (ApplyError.BadNode page) → ⊥ }
     ensures refused { IfErr result (FrontRefusal (P.down pages.old)) }
     ensures reads { (start : Start) (shown : List (List ℕ)) → P.shows pages.old start shown → P.shows pages.new start shown }
     ensures homes { P.homes pages.new ≡ P.homes pages.old }

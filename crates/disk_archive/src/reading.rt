@@ -1,7 +1,7 @@
 //! Readers of an archive's blocks.
 
 ghost use Rattle.std.specs.Prelude.{◌≡◌, ◌<◌, ◌≤◌, ℕ, List, IfOk};
-ghost use Rattle.once_store.specs.Readers.{IsKept, capacity_of, reader_disk};
+ghost use Rattle.once_store.specs.Readers.{IsCached, capacity_of, reader_disk};
 
 use crate::archive::Archive;
 use disk_models::{EraseDisk, OnceDisk};
@@ -18,7 +18,7 @@ impl<E: EraseDisk + Drop, O: OnceDisk + Drop> Archive<E, O> {
         requires few { capacity ≤ 1024 }
         ensures disk { IfOk result (λ reader. reader_disk reader ≡ once_of self.now) }
         ensures capacity { IfOk result (λ reader. capacity_of reader ≡ capacity) }
-        ensures none { IfOk result (λ reader. (n : ℕ) (block : List ℕ) → IsKept reader n block → ⊥) }
+        ensures none { IfOk result (λ reader. (n : ℕ) (block : List ℕ) → IsCached reader n block → ⊥) }
     {
         self.shelf.reader(self.alloc, capacity)
     }

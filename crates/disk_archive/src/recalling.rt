@@ -11,7 +11,7 @@ ghost use Rattle.sequencer.specs.Lanes.{marks, waiting_times};
 ghost use Rattle.archive_head.specs.Head.{Contents, IsHead, head_octets};
 ghost use Rattle.archive_head.specs.declared.lane.Lane.{Lane};
 ghost use Rattle.intake.specs.Calls.{OnlyReads};
-ghost use Rattle.intake.specs.Ring.{Holds, IsRing, page_at, time_of};
+ghost use Rattle.intake.specs.Ring.{RingRepresents, IsRing, page_at, time_of};
 ghost use Rattle.archive_pages.specs.Batches.{HasLane};
 ghost use Rattle.archive_pages.specs.Represented.{HeadRepresents};
 ghost use Rattle.archive_pages.specs.Places.{ring_of};
@@ -94,9 +94,9 @@ fn waiting_of<P: Pages>(
     requires collector { collector < length head.now.lanes }
     requires usable { P.down pages.old ≡ false }
     ensures times { IfOk result (λ times. (start : Start) (shown : List (List ℕ)) (lane : Lane) (waits : List Admitted) → P.shows pages.old start shown → HasLane head.now collector lane
-        → Holds shown (ring_of settings collector lane) waits → times.items ≡ map time_of waits) }
+        → RingRepresents shown (ring_of settings collector lane) waits → times.items ≡ map time_of waits) }
     ensures sound { (start : Start) (shown : List (List ℕ)) (lane : Lane) (waits : List Admitted) → P.shows pages.old start shown → HasLane head.now collector lane → IsRing (P.homes pages.old) (ring_of settings collector lane)
-        → Holds shown (ring_of settings collector lane) waits → (page : ℕ) → result ≡ Err (OpenError.BadNode page) → ⊥ }
+        → RingRepresents shown (ring_of settings collector lane) waits → (page : ℕ) → result ≡ Err (OpenError.BadNode page) → ⊥ }
     ensures refused { IfErr result RecallRefusal }
     ensures same { OnlyReads P.Pages pages.old pages.new (result ≡ Err OpenError.Fault) }
 {

@@ -3,7 +3,7 @@
 ghost use Rattle.std.specs.Prelude.{◌≡◌, ◌≤◌, ℕ, List, IfOk, OnOk, IfErr, Err, IfSome, IfNone, false};
 ghost use Rattle.disk_models.specs.Erase.{MayLeave};
 ghost use Rattle.disk_models.specs.Serves.{Serves};
-ghost use Rattle.page_journal.specs.Identity.{HoldsNone};
+ghost use Rattle.page_journal.specs.Identity.{HasNoJournal};
 ghost use Rattle.page_journal.specs.Layout.{home_place};
 ghost use Rattle.page_journal.specs.Recovers.{Recovers};
 ghost use Rattle.page_journal.specs.Journal.{Keeps, disk_of, home_pages, needs_recovery, note_of};
@@ -12,7 +12,7 @@ ghost use Rattle.archive_pages.specs.declared.settings.Settings.{Settings};
 ghost use Rattle.archive_pages.specs.Places.{AreSettings, tree_low};
 ghost use Rattle.disk_archive.specs.Notes.{note_octets};
 ghost use Rattle.disk_archive.specs.Openings.{IsNoneFaultOrMemory, IsFaultOrMemory, NamesArchive};
-ghost use Rattle.disk_archive.specs.inner.Guarding.{MeansOr};
+ghost use Rattle.disk_archive.specs.inner.Guarding.{CrashRepresentsOr};
 ghost use Rattle.disk_archive.specs.inner.Restoring.{Restores, disk_restored, of_opening, restored};
 
 use crate::looks::Looks;
@@ -112,11 +112,11 @@ pub(crate) fn restore<E: EraseDisk + Drop>(
 
     // What a crash leaves could be left before, or represents what the disk reads as.
     ensures left { E.honest erase → (homes : ℕ) (note : List ℕ) (pages : List (List ℕ)) → Recovers homes note (E.model erase).octet pages
-        → MeansOr (E.model (disk_restored result)) (E.model erase).clock (MayLeave (E.model erase)) homes note pages }
+        → CrashRepresentsOr (E.model (disk_restored result)) (E.model erase).clock (MayLeave (E.model erase)) homes note pages }
 
     ensures named { E.honest erase → OnOk result (NamesArchive (E.octet_count erase) (E.model erase).octet blocks) }
     ensures unnamed { E.honest erase → IfErr result (λ refused. refused.error ≡ OpenError.NotAJournal → NamesArchive (E.octet_count erase) (E.model erase).octet blocks → ⊥) }
-    ensures none { E.honest erase → HoldsNone (E.model erase).octet → IfErr result (λ refused. IsNoneFaultOrMemory refused.error) }
+    ensures none { E.honest erase → HasNoJournal (E.model erase).octet → IfErr result (λ refused. IsNoneFaultOrMemory refused.error) }
     ensures undamaged { E.honest erase → (homes : ℕ) (note : List ℕ) (pages : List (List ℕ)) → Recovers homes note (E.model erase).octet pages → home_place homes ≤ E.octet_count erase
         → (s : Settings) → AreSettings s → note ≡ note_octets blocks s → tree_low s ≤ homes → IfErr result (λ refused. IsFaultOrMemory refused.error) }
     ensures serves { Serves E.EraseDisk erase (disk_restored result) (restored result ≡ Err OpenError.Fault) }

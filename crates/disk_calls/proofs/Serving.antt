@@ -10,7 +10,7 @@ use Rattle.disk_models.specs.declared.erase.EraseDisk.{Ghosts as EraseGhosts}
 use Rattle.disk_models.specs.declared.once.OnceDisk.{Ghosts as OnceGhosts}
 use Rattle.disk_models.specs.Once.{OnceState, settled_in}
 use Rattle.once_store.specs.declared.reader.ShelfReader.{ShelfReader}
-use Rattle.once_store.specs.Readers.{IsKept, reader_disk}
+use Rattle.once_store.specs.Readers.{IsCached, reader_disk}
 use Rattle.route_model.specs.Admission.{Admitted}
 use Rattle.route_meaning.specs.History.{History, Intake, settled}
 use Rattle.interleaving_core.specs.Does.{IsReply, last_moment}
@@ -56,7 +56,7 @@ if_ok (Err e) P Q each p = tt
 
 -- a new reader is of the archive's blocks, and keeps none
 pub own_of : {E O Pen Seen X : Type 0} {erase : EraseGhosts E} {once : OnceGhosts O Pen Seen} (a : Archive E O Pen Seen erase once) (r : Result (ShelfReader O Pen Seen once) X) (o : Option (ShelfReader O Pen Seen once))
-    → IfOk r (λ s. reader_disk s ≡ once_of a) → IfOk r (λ s. (n : ℕ) (block : List ℕ) → IsKept s n block → ⊥) → o ≡ result_ok r → KeepsFrom a o
+    → IfOk r (λ s. reader_disk s ≡ once_of a) → IfOk r (λ s. (n : ℕ) (block : List ℕ) → IsCached s n block → ⊥) → o ≡ result_ok r → KeepsFrom a o
 own_of a (Ok s) o disk none is = subst (λ x. KeepsFrom a x) (sym is) (record { disk = disk; kept = λ n block kept. absurd (none n block kept) })
 own_of a (Err e) o disk none is = subst (λ x. KeepsFrom a x) (sym is) tt
 

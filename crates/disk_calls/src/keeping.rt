@@ -5,7 +5,7 @@ ghost use Rattle.route_meaning.specs.Changed.{IsChangedAnswer};
 ghost use Rattle.route_meaning.specs.History.{History, applied, settled};
 ghost use Rattle.interleaving_core.specs.Does.{last_moment};
 ghost use Rattle.interleaving_core.specs.Headline.{IsAnswered};
-ghost use Rattle.disk_archive.specs.Archives.{Holds, IsHonest, is_down, settings_of};
+ghost use Rattle.disk_archive.specs.Archives.{RepresentsIfHonest, IsHonest, is_down, settings_of};
 ghost use Rattle.disk_calls.specs.Represented.{KeepsFrom};
 
 use crate::walking::walk;
@@ -33,11 +33,11 @@ pub(crate) fn answer_by<E: EraseDisk + Drop, O: OnceDisk + Drop>(
     reader: &mut Option<ShelfReader<O>>,
     query: Query,
 ) -> Result<Answer, AskError>
-    ensures answered { IfOk result (λ answer. IsHonest archive.old → (h : History) → Holds archive.old h → KeepsFrom archive.old reader.old → IsAnswered (applied h) query answer) }
-    ensures below { OnOk result (IsHonest archive.old → (h : History) → Holds archive.old h → last_moment query < settled h) }
-    ensures above { IsHonest archive.old → (h : History) → Holds archive.old h → (mark : ℕ) → (result ≡ Err (AskError.AboveWatermark mark)) ↔ ((is_down archive.old ≡ false) × (mark ≡ settled h) × (settled h ≤ last_moment query)) }
-    ensures holds { (h : History) → Holds archive.old h → Holds archive.new h }
-    ensures reads { IsHonest archive.old → (h : History) → Holds archive.old h → KeepsFrom archive.old reader.old → KeepsFrom archive.new reader.new }
+    ensures answered { IfOk result (λ answer. IsHonest archive.old → (h : History) → RepresentsIfHonest archive.old h → KeepsFrom archive.old reader.old → IsAnswered (applied h) query answer) }
+    ensures below { OnOk result (IsHonest archive.old → (h : History) → RepresentsIfHonest archive.old h → last_moment query < settled h) }
+    ensures above { IsHonest archive.old → (h : History) → RepresentsIfHonest archive.old h → (mark : ℕ) → (result ≡ Err (AskError.AboveWatermark mark)) ↔ ((is_down archive.old ≡ false) × (mark ≡ settled h) × (settled h ≤ last_moment query)) }
+    ensures holds { (h : History) → RepresentsIfHonest archive.old h → RepresentsIfHonest archive.new h }
+    ensures reads { IsHonest archive.old → (h : History) → RepresentsIfHonest archive.old h → KeepsFrom archive.old reader.old → KeepsFrom archive.new reader.new }
     ensures honest { IsHonest archive.old ↔ IsHonest archive.new }
     ensures settings { settings_of archive.new ≡ settings_of archive.old }
 {
@@ -53,11 +53,11 @@ pub(crate) fn changed_by<E: EraseDisk + Drop, O: OnceDisk + Drop>(
     reader: &mut Option<ShelfReader<O>>,
     question: ChangedQuestion,
 ) -> Result<ChangedAnswer, AskError>
-    ensures answered { IfOk result (λ answer. IsHonest archive.old → (h : History) → Holds archive.old h → KeepsFrom archive.old reader.old → IsChangedAnswer (applied h) question answer.spots.items answer.more) }
-    ensures below { OnOk result (IsHonest archive.old → (h : History) → Holds archive.old h → question.to < settled h) }
-    ensures above { IsHonest archive.old → (h : History) → Holds archive.old h → (mark : ℕ) → result ≡ Err (AskError.AboveWatermark mark) → (mark ≡ settled h) × (settled h ≤ question.to) }
-    ensures holds { (h : History) → Holds archive.old h → Holds archive.new h }
-    ensures reads { IsHonest archive.old → (h : History) → Holds archive.old h → KeepsFrom archive.old reader.old → KeepsFrom archive.new reader.new }
+    ensures answered { IfOk result (λ answer. IsHonest archive.old → (h : History) → RepresentsIfHonest archive.old h → KeepsFrom archive.old reader.old → IsChangedAnswer (applied h) question answer.spots.items answer.more) }
+    ensures below { OnOk result (IsHonest archive.old → (h : History) → RepresentsIfHonest archive.old h → question.to < settled h) }
+    ensures above { IsHonest archive.old → (h : History) → RepresentsIfHonest archive.old h → (mark : ℕ) → result ≡ Err (AskError.AboveWatermark mark) → (mark ≡ settled h) × (settled h ≤ question.to) }
+    ensures holds { (h : History) → RepresentsIfHonest archive.old h → RepresentsIfHonest archive.new h }
+    ensures reads { IsHonest archive.old → (h : History) → RepresentsIfHonest archive.old h → KeepsFrom archive.old reader.old → KeepsFrom archive.new reader.new }
     ensures honest { IsHonest archive.old ↔ IsHonest archive.new }
     ensures settings { settings_of archive.new ≡ settings_of archive.old }
 {

@@ -3,7 +3,7 @@
 ghost use Rattle.std.specs.Prelude.{◌≡◌, ◌↔◌, ◌<◌, ◌≤◌, ℕ, IfOk, OnOk, Err};
 ghost use Rattle.route_meaning.specs.Changed.{IsChangedAnswer};
 ghost use Rattle.route_meaning.specs.History.{History, applied, settled};
-ghost use Rattle.disk_archive.specs.Archives.{Holds, IsHonest, settings_of};
+ghost use Rattle.disk_archive.specs.Archives.{RepresentsIfHonest, IsHonest, settings_of};
 ghost use Rattle.disk_archive.specs.Reading.{ReadsFrom};
 
 use disk_archive::{Archive, AskError};
@@ -17,11 +17,11 @@ pub(crate) fn walk<E: EraseDisk + Drop, O: OnceDisk + Drop>(
     reader: &mut ShelfReader<O>,
     question: ChangedQuestion,
 ) -> Result<ChangedAnswer, AskError>
-    ensures answered { IfOk result (λ answer. IsHonest archive.old → (h : History) → Holds archive.old h → ReadsFrom archive.old reader.old → IsChangedAnswer (applied h) question answer.spots.items answer.more) }
-    ensures below { OnOk result (IsHonest archive.old → (h : History) → Holds archive.old h → question.to < settled h) }
-    ensures above { IsHonest archive.old → (h : History) → Holds archive.old h → (mark : ℕ) → result ≡ Err (AskError.AboveWatermark mark) → (mark ≡ settled h) × (settled h ≤ question.to) }
-    ensures holds { (h : History) → Holds archive.old h → Holds archive.new h }
-    ensures reads { IsHonest archive.old → (h : History) → Holds archive.old h → ReadsFrom archive.old reader.old → ReadsFrom archive.new reader.new }
+    ensures answered { IfOk result (λ answer. IsHonest archive.old → (h : History) → RepresentsIfHonest archive.old h → ReadsFrom archive.old reader.old → IsChangedAnswer (applied h) question answer.spots.items answer.more) }
+    ensures below { OnOk result (IsHonest archive.old → (h : History) → RepresentsIfHonest archive.old h → question.to < settled h) }
+    ensures above { IsHonest archive.old → (h : History) → RepresentsIfHonest archive.old h → (mark : ℕ) → result ≡ Err (AskError.AboveWatermark mark) → (mark ≡ settled h) × (settled h ≤ question.to) }
+    ensures holds { (h : History) → RepresentsIfHonest archive.old h → RepresentsIfHonest archive.new h }
+    ensures reads { IsHonest archive.old → (h : History) → RepresentsIfHonest archive.old h → ReadsFrom archive.old reader.old → ReadsFrom archive.new reader.new }
     ensures honest { IsHonest archive.old ↔ IsHonest archive.new }
     ensures settings { settings_of archive.new ≡ settings_of archive.old }
 {

@@ -5,7 +5,7 @@ use Rattle.page_journal.specs.Layout.{Image}
 use Rattle.page_journal.specs.Recovers.{laid}
 use Rattle.page_tx.specs.inner.Laid.{length_laid}
 use Rattle.intake.specs.declared.ring.Ring.{Ring}
-use Rattle.intake.specs.Ring.{page_at, wrapped, size_of, StandsIn}
+use Rattle.intake.specs.Ring.{page_at, wrapped, size_of, HasOctets}
 use Rattle.intake.specs.inner.Drafts.{Fills, KeepsUsed}
 use Rattle.intake.proofs.Wrapping.{wrapped_is, wrapped_low}
 use Rattle.intake.proofs.Images.{laid_push}
@@ -43,5 +43,5 @@ keeps_more ring at octets k n items new page shown start inside at_is room few n
       | inr ne ↦ get_or-set_other (laid items shown) n m page [] (λ e. ne (sym e)) ∙ kept j below
     ])
 
-pub keeps_stands : (ring : Ring) (old new : List (List ℕ)) (stood : List ℕ) → length stood ≡ ring.used → KeepsUsed ring old new → StandsIn old ring stood → StandsIn new ring stood
+pub keeps_stands : (ring : Ring) (old new : List (List ℕ)) (stood : List ℕ) → length stood ≡ ring.used → KeepsUsed ring old new → HasOctets old ring stood → HasOctets new ring stood
 keeps_stands ring old new stood used kept stand k lt = ap (λ (page : List ℕ). get_or page (wrapped (size_of ring) (ring.first + k) % 16384) 0) (kept k (omega (arith, lt, used))) ∙ stand k lt

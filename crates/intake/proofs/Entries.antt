@@ -8,7 +8,7 @@ use Rattle.std.specs.List.{flat_map, AllByRecursion, slice_get}
 use Rattle.std.specs.Int.{w32, to_be_bytes, from_be_bytes}
 use Rattle.route_model.specs.Admission.{Admitted, IsAdmission, EncodesAdmission, admission_octets}
 use Rattle.intake.specs.declared.ring.Ring.{Ring}
-use Rattle.intake.specs.Ring.{sized, entry, octets_for, wrapped, size_of, ring_octet, Holds}
+use Rattle.intake.specs.Ring.{sized, entry, octets_for, wrapped, size_of, ring_octet, RingRepresents}
 use Rattle.intake.proofs.Wrapping.{reads_later}
 
 pub length-sized : (octets : List ℕ) → length (sized octets) ≡ 4 + length octets
@@ -65,8 +65,8 @@ valid_more xs i x lt e valid all = subst (AllByRecursion IsAdmission) (sym (more
 
 -- ---- the first entry is passed
 
-pub holds_later : (pages : List (List ℕ)) (ring : Ring) (a : Admitted) (rest : List Admitted) → ring.first < size_of ring → ring.used ≤ size_of ring → Holds pages ring (a ∷ rest)
-    → Holds pages (record ring { first = wrapped (size_of ring) (ring.first + length (entry a)); used = ring.used - length (entry a) }) rest
+pub holds_later : (pages : List (List ℕ)) (ring : Ring) (a : Admitted) (rest : List Admitted) → ring.first < size_of ring → ring.used ≤ size_of ring → RingRepresents pages ring (a ∷ rest)
+    → RingRepresents pages (record ring { first = wrapped (size_of ring) (ring.first + length (entry a)); used = ring.used - length (entry a) }) rest
 holds_later pages ring a rest start few h =
     let size = h.size in
     let both = length-append (entry a) (flat_map entry rest) in
@@ -88,11 +88,11 @@ pub record First (ring : Ring) (waits : List Admitted) : Type 0 where
   pub fits : 4 + length (admission_octets a) ≤ ring.used
   pub valid : IsAdmission a
 
-pub first_there : (pages : List (List ℕ)) (ring : Ring) (waits : List Admitted) → 0 < ring.used → Holds pages ring waits → First ring waits
+pub first_there : (pages : List (List ℕ)) (ring : Ring) (waits : List Admitted) → 0 < ring.used → RingRepresents pages ring waits → First ring waits
 first_there pages ring [] some h = let s = h.size in absurd (omega arith)
 first_there pages ring (a ∷ rest) some h = record { a = a; rest = rest; is = refl; fits = front_used a rest ring.used h.size; valid = h.valid.0 }
 
-pub none_there : (pages : List (List ℕ)) (ring : Ring) (waits : List Admitted) → ring.used ≡ 0 → Holds pages ring waits → None ≡ slice_get waits 0
+pub none_there : (pages : List (List ℕ)) (ring : Ring) (waits : List Admitted) → ring.used ≡ 0 → RingRepresents pages ring waits → None ≡ slice_get waits 0
 none_there pages ring [] none h = refl
 none_there pages ring (a ∷ rest) none h = let u = front_used a rest ring.used h.size in absurd (omega arith)
 

@@ -9,7 +9,7 @@ use Rattle.page_journal.specs.Recovers.{laid}
 use Rattle.page_tx.specs.inner.Laid.{length_laid}
 use Rattle.page_tx.proofs.api.Laid.{shown_image}
 use Rattle.intake.specs.declared.ring.Ring.{Ring}
-use Rattle.intake.specs.Ring.{page_at, wrapped, size_of, StandsIn}
+use Rattle.intake.specs.Ring.{page_at, wrapped, size_of, HasOctets}
 use Rattle.intake.specs.inner.Drafts.{image_of, AreFrom, Covers, Writes}
 use Rattle.intake.proofs.Wrapping.{wrapped_is, wrapped_low}
 use Rattle.intake.proofs.Pieces.{overlaid, with_piece, piece_written}
@@ -88,7 +88,7 @@ piece_put ring begun k at len octets old new start lt from there at_is k_is few 
           ∙ (laid_set old k image.0 (overlaid o piece image.1) image.1 pages distinct is
           ∙ (ap (λ m. set shown m (overlaid o piece image.1)) number ∙ ap (λ (l : List ℕ). set shown (ring.low + p) (overlaid o piece l)) (sym page))) in
           let next : 16384 * p + o ≡ wrapped (size_of ring) (ring.first + length stood) = (let s : 16384 * p + o ≡ at = omega arith in s ∙ (at_is ∙ ap (λ m. wrapped (size_of ring) (ring.first + m)) (sym used))) in
-          subst (λ l. StandsIn l ring (stood ++ piece)) (sym after)
+          subst (λ l. HasOctets l ring (stood ++ piece)) (sym after)
           (piece_written shown ring.low ring.count ring.first p o stood piece (omega (arith, long)) start below (ap length page ∙ whole image is) (omega arith) next (omega arith) stand),
     )
 
@@ -96,4 +96,4 @@ piece_put ring begun k at len octets old new start lt from there at_is k_is few 
 pub writes_more : (ring : Ring) (used : ℕ) (octets more : List ℕ) (a b c : List Image) → used ≡ ring.used + length octets → Writes ring octets a b → Writes (record ring { used = used }) more b c → Writes ring (octets ++ more) a c
 writes_more ring used octets more a b c is one two pages stood inside stood_is stand =
     let l = length-append stood octets in
-    subst (λ l. StandsIn (laid c pages) ring l) (append_assoc stood octets more) (two pages (stood ++ octets) inside (omega arith) (one pages stood inside stood_is stand))
+    subst (λ l. HasOctets (laid c pages) ring l) (append_assoc stood octets more) (two pages (stood ++ octets) inside (omega arith) (one pages stood inside stood_is stand))

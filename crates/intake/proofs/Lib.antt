@@ -9,5 +9,5 @@ pub mod Untouched
 pub mod Spanning
 pub mod Unique
 pub mod Reporting
-pub mod Standing
+pub mod Representing
 pub mod api

@@ -5,8 +5,8 @@ use Rattle.std.proofs.lemmas.Grind.{flat_map-append}
 use Rattle.std.proofs.lemmas.List.{append-nil}
 use Rattle.route_model.specs.Admission.{Admitted, IsAdmission}
 use Rattle.intake.specs.declared.ring.Ring.{Ring}
-use Rattle.intake.specs.Ring.{entry, octets_for, wrapped, size_of, ring_octet, Reads, StandsIn, Holds}
-use Rattle.intake.specs.Standing.{page_of, StandsFirst, BreaksOn}
+use Rattle.intake.specs.Ring.{entry, octets_for, wrapped, size_of, ring_octet, Reads, HasOctets, RingRepresents}
+use Rattle.intake.specs.Outlines.{page_of, IsFirst, BreaksOn}
 use Rattle.intake.proofs.Entries.{valid_both}
 use Rattle.intake.proofs.Wrapping.{wrapped_is, wrapped_twice, reads_both, reads_later}
 
@@ -15,7 +15,7 @@ pub record Passed (pages : List (List ℕ)) (ring rest : Ring) (count : ℕ) : T
   pub before : List Admitted
   pub counted : count ≡ length before
   pub valid : AllByRecursion IsAdmission before
-  pub octets : StandsIn pages ring (flat_map entry before)
+  pub octets : HasOctets pages ring (flat_map entry before)
   pub inside : octets_for before ≤ ring.used
   pub low : rest.low ≡ ring.low
   pub size : rest.count ≡ ring.count
@@ -44,7 +44,7 @@ octets_and : (before : List Admitted) (a : Admitted) → octets_for (before ++ a
 octets_and before a = ap length (entries_and before a) ∙ length-append (flat_map entry before) (entry a)
 
 -- the first of the others is passed too
-pub passed_more : (pages : List (List ℕ)) (ring rest : Ring) (count : ℕ) (a : Admitted) → ring.first < size_of ring → ring.used ≤ size_of ring → Passed pages ring rest count → StandsFirst pages rest a
+pub passed_more : (pages : List (List ℕ)) (ring rest : Ring) (count : ℕ) (a : Admitted) → ring.first < size_of ring → ring.used ≤ size_of ring → Passed pages ring rest count → IsFirst pages rest a
     → Passed pages ring (record rest { first = wrapped (size_of rest) (rest.first + length (entry a)); used = rest.used - length (entry a) }) (count + 1)
 passed_more pages ring rest count a start few p one =
     let inside = p.inside in
@@ -60,7 +60,7 @@ passed_more pages ring rest count a start few p one =
       before = p.before ++ a ∷ [];
       counted = omega (arith, length-append p.before (a ∷ []));
       valid = valid_both p.before (a ∷ []) p.valid (one.valid, tt);
-      octets = subst (StandsIn pages ring) (sym (entries_and p.before a)) (reads_both (ring_octet pages ring.low) (size_of ring) ring.first (flat_map entry p.before) (entry a) start (omega arith) p.octets next);
+      octets = subst (HasOctets pages ring) (sym (entries_and p.before a)) (reads_both (ring_octet pages ring.low) (size_of ring) ring.first (flat_map entry p.before) (entry a) start (omega arith) p.octets next);
       inside = omega arith;
       low = p.low;
       size = p.size;
@@ -69,7 +69,7 @@ passed_more pages ring rest count a start few p one =
     }
 
 -- all are passed
-pub passed_all : (pages : List (List ℕ)) (ring rest : Ring) (count : ℕ) → Passed pages ring rest count → rest.used ≡ 0 → (waits : List Admitted) × Holds pages ring waits × (count ≡ length waits)
+pub passed_all : (pages : List (List ℕ)) (ring rest : Ring) (count : ℕ) → Passed pages ring rest count → rest.used ≡ 0 → (waits : List Admitted) × RingRepresents pages ring waits × (count ≡ length waits)
 passed_all pages ring rest count p none =
     let inside = p.inside in
     let used = p.used in
@@ -77,7 +77,7 @@ passed_all pages ring rest count p none =
 
 -- no further one stands first, though octets are left
 pub passed_breaks : (pages : List (List ℕ)) (ring rest : Ring) (count page : ℕ) → ring.first < size_of ring → ring.used ≤ size_of ring → Passed pages ring rest count → 0 < rest.used
-    → ((a : Admitted) → StandsFirst pages rest a → ⊥) → page ≡ rest.low + rest.first / 16384 → BreaksOn pages ring page
+    → ((a : Admitted) → IsFirst pages rest a → ⊥) → page ≡ rest.low + rest.first / 16384 → BreaksOn pages ring page
 passed_breaks pages ring rest count page start few p some none at =
     let inside = p.inside in
     let used = p.used in
@@ -89,7 +89,7 @@ passed_breaks pages ring rest count page start few p some none at =
       inside = omega (arith, some);
       none = λ a valid fits stand.
           let both = octets_and p.before a in
-          let later = reads_later (ring_octet pages ring.low) (size_of ring) ring.first (flat_map entry p.before) (entry a) start (omega (arith, fits)) (subst (StandsIn pages ring) (entries_and p.before a) stand) in
+          let later = reads_later (ring_octet pages ring.low) (size_of ring) ring.first (flat_map entry p.before) (entry a) start (omega (arith, fits)) (subst (HasOctets pages ring) (entries_and p.before a) stand) in
           let here = subst (λ at. Reads (ring_octet pages ring.low) (size_of ring) at (entry a)) (sym p.first) later in
           let there = subst (λ n. Reads (ring_octet pages ring.low) n rest.first (entry a)) size here in
           none a (record { valid = valid; fits = omega (arith, fits); octets = subst (λ low. Reads (ring_octet pages low) (size_of rest) rest.first (entry a)) (sym p.low) there });

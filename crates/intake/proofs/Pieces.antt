@@ -3,7 +3,7 @@ use Rattle.std.proofs.Common.{◌≡◌, ◌⊎◌, ◌<◌, ◌≤◌, ℕ, ◌
 use Rattle.std.proofs.lemmas.Bool.{cases_eq}
 use Rattle.std.proofs.lemmas.List.{get_or_append_left, get_or-append_right, get_or-take, get_or-drop, length-take, length-drop, ext_get_or}
 use Rattle.intake.specs.declared.ring.Ring.{Ring}
-use Rattle.intake.specs.Ring.{page_at, wrapped, Reads, ring_octet, IsRing, StandsIn, size_of}
+use Rattle.intake.specs.Ring.{page_at, wrapped, Reads, ring_octet, IsRing, HasOctets, size_of}
 use Rattle.intake.proofs.Wrapping.{reads_more, wrapped_low, inside}
 
 -- octets laid over those of a page from a place on
@@ -78,7 +78,7 @@ piece_written pages low count first p o octets piece inside start in_ring len en
 -- ---- a piece that is read
 
 pub piece_read : (homes : ℕ) (shown : List (List ℕ)) (ring : Ring) (stood page : List ℕ) (at from n : ℕ) → IsRing homes ring → at ≡ wrapped (size_of ring) (ring.first + from) → at % 16384 + n ≤ 16384 → from + n ≤ ring.used
-    → page ≡ page_at shown (ring.low + at / 16384) → length page ≡ 16384 → length stood ≡ ring.used → StandsIn shown ring stood → take n (drop (at % 16384) page) ≡ take n (drop from stood)
+    → page ≡ page_at shown (ring.low + at / 16384) → length page ≡ 16384 → length stood ≡ ring.used → HasOctets shown ring stood → take n (drop (at % 16384) page) ≡ take n (drop from stood)
 piece_read homes shown ring stood page at from n r at_is ends inside_ page_is size used stand =
     let o = at % 16384 in
     let full = r.used in

@@ -9,10 +9,10 @@ use Rattle.std.proofs.lemmas.Grind.{flat_map-append}
 use Rattle.std.proofs.lemmas.Nat.{from_be_bytes-to_be_bytes_4, from_be_bytes-to_be_bytes_8}
 use Rattle.route_model.specs.Admission.{Admitted, IsAdmission, admission_octets, counted, sized as row_octets, peer_rows, route_rows, change_octets}
 use Rattle.intake.specs.declared.ring.Ring.{Ring}
-use Rattle.intake.specs.Ring.{sized, entry, time_of, Holds, StandsIn}
-use Rattle.intake.specs.Standing.{Outline, outlined, time_in, IsOutline, ReportsTimes, BreaksAt}
+use Rattle.intake.specs.Ring.{sized, entry, time_of, RingRepresents, HasOctets}
+use Rattle.intake.specs.Outlines.{Outline, outlined, time_in, IsOutline, ReportsTimes, BreaksAt}
 use Rattle.intake.proofs.Entries.{length-sized, take_front, drop_front}
-use Rattle.intake.proofs.Standing.{stands_front, front_stood}
+use Rattle.intake.proofs.Representing.{stands_front, front_stood}
 
 -- ---- an entry's octets
 
@@ -42,7 +42,7 @@ all_pushed (p ∷ os) o all one = (all.0, all_pushed os o all.1 one)
 abbrev Agree : List ℕ → List ℕ → Type 0
 Agree xs ys = (k : ℕ) → k < length xs → k < length ys → get_or xs k 0 ≡ get_or ys k 0
 
-stands_agree : (pages : List (List ℕ)) (ring : Ring) (xs ys : List ℕ) → StandsIn pages ring xs → StandsIn pages ring ys → Agree xs ys
+stands_agree : (pages : List (List ℕ)) (ring : Ring) (xs ys : List ℕ) → HasOctets pages ring xs → HasOctets pages ring ys → Agree xs ys
 stands_agree pages ring xs ys a b k lt lt' = sym (a k lt) ∙ b k lt'
 
 agree_as : (a b c d : List ℕ) → a ≡ c → b ≡ d → Agree a b → Agree c d
@@ -100,7 +100,7 @@ pub reports_none : (pages : List (List ℕ)) (ring : Ring) → ReportsTimes page
 reports_none pages ring = record { entries = []; valid = tt; reported = refl; place = refl; octets = λ k lt. absurd (omega arith) }
 
 -- the entry at the place is gone through
-pub reports_more : (pages : List (List ℕ)) (ring : Ring) (at len time : ℕ) (times stood front : List ℕ) → length stood ≡ ring.used → StandsIn pages ring stood → front ≡ take 12 (drop at stood)
+pub reports_more : (pages : List (List ℕ)) (ring : Ring) (at len time : ℕ) (times stood front : List ℕ) → length stood ≡ ring.used → HasOctets pages ring stood → front ≡ take 12 (drop at stood)
     → take 4 front ≡ to_be_bytes w32 len → drop 4 front ≡ to_be_bytes w64 time → time < 2 ^ 32 → 8 ≤ len → len ≤ 131072 → at + 4 + len ≤ ring.used
     → ReportsTimes pages ring at times → ReportsTimes pages ring (at + 4 + len) (times ++ time ∷ [])
 reports_more pages ring at len time times stood front used stand is size reported low long small fits t =
@@ -130,7 +130,7 @@ reports_more pages ring at len time times stood front used stand is size reporte
       valid = all_pushed t.entries o t.valid (record { time = low; small = omega arith });
       reported = ap (λ l. l ++ time ∷ []) t.reported ∙ sym (map-append time_in t.entries (o ∷ []));
       place = omega arith;
-      octets = subst (StandsIn pages ring) all (stands_front pages ring stood (at + (4 + len)) stand);
+      octets = subst (HasOctets pages ring) all (stands_front pages ring stood (at + (4 + len)) stand);
     }
 
 -- what stands at the place where an entry follows
@@ -162,7 +162,7 @@ twelve o rest =
     ap (λ l. l ++ rest) (outlined_is o ∙ sym (append_assoc size time o.more)) ∙ append_assoc (size ++ time) o.more rest in
     ap (take 12) all ∙ (take_front 12 (size ++ time) (o.more ++ rest) refl ∙ ap (λ n. to_be_bytes w32 n ++ time) (length_body o))
 
-pub follows : (pages : List (List ℕ)) (ring : Ring) (at next time : ℕ) (times stood : List ℕ) → length stood ≡ ring.used → StandsIn pages ring stood → next ≤ ring.used
+pub follows : (pages : List (List ℕ)) (ring : Ring) (at next time : ℕ) (times stood : List ℕ) → length stood ≡ ring.used → HasOctets pages ring stood → next ≤ ring.used
     → ReportsTimes pages ring at times → ReportsTimes pages ring next (times ++ time ∷ []) → Follows ring at stood
 follows pages ring at next time times stood used stand le t u = go b.0 b.1
   where
@@ -275,8 +275,8 @@ breaks_none pages ring at times b u = elim (cases_lt (length times) (length b.ti
           valid = all_pushed os o b.before.valid (next_of os o rest (subst (AllByRecursion IsOutline) e u.valid));
           reported = ap (λ l. l ++ o.time ∷ []) b.before.reported ∙ sym (map-append time_in os (o ∷ []));
           place = refl;
-          octets = subst (StandsIn pages ring) (take_front (length (flat_map outlined (os ++ o ∷ []))) (flat_map outlined (os ++ o ∷ [])) (flat_map outlined rest) refl)
-              (stands_front pages ring (flat_map outlined (os ++ o ∷ []) ++ flat_map outlined rest) (length (flat_map outlined (os ++ o ∷ []))) (subst (StandsIn pages ring) all u.octets));
+          octets = subst (HasOctets pages ring) (take_front (length (flat_map outlined (os ++ o ∷ []))) (flat_map outlined (os ++ o ∷ [])) (flat_map outlined rest) refl)
+              (stands_front pages ring (flat_map outlined (os ++ o ∷ []) ++ flat_map outlined rest) (length (flat_map outlined (os ++ o ∷ []))) (subst (HasOctets pages ring) all u.octets));
         })
 
 -- ---- the times of a list that is held
@@ -311,11 +311,11 @@ all_outlined (a ∷ rest) all =
     let l = length_body (outline_of a) in
     (record { time = all.0.time; small = omega arith }, all_outlined rest all.1)
 
-pub holds_reports : (pages : List (List ℕ)) (ring : Ring) (waits : List Admitted) → Holds pages ring waits → ReportsTimes pages ring ring.used (map time_of waits)
+pub holds_reports : (pages : List (List ℕ)) (ring : Ring) (waits : List Admitted) → RingRepresents pages ring waits → ReportsTimes pages ring ring.used (map time_of waits)
 holds_reports pages ring waits h = record {
   entries = map outline_of waits;
   valid = all_outlined waits h.valid;
   reported = times_outlined waits;
   place = sym (ap length (entries_outlined waits)) ∙ h.size;
-  octets = subst (StandsIn pages ring) (entries_outlined waits) h.octets;
+  octets = subst (HasOctets pages ring) (entries_outlined waits) h.octets;
 }

@@ -6,7 +6,7 @@ use Rattle.page_journal.specs.Bookkeeping.{is_among, without}
 use Rattle.page_journal.specs.Recovers.{AreDistinct, IsListed}
 use Rattle.page_tx.specs.Images.{joined}
 use Rattle.intake.specs.declared.ring.Ring.{Ring}
-use Rattle.intake.specs.Ring.{wrapped, size_of, HoldsAfter, ListsAfter}
+use Rattle.intake.specs.Ring.{wrapped, size_of, HasPlaceAfter, ListsAfter}
 use Rattle.intake.specs.inner.Drafts.{numbers_from, image_of, Covers}
 use Rattle.intake.proofs.Wrapping.{wrapped_is, wrapped_low}
 use Rattle.intake.proofs.Images.{image_number}
@@ -47,10 +47,10 @@ same_page count used first at i k at_is k_is few start room room' =
 
 pub holds_there : (ring : Ring) (at octets pages n : ℕ) → ring.first < size_of ring → ring.used + octets ≤ size_of ring → at ≡ wrapped (size_of ring) (ring.first + ring.used)
     → n ≡ min pages ring.count → (0 < octets → 16384 * pages < 16384 + (at % 16384 + octets)) → (octets ≡ 0 → pages ≡ 0) → Covers ring (at / 16384) n octets
-    → (m : ℕ) → IsListed m (numbers_from ring.low ring.count (at / 16384) n) ↔ HoldsAfter ring octets m
+    → (m : ℕ) → IsListed m (numbers_from ring.low ring.count (at / 16384) n) ↔ HasPlaceAfter ring octets m
 holds_there ring at octets pages n start room at_is n_is least none covers m = (there, back)
   where
-    there : IsListed m (numbers_from ring.low ring.count (at / 16384) n) → HoldsAfter ring octets m
+    there : IsListed m (numbers_from ring.low ring.count (at / 16384) n) → HasPlaceAfter ring octets m
     there l =
         let s = from_number ring.low ring.count (at / 16384) n m l in
         let lt = s.1 in
@@ -59,7 +59,7 @@ holds_there ring at octets pages n start room at_is n_is least none covers m = (
         let k = 16384 * s.0 - at % 16384 in
         (k, omega arith, s.2 ∙ ap (λ (x : ℕ). ring.low + x) (same_page ring.count ring.used ring.first at s.0 k at_is refl (omega arith) start (omega arith) (omega arith)))
 
-    back : HoldsAfter ring octets m → IsListed m (numbers_from ring.low ring.count (at / 16384) n)
+    back : HasPlaceAfter ring octets m → IsListed m (numbers_from ring.low ring.count (at / 16384) n)
     back h =
         let place = wrapped (size_of ring) (ring.first + (ring.used + h.0)) in
         let lt = h.1 in
@@ -166,11 +166,11 @@ pub distinct_joined : (held ns : List ℕ) → AreDistinct held → AreDistinct 
 distinct_joined held ns a b = distinct_both held (without held ns) a (distinct_without held ns b) (λ n l. apart_without n held ns l)
 
 -- the pages that are listed once images of those that hold the octets are laid
-pub lists_after : (ring : Ring) (octets all : ℕ) (held was now ns : List ℕ) → held ≡ was → now ≡ joined held ns → octets ≡ all → ((n : ℕ) → IsListed n ns ↔ HoldsAfter ring octets n) → ListsAfter ring all was now
+pub lists_after : (ring : Ring) (octets all : ℕ) (held was now ns : List ℕ) → held ≡ was → now ≡ joined held ns → octets ≡ all → ((n : ℕ) → IsListed n ns ↔ HasPlaceAfter ring octets n) → ListsAfter ring all was now
 lists_after ring octets all held was now ns same is counted are = λ n. (there n, back n)
   where
-    there : (n : ℕ) → IsListed n now → IsListed n was ⊎ HoldsAfter ring all n
-    there n l = elim ((listed_joined n held ns).0 (subst (IsListed n) is l)) [ inl a ↦ inl (subst (IsListed n) same a) | inr b ↦ inr (subst (λ (o : ℕ). HoldsAfter ring o n) counted ((are n).0 b)) ]
+    there : (n : ℕ) → IsListed n now → IsListed n was ⊎ HasPlaceAfter ring all n
+    there n l = elim ((listed_joined n held ns).0 (subst (IsListed n) is l)) [ inl a ↦ inl (subst (IsListed n) same a) | inr b ↦ inr (subst (λ (o : ℕ). HasPlaceAfter ring o n) counted ((are n).0 b)) ]
 
-    back : (n : ℕ) → IsListed n was ⊎ HoldsAfter ring all n → IsListed n now
-    back n l = subst (IsListed n) (sym is) ((listed_joined n held ns).1 (elim l [ inl a ↦ inl (subst (IsListed n) (sym same) a) | inr b ↦ inr ((are n).1 (subst (λ (o : ℕ). HoldsAfter ring o n) (sym counted) b)) ]))
+    back : (n : ℕ) → IsListed n was ⊎ HasPlaceAfter ring all n → IsListed n now
+    back n l = subst (IsListed n) (sym is) ((listed_joined n held ns).1 (elim l [ inl a ↦ inl (subst (IsListed n) (sym same) a) | inr b ↦ inr ((are n).1 (subst (λ (o : ℕ). HasPlaceAfter ring o n) (sym counted) b)) ]))

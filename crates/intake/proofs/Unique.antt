@@ -6,7 +6,7 @@ use Rattle.std.proofs.lemmas.List.Sums.{sum_by-cons}
 use Rattle.std.specs.List.{flat_map, sum_by, AllByRecursion}
 use Rattle.route_model.specs.Admission.{Admitted, IsAdmission, EncodesAdmission, admission_octets}
 use Rattle.intake.specs.declared.ring.Ring.{Ring}
-use Rattle.intake.specs.Ring.{entry, entry_octets, octets_for, Holds}
+use Rattle.intake.specs.Ring.{entry, entry_octets, octets_for, RingRepresents}
 use Rattle.intake.proofs.Entries.{front_len, front_octets, length-sized}
 
 -- equal encodings are of one admission
@@ -31,7 +31,7 @@ entries_one one (x ∷ xs) (y ∷ ys) v w e =
     ∙ (ap (drop (length (entry x))) e ∙ (ap (λ (a : Admitted). drop (length (entry a)) (flat_map entry (y ∷ ys))) same ∙ drop-append_seam (entry y) (flat_map entry ys))) in
     ap (λ (a : Admitted). a ∷ xs) same ∙ ap (λ (l : List Admitted). y ∷ l) (entries_one one xs ys v.1 w.1 rest)
 
-pub holds_one : OneEncoded → (ring : Ring) (pages : List (List ℕ)) (xs ys : List Admitted) → Holds pages ring xs → Holds pages ring ys → xs ≡ ys
+pub holds_one : OneEncoded → (ring : Ring) (pages : List (List ℕ)) (xs ys : List Admitted) → RingRepresents pages ring xs → RingRepresents pages ring ys → xs ≡ ys
 holds_one one ring pages xs ys h k =
     let len : length (flat_map entry xs) ≡ length (flat_map entry ys) = h.size ∙ sym k.size in
     entries_one one xs ys h.valid k.valid (same_number_lists (flat_map entry xs) (flat_map entry ys) len (λ i lt. sym (h.octets i lt) ∙ k.octets i (omega (arith, lt, len))))

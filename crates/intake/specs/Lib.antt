@@ -1,4 +1,4 @@
 pub mod Ring
-pub mod Standing
+pub mod Outlines
 pub mod Calls
 pub mod inner

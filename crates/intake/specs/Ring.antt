@@ -42,13 +42,13 @@ wrapped size at = cond (nat_lt at size) at (at - size)
 abbrev pub ring_octet : List (List ℕ) → ℕ → ℕ → ℕ
 ring_octet pages low at = slice_index (page_at pages (low + at / 16384)) (at % 16384)
 
--- octets stand from a place of a ring on, which has this octet at each of its places
+-- a ring, which has this octet at each of its places, has octets from a place on
 abbrev pub Reads : (ℕ → ℕ) → ℕ → ℕ → List ℕ → Type 0
 Reads octet size first octets = (k : ℕ) → k < length octets → octet (wrapped size (first + k)) ≡ slice_index octets k
 
--- octets stand in the ring from the first one on that is used
-abbrev pub StandsIn : List (List ℕ) → Ring → List ℕ → Type 0
-StandsIn pages ring octets = Reads (ring_octet pages ring.low) (size_of ring) ring.first octets
+-- the ring has octets from the first one on that is used
+abbrev pub HasOctets : List (List ℕ) → Ring → List ℕ → Type 0
+HasOctets pages ring octets = Reads (ring_octet pages ring.low) (size_of ring) ring.first octets
 
 -- the ring lies among `homes` home pages, has at most 65,535 of them, and uses no more octets than it has
 pub record IsRing (homes : ℕ) (ring : Ring) : Type 0 where
@@ -58,19 +58,19 @@ pub record IsRing (homes : ℕ) (ring : Ring) : Type 0 where
   pub start : ring.first < size_of ring
   pub used : ring.used ≤ size_of ring
 
--- The ring holds these admissions: its used octets are their entries, in their order.
-pub record Holds (pages : List (List ℕ)) (ring : Ring) (admissions : List Admitted) : Type 0 where
+-- The ring represents these admissions: its used octets are their entries, in their order.
+pub record RingRepresents (pages : List (List ℕ)) (ring : Ring) (admissions : List Admitted) : Type 0 where
   pub valid : AllByRecursion IsAdmission admissions
   pub size : octets_for admissions ≡ ring.used
-  pub octets : StandsIn pages ring (flat_map entry admissions)
+  pub octets : HasOctets pages ring (flat_map entry admissions)
 
 -- The page holds one of the first `octets` octets after the used ones.
-abbrev pub HoldsAfter : Ring → ℕ → ℕ → Type 0
-HoldsAfter ring octets n = (k : ℕ) × (k < octets) × (n ≡ ring.low + wrapped (size_of ring) (ring.first + (ring.used + k)) / 16384)
+abbrev pub HasPlaceAfter : Ring → ℕ → ℕ → Type 0
+HasPlaceAfter ring octets n = (k : ℕ) × (k < octets) × (n ≡ ring.low + wrapped (size_of ring) (ring.first + (ring.used + k)) / 16384)
 
 -- a page is listed where it was, or holds such an octet, and no other page is
 abbrev pub ListsAfter : Ring → ℕ → List ℕ → List ℕ → Type 0
-ListsAfter ring octets old new = (n : ℕ) → IsListed n new ↔ (IsListed n old ⊎ HoldsAfter ring octets n)
+ListsAfter ring octets old new = (n : ℕ) → IsListed n new ↔ (IsListed n old ⊎ HasPlaceAfter ring octets n)
 
 -- The listed pages, with those that hold one of the first `octets` octets after the used ones, are more than 31.
 pub record Crowds (ring : Ring) (octets : ℕ) (listed : List ℕ) : Type 0 where
@@ -79,11 +79,11 @@ pub record Crowds (ring : Ring) (octets : ℕ) (listed : List ℕ) : Type 0 wher
   pub lists : ListsAfter ring octets listed all
   pub many : 31 < length all
 
--- The ring stands on these pages: it is a ring of theirs, and of all lists of admissions it holds this one alone.
-pub record Stands (pages : List (List ℕ)) (ring : Ring) (admissions : List Admitted) : Type 0 where
+-- The ring is one of these pages, and of all lists of admissions it represents this one alone.
+pub record RepresentsAlone (pages : List (List ℕ)) (ring : Ring) (admissions : List Admitted) : Type 0 where
   pub place : IsRing (length pages) ring
-  pub holds : Holds pages ring admissions
-  pub only : (others : List Admitted) → Holds pages ring others → others ≡ admissions
+  pub holds : RingRepresents pages ring admissions
+  pub only : (others : List Admitted) → RingRepresents pages ring others → others ≡ admissions
 
 -- only pages of the ring are changed
 pub record ChangesOnly (ring : Ring) (old new : List (List ℕ)) : Type 0 where
@@ -91,12 +91,12 @@ pub record ChangesOnly (ring : Ring) (old new : List (List ℕ)) : Type 0 where
   pub below : (n : ℕ) → n < ring.low → page_at new n ≡ page_at old n
   pub above : (n : ℕ) → ring.low + ring.count ≤ n → page_at new n ≡ page_at old n
 
--- Pages are shown on which the ring stands with these admissions, and outside of it they are as they were.
+-- Pages are shown on which the ring represents these admissions alone, and outside of it they are as they were.
 pub record Gains (shows : List (List ℕ) → Type 0) (old : List (List ℕ)) (ring : Ring) (admissions : List Admitted) : Type 0 where
   pub pages : List (List ℕ)
   pub shown : shows pages
   pub changes : ChangesOnly ring old pages
-  pub stands : Stands pages ring admissions
+  pub represents_all : RepresentsAlone pages ring admissions
 
 -- Pages are shown that hold these octets after the used ones, whatever those are, and outside of the ring they are as they
 -- were.
@@ -104,4 +104,4 @@ pub record Adds (shows : List (List ℕ) → Type 0) (old : List (List ℕ)) (ri
   pub pages : List (List ℕ)
   pub shown : shows pages
   pub outside : ChangesOnly ring old pages
-  pub beyond : (used : List ℕ) → length used ≡ ring.used → StandsIn old ring used → StandsIn pages ring (used ++ octets)
+  pub beyond : (used : List ℕ) → length used ≡ ring.used → HasOctets old ring used → HasOctets pages ring (used ++ octets)

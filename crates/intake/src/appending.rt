@@ -32,7 +32,7 @@ impl Ring {
     ghost use Rattle.page_tx.specs.Device.{KeepsDevice};
     ghost use Rattle.page_tx.specs.Start.{Start};
     ghost use Rattle.route_model.specs.Admission.{Admitted};
-    ghost use Rattle.intake.specs.Ring.{entry, entry_octets, octets_for, size_of, IsRing, Holds, Adds, Gains, ListsAfter, Crowds};
+    ghost use Rattle.intake.specs.Ring.{entry, entry_octets, octets_for, size_of, IsRing, RingRepresents, Adds, Gains, ListsAfter, Crowds};
     ghost use Rattle.intake.specs.Calls.{OnlyReads, AppendRefusal, most_pages};
     ghost use Rattle.page_tx.specs.declared.error.PageError.TheVariants as pages_refusals;
 
@@ -46,7 +46,7 @@ impl Ring {
         batch: &[Admission],
     ) -> Result<(), IntakeError>
         requires ring { IsRing (P.homes pages.old) self.old }
-        ensures appended { OnOk result ((start : Start) (shown : List (List ℕ)) (waits : List Admitted) → P.shows pages.old start shown → Holds shown self.old waits → Gains (P.shows pages.new start) shown self.new (waits ++ batch.now)) }
+        ensures appended { OnOk result ((start : Start) (shown : List (List ℕ)) (waits : List Admitted) → P.shows pages.old start shown → RingRepresents shown self.old waits → Gains (P.shows pages.new start) shown self.new (waits ++ batch.now)) }
         ensures added { OnOk result ((start : Start) (shown : List (List ℕ)) → P.shows pages.old start shown → Adds (P.shows pages.new start) shown self.old (flat_map entry batch.now)) }
         ensures place { OnOk result (self.new ≡ record self.old { used = self.old.used + octets_for batch.now }) }
         ensures full { (result ≡ Err IntakeError.IntakeFull) ↔ (size_of self.old < self.old.used + octets_for batch.now) }

@@ -11,17 +11,17 @@ impl Ring {
     ghost use Rattle.page_tx.specs.Start.{Start};
     ghost use Rattle.page_tx.specs.declared.error.PageError.TheVariants as pages_refusals;
     ghost use Rattle.route_model.specs.Admission.{Admitted};
-    ghost use Rattle.intake.specs.Ring.{IsRing, Holds};
-    ghost use Rattle.intake.specs.Standing.{BreaksOn};
+    ghost use Rattle.intake.specs.Ring.{IsRing, RingRepresents};
+    ghost use Rattle.intake.specs.Outlines.{BreaksOn};
     ghost use Rattle.intake.specs.Calls.{OnlyReads, ReadRefusal};
 
     /// How many admissions wait. Each is read and decoded, and none is kept. If the octets that are used aren't those of admissions,
     /// the error has the page on which the first that is none would begin. A failed read and running out of memory may come first.
     pub fn count<P: Pages>(&self, alloc: Global, pages: &mut P) -> Result<u64, ReadError>
         requires ring { IsRing (P.homes pages.old) self.now }
-        ensures waits { IfOk result (λ n. (start : Start) (shown : List (List ℕ)) → P.shows pages.old start shown → (waits : List Admitted) × Holds shown self.now waits × (n ≡ length waits)) }
+        ensures waits { IfOk result (λ n. (start : Start) (shown : List (List ℕ)) → P.shows pages.old start shown → (waits : List Admitted) × RingRepresents shown self.now waits × (n ≡ length waits)) }
         ensures breaks { (page : ℕ) → result ≡ Err (ReadError.BadNode page) → (start : Start) (shown : List (List ℕ)) → P.shows pages.old start shown → BreaksOn shown self.now page }
-        ensures sound { (page : ℕ) → result ≡ Err (ReadError.BadNode page) → (start : Start) (shown : List (List ℕ)) (waits : List Admitted) → P.shows pages.old start shown → Holds shown self.now waits → ⊥ }
+        ensures sound { (page : ℕ) → result ≡ Err (ReadError.BadNode page) → (start : Start) (shown : List (List ℕ)) (waits : List Admitted) → P.shows pages.old start shown → RingRepresents shown self.now waits → ⊥ }
         ensures refused { IfErr result (ReadRefusal (P.down pages.old)) }
         ensures same { OnlyReads P.Pages pages.old pages.new (result ≡ Err (ReadError.Pages pages_refusals.Fault)) }
     {

@@ -5,7 +5,7 @@ ghost use Rattle.route_model.specs.Admission.{IsAdmission};
 ghost use Rattle.page_journal.specs.Layout.{Image, pages_of};
 ghost use Rattle.page_journal.specs.Recovers.{laid, IsListed};
 ghost use Rattle.page_tx.specs.Start.{Start};
-ghost use Rattle.intake.specs.Ring.{page_at, wrapped, entry, octets_for, size_of, IsRing, StandsIn, HoldsAfter};
+ghost use Rattle.intake.specs.Ring.{page_at, wrapped, entry, octets_for, size_of, IsRing, HasOctets, HasPlaceAfter};
 ghost use Rattle.intake.specs.Calls.{OnlyReads, PageRefusal, most_pages};
 ghost use Rattle.intake.specs.inner.Drafts.{numbers_from, image_of, AreFrom, Covers, Fills, Writes};
 
@@ -80,7 +80,7 @@ fn images_from<P: Pages>(
     requires room { ring.used + octets ≤ size_of ring }
     requires few { count ≤ ring.count }
     ensures numbers { IfOk result (λ images. pages_of images.items ≡ numbers_from ring.low ring.count (at / 16384) count) }
-    ensures stood { IfOk result (λ images. (start : Start) (shown : List (List ℕ)) (stood : List ℕ) → P.shows pages.old start shown → length stood ≡ ring.used → StandsIn shown ring stood → StandsIn (laid images.items shown) ring stood) }
+    ensures stood { IfOk result (λ images. (start : Start) (shown : List (List ℕ)) (stood : List ℕ) → P.shows pages.old start shown → length stood ≡ ring.used → HasOctets shown ring stood → HasOctets (laid images.items shown) ring stood) }
     ensures refused { IfErr result (PageRefusal (P.down pages.old)) }
     ensures same { OnlyReads P.Pages pages.old pages.new (IsErrOf result PageError.Fault) }
 {
@@ -246,9 +246,9 @@ pub fn draft<P: Pages>(
     requires octets { octets ≡ octets_for batch.now }
     requires room { ring.used + octets ≤ size_of ring }
     ensures numbers { IfOk result (λ images. (begun : ℕ) × (begun < ring.count) × AreFrom ring.low ring.count begun (pages_of images.items)) }
-    ensures beyond { IfOk result (λ images. (n : ℕ) → IsListed n (pages_of images.items) ↔ HoldsAfter ring octets n) }
+    ensures beyond { IfOk result (λ images. (n : ℕ) → IsListed n (pages_of images.items) ↔ HasPlaceAfter ring octets n) }
     ensures few { IfOk result (λ images. length images.items ≤ most_pages octets) }
-    ensures stands { IfOk result (λ images. (start : Start) (shown : List (List ℕ)) (stood : List ℕ) → P.shows pages.old start shown → length stood ≡ ring.used → StandsIn shown ring stood → StandsIn (laid images.items shown) ring (stood ++ flat_map entry batch.now)) }
+    ensures represents_all { IfOk result (λ images. (start : Start) (shown : List (List ℕ)) (stood : List ℕ) → P.shows pages.old start shown → length stood ≡ ring.used → HasOctets shown ring stood → HasOctets (laid images.items shown) ring (stood ++ flat_map entry batch.now)) }
     ensures valid { OnOk result (AllByRecursion IsAdmission batch.now) }
     ensures refused { IfErr result (PageRefusal (P.down pages.old)) }
     ensures same { OnlyReads P.Pages pages.old pages.new (IsErrOf result PageError.Fault) }

@@ -2,7 +2,7 @@
 ghost use Rattle.std.specs.Prelude.{◌≡◌, ◌<◌, ◌≤◌, ◌+◌, ◌++◌, ℕ, List, length, take, drop, OnOk, IfOk, IfErr, IsErrOf};
 ghost use Rattle.std.specs.Int.{w32, from_be_bytes, to_be_bytes};
 ghost use Rattle.page_tx.specs.Start.{Start};
-ghost use Rattle.intake.specs.Ring.{IsRing, StandsIn};
+ghost use Rattle.intake.specs.Ring.{IsRing, HasOctets};
 ghost use Rattle.intake.specs.Calls.{OnlyReads, PageRefusal};
 
 use crate::encoded::Encoded;
@@ -23,7 +23,7 @@ fn read_piece<P: Pages>(
     requires ring { IsRing (P.homes pages.old) ring }
     requires some { 0 < most }
     requires inside { from + most ≤ ring.used }
-    ensures read { OnOk result ((n : ℕ) × (0 < n) × (n ≤ most) × (length out.new.items ≡ length out.old.items + n) × ((start : Start) (shown : List (List ℕ)) (stood : List ℕ) → P.shows pages.old start shown → length stood ≡ ring.used → StandsIn shown ring stood → out.new.items ≡ out.old.items ++ take n (drop from stood))) }
+    ensures read { OnOk result ((n : ℕ) × (0 < n) × (n ≤ most) × (length out.new.items ≡ length out.old.items + n) × ((start : Start) (shown : List (List ℕ)) (stood : List ℕ) → P.shows pages.old start shown → length stood ≡ ring.used → HasOctets shown ring stood → out.new.items ≡ out.old.items ++ take n (drop from stood))) }
     ensures refused { IfErr result (PageRefusal (P.down pages.old)) }
     ensures same { OnlyReads P.Pages pages.old pages.new (IsErrOf result PageError.Fault) }
 {
@@ -51,7 +51,7 @@ pub fn read<P: Pages>(
     requires ring { IsRing (P.homes pages.old) ring }
     requires inside { from + len ≤ ring.used }
     ensures len { IfOk result (λ octets. length octets.items ≡ len) }
-    ensures read { IfOk result (λ octets. (start : Start) (shown : List (List ℕ)) (stood : List ℕ) → P.shows pages.old start shown → length stood ≡ ring.used → StandsIn shown ring stood → octets.items ≡ take len (drop from stood)) }
+    ensures read { IfOk result (λ octets. (start : Start) (shown : List (List ℕ)) (stood : List ℕ) → P.shows pages.old start shown → length stood ≡ ring.used → HasOctets shown ring stood → octets.items ≡ take len (drop from stood)) }
     ensures refused { IfErr result (PageRefusal (P.down pages.old)) }
     ensures same { OnlyReads P.Pages pages.old pages.new (IsErrOf result PageError.Fault) }
 {
@@ -77,8 +77,8 @@ impl Ring {
     ghost use Rattle.std.specs.Prelude.{◌≡◌, ◌<◌, ◌≤◌, ◌+◌, ◌/◌, ℕ, List, length, slice_get, IfOk, IfErr, IfSome, IfNone, Ok, Err, None};
     ghost use Rattle.page_tx.specs.Start.{Start};
     ghost use Rattle.route_model.specs.Admission.{Admitted};
-    ghost use Rattle.intake.specs.Ring.{entry, IsRing, Holds};
-    ghost use Rattle.intake.specs.Standing.{StandsFirst};
+    ghost use Rattle.intake.specs.Ring.{entry, IsRing, RingRepresents};
+    ghost use Rattle.intake.specs.Outlines.{IsFirst};
     ghost use Rattle.intake.specs.Calls.{OnlyReads, ReadRefusal};
     ghost use Rattle.page_tx.specs.declared.error.PageError.TheVariants as pages_refusals;
 
@@ -93,14 +93,14 @@ impl Ring {
         kept: Option<Encoded>,
     ) -> Result<Option<Encoded>, ReadError>
         requires ring { IsRing (P.homes pages.old) self.now }
-        ensures front { IfOk result (λ front. (start : Start) (shown : List (List ℕ)) (waits : List Admitted) → P.shows pages.old start shown → Holds shown self.now waits → front ≡ slice_get waits 0) }
+        ensures front { IfOk result (λ front. (start : Start) (shown : List (List ℕ)) (waits : List Admitted) → P.shows pages.old start shown → RingRepresents shown self.now waits → front ≡ slice_get waits 0) }
         ensures none { IfOk result (λ front. IfNone front (self.now.used ≡ 0)) }
         ensures empty { self.now.used ≡ 0 → (result ≡ Ok None) × (pages.new ≡ pages.old) }
         ensures short { 0 < self.now.used → self.now.used < 4 → (result ≡ Err (ReadError.BadNode (self.now.low + self.now.first / 16384))) × (pages.new ≡ pages.old) }
-        ensures first { IfOk result (λ front. IfSome front (λ a. (start : Start) (shown : List (List ℕ)) → P.shows pages.old start shown → StandsFirst shown self.now a)) }
-        ensures no_first { (page : ℕ) → result ≡ Err (ReadError.BadNode page) → (start : Start) (shown : List (List ℕ)) (a : Admitted) → P.shows pages.old start shown → StandsFirst shown self.now a → ⊥ }
+        ensures first { IfOk result (λ front. IfSome front (λ a. (start : Start) (shown : List (List ℕ)) → P.shows pages.old start shown → IsFirst shown self.now a)) }
+        ensures no_first { (page : ℕ) → result ≡ Err (ReadError.BadNode page) → (start : Start) (shown : List (List ℕ)) (a : Admitted) → P.shows pages.old start shown → IsFirst shown self.now a → ⊥ }
         ensures some { (page : ℕ) → result ≡ Err (ReadError.BadNode page) → 0 < self.now.used }
-        ensures damaged { (page : ℕ) → result ≡ Err (ReadError.BadNode page) → (start : Start) (shown : List (List ℕ)) (waits : List Admitted) → P.shows pages.old start shown → Holds shown self.now waits → ⊥ }
+        ensures damaged { (page : ℕ) → result ≡ Err (ReadError.BadNode page) → (start : Start) (shown : List (List ℕ)) (waits : List Admitted) → P.shows pages.old start shown → RingRepresents shown self.now waits → ⊥ }
         ensures begins { (page : ℕ) → result ≡ Err (ReadError.BadNode page) → page ≡ self.now.low + self.now.first / 16384 }
         ensures fits { IfOk result (λ front. IfSome front (λ a. length (entry a) ≤ self.now.used)) }
         ensures refused { IfErr result (ReadRefusal (P.down pages.old)) }

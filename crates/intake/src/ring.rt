@@ -32,12 +32,12 @@ pub struct Ring {
 impl Ring {
     ghost use Rattle.std.specs.Prelude.{◌≡◌, ◌<◌, ◌≤◌, ◌+◌, ◌-◌, ◌*◌, ◌^◌, ◌↔◌, ℕ, List, [], ◌∷◌, length, IsTrue};
     ghost use Rattle.route_model.specs.Admission.{Admitted};
-    ghost use Rattle.intake.specs.Ring.{wrapped, entry, size_of, IsRing, Holds};
+    ghost use Rattle.intake.specs.Ring.{wrapped, entry, size_of, IsRing, RingRepresents};
 
     /// A ring of `count` pages from `low` on, in which nothing waits.
     pub fn empty(low: u64, count: u64) -> Ring
         ensures place { result ≡ record { low = low; count = count; first = 0; used = 0 } }
-        ensures holds { (pages : List (List ℕ)) → Holds pages result [] }
+        ensures holds { (pages : List (List ℕ)) → RingRepresents pages result [] }
     {
         Ring {
             low,
@@ -80,7 +80,7 @@ impl Ring {
         requires start { self.old.first < size_of self.old }
         requires used { self.old.used ≤ size_of self.old }
         requires fits { length (entry admission.now) ≤ self.old.used }
-        ensures popped { (pages : List (List ℕ)) (rest : List Admitted) → Holds pages self.old (admission.now ∷ rest) → Holds pages self.new rest }
+        ensures popped { (pages : List (List ℕ)) (rest : List Admitted) → RingRepresents pages self.old (admission.now ∷ rest) → RingRepresents pages self.new rest }
         ensures place { self.new ≡ record self.old { first = wrapped (size_of self.old) (self.old.first + length (entry admission.now)); used = self.old.used - length (entry admission.now) } }
         ensures ring { (homes : ℕ) → IsRing homes self.old → IsRing homes self.new }
     {

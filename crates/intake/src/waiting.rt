@@ -4,7 +4,7 @@ ghost use Rattle.std.specs.Int.{w32, w64, from_be_bytes, to_be_bytes};
 ghost use Rattle.page_tx.specs.Start.{Start};
 ghost use Rattle.page_tx.specs.declared.error.PageError.TheVariants as pages_refusals;
 ghost use Rattle.intake.specs.Ring.{size_of, IsRing};
-ghost use Rattle.intake.specs.Standing.{page_of, ReportsTimes, BreaksAt};
+ghost use Rattle.intake.specs.Outlines.{page_of, ReportsTimes, BreaksAt};
 ghost use Rattle.intake.specs.Calls.{OnlyReads, ReadRefusal};
 
 use crate::error::ReadError;
@@ -101,8 +101,8 @@ impl Ring {
     ghost use Rattle.page_tx.specs.Start.{Start};
     ghost use Rattle.page_tx.specs.declared.error.PageError.TheVariants as pages_refusals;
     ghost use Rattle.route_model.specs.Admission.{Admitted};
-    ghost use Rattle.intake.specs.Ring.{time_of, IsRing, Holds};
-    ghost use Rattle.intake.specs.Standing.{page_of, ReportsTimes, BreaksAt};
+    ghost use Rattle.intake.specs.Ring.{time_of, IsRing, RingRepresents};
+    ghost use Rattle.intake.specs.Outlines.{page_of, ReportsTimes, BreaksAt};
     ghost use Rattle.intake.specs.Calls.{OnlyReads, ReadRefusal};
 
     /// The times of all that waits, in its order. Of each admission only its length and its time are read. If there is no
@@ -118,8 +118,8 @@ impl Ring {
         ensures reported { IfOk result (λ times. (start : Start) (shown : List (List ℕ)) → P.shows pages.old start shown → ReportsTimes shown self.now self.now.used times.items) }
         ensures breaks { (page : ℕ) → result ≡ Err (ReadError.BadNode page) → (start : Start) (shown : List (List ℕ)) → P.shows pages.old start shown → (at : ℕ) × BreaksAt shown self.now at × (page ≡ page_of self.now at) }
         ensures none { (page : ℕ) → result ≡ Err (ReadError.BadNode page) → (start : Start) (shown : List (List ℕ)) (times : List ℕ) → P.shows pages.old start shown → ReportsTimes shown self.now self.now.used times → ⊥ }
-        ensures times { IfOk result (λ times. (start : Start) (shown : List (List ℕ)) (waits : List Admitted) → P.shows pages.old start shown → Holds shown self.now waits → times.items ≡ map time_of waits) }
-        ensures damaged { (page : ℕ) → result ≡ Err (ReadError.BadNode page) → (start : Start) (shown : List (List ℕ)) (waits : List Admitted) → P.shows pages.old start shown → Holds shown self.now waits → ⊥ }
+        ensures times { IfOk result (λ times. (start : Start) (shown : List (List ℕ)) (waits : List Admitted) → P.shows pages.old start shown → RingRepresents shown self.now waits → times.items ≡ map time_of waits) }
+        ensures damaged { (page : ℕ) → result ≡ Err (ReadError.BadNode page) → (start : Start) (shown : List (List ℕ)) (waits : List Admitted) → P.shows pages.old start shown → RingRepresents shown self.now waits → ⊥ }
         ensures page { (page : ℕ) → result ≡ Err (ReadError.BadNode page) → (self.now.low ≤ page) × (page < self.now.low + self.now.count) }
         ensures empty { self.now.used ≡ 0 → IsOkAnd result (λ times. times.items ≡ []) × (pages.new ≡ pages.old) }
         ensures short { 0 < self.now.used → self.now.used < 12 → (result ≡ Err (ReadError.BadNode (page_of self.now 0))) × (pages.new ≡ pages.old) }

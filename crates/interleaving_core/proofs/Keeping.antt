@@ -18,7 +18,7 @@ use Rattle.interleaving_core.specs.declared.step.Step.TheVariants.{Admit, Mark, 
 use Rattle.interleaving_core.specs.Steps.{changed, with_batch, with_mark, given, marked, IsMarkAbove, Applies, AppliesMore}
 use Rattle.interleaving_core.specs.World.{World, created}
 use Rattle.interleaving_core.specs.Does.{WhenUp, Admits, DoesAdmit, Does, Runs, IsStep}
-use Rattle.interleaving_core.specs.Headline.{reported_by, reported_of, taken_by, taken_of, offered_by, offered_of, Stands, IsKept, IsGiven}
+use Rattle.interleaving_core.specs.Headline.{reported_by, reported_of, taken_by, taken_of, offered_by, offered_of, IsRecorded, IsKept, IsGiven}
 use Rattle.interleaving_core.proofs.Sound.{not_back, step_fine, run_fine, created_sound}
 use Rattle.interleaving_core.proofs.Places.{split}
 use Rattle.interleaving_core.proofs.Lateness.{greatest-append, timely_reported, lates_reported}
@@ -219,14 +219,14 @@ all_given n v steps replies c j valid run last =
 -- ---- receipts
 
 admit_kept : (w m : World) (h : History) (c : ℕ) (batch : List Admitted) (reported : BatchReply) (earlier : List ℕ) (before : List Admitted) (count : ℕ)
-    → ((i : Intake) → slice_get w.history.intakes c ≡ Some i → (i.mark ≡ greatest 0 earlier) × (i.admitted ≡ before) × (i.offered ≡ count)) → Admits w c batch reported m → Begins m.history h → Stands h earlier before count c batch reported
+    → ((i : Intake) → slice_get w.history.intakes c ≡ Some i → (i.mark ≡ greatest 0 earlier) × (i.admitted ≡ before) × (i.offered ≡ count)) → Admits w c batch reported m → Begins m.history h → IsRecorded h earlier before count c batch reported
 admit_kept w m h c batch reported earlier before count is a b =
     let b' : Begins (given w.history c batch) h = subst (λ (x : World). Begins x.history h) a.after b in
     let l = later (changed c (with_batch batch) w.history.intakes) h.intakes c (with_batch batch a.intake) b'.each (changed_here c (with_batch batch) w.history.intakes a.intake a.here) in
     let e = is a.intake a.here in
     let sieved : timely admitted_time a.intake.mark [] batch ≡ timely admitted_time 0 earlier batch = ap (λ (n : ℕ). timely admitted_time n [] batch) e.0 ∙ timely_reported admitted_time earlier batch in
     let late : lates admitted_time a.intake.mark [] 0 batch ≡ lates admitted_time 0 earlier 0 batch = ap (λ (n : ℕ). lates admitted_time n [] 0 batch) e.0 ∙ lates_reported admitted_time earlier batch in
-    let now : Stands h earlier a.intake.admitted a.intake.offered c batch reported = record {
+    let now : IsRecorded h earlier a.intake.admitted a.intake.offered c batch reported = record {
       intake = l.intake;
       here = l.here;
       collector = a.reply.collector;
@@ -237,11 +237,11 @@ admit_kept w m h c batch reported earlier before count is a b =
       offered = a.reply.offered;
       late = a.reply.late ∙ late;
     } in
-    subst (λ (l' : List Admitted). Stands h earlier l' count c batch reported) e.1 (subst (λ (n : ℕ). Stands h earlier a.intake.admitted n c batch reported) e.2 now)
+    subst (λ (l' : List Admitted). IsRecorded h earlier l' count c batch reported) e.1 (subst (λ (n : ℕ). IsRecorded h earlier a.intake.admitted n c batch reported) e.2 now)
 
 taken_kept : (w m : World) (h : History) (c : ℕ) (batch : List Admitted) (reported : BatchReply) (earlier : List ℕ) (before : List Admitted) (count : ℕ)
     → ((i : Intake) → slice_get w.history.intakes c ≡ Some i → (i.mark ≡ greatest 0 earlier) × (i.admitted ≡ before) × (i.offered ≡ count)) → WhenUp w (Taken reported) m (DoesAdmit w c batch (Taken reported) m) → Begins m.history h
-    → Stands h earlier before count c batch reported
+    → IsRecorded h earlier before count c batch reported
 taken_kept w m h c batch reported earlier before count is (inl up) b = admit_kept w m h c batch reported earlier before count is up.1 b
 taken_kept w m h c batch reported earlier before count is (inr down) b = absurd (let e : Taken reported ≡ NeedsRecovery = down.1 in cc)
 

@@ -64,7 +64,7 @@ offered_of c (step ∷ steps) (reply ∷ replies) = offered_by c step reply ++ o
 
 -- The receipt names the collector. At the receipt's numbers the list of the collector has exactly the records of the batch that weren't late after these
 -- earlier times and marks, and before them these others. The reply reports the late ones, and how many were offered in all, `count` of them before.
-pub record Stands (h : History) (earlier : List ℕ) (before : List Admitted) (count : ℕ) (c : ℕ) (batch : List Admitted) (reported : BatchReply) : Type 0 where
+pub record IsRecorded (h : History) (earlier : List ℕ) (before : List Admitted) (count : ℕ) (c : ℕ) (batch : List Admitted) (reported : BatchReply) : Type 0 where
   pub intake : Intake
   pub here : slice_get h.intakes c ≡ Some intake
   pub collector : reported.receipt.collector ≡ c
@@ -75,9 +75,9 @@ pub record Stands (h : History) (earlier : List ℕ) (before : List Admitted) (c
   pub offered : reported.offered ≡ count + length batch
   pub late : reported.late.items ≡ lates admitted_time 0 earlier 0 batch
 
--- where the step gave a batch that was taken, it stands: after what these earlier steps gave for the collector, times and marks included
+-- where the step gave a batch that was taken, it is recorded: after what these earlier steps gave for the collector, times and marks included
 abbrev pub IsKept : History → List Step → List Reply → Step → Reply → Type 0
-IsKept h steps replies (Admit c batch) (Taken reported) = Stands h (reported_of c steps replies) (taken_of c [] steps replies) (length (offered_of c steps replies)) c batch.items reported
+IsKept h steps replies (Admit c batch) (Taken reported) = IsRecorded h (reported_of c steps replies) (taken_of c [] steps replies) (length (offered_of c steps replies)) c batch.items reported
 IsKept h steps replies step reply = Unit {0}
 
 -- What the collector c has is what the steps gave: its list is all that they offered for it that wasn't late, in the order of offering; its mark is the
@@ -108,7 +108,7 @@ pub record WasDone (steps : List Step) (replies : List Reply) (query : Query) (a
 
 -- What is true at the end of every run from a created world: the history at the end is right, and each earlier one begins it; each
 -- question that is done was begun; it has the answer of the history at the end, below whose settled watermark its last moment is; each
--- batch that was taken stands at the numbers of its receipt; and no collector has anything but what was offered for it and wasn't late,
+-- batch that was taken is recorded at the numbers of its receipt; and no collector has anything but what was offered for it and wasn't late,
 -- in the order of offering.
 pub record Headline (collectors : ℕ) (steps : List Step) (replies : List Reply) (last : World) : Type 0 where
   pub right : IsHistory last.history

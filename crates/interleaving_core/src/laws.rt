@@ -10,7 +10,7 @@ ghost use Rattle.interleaving_core.specs.Does.{Does, Runs, IsStep};
 ghost use Rattle.interleaving_core.specs.Headline.{Headline};
 
 /// Whatever steps, made of values, are made from a created world, in any order, with crashes anywhere between them: at the end each question that was
-/// done has the answer of the history at the end, each earlier history begins it, each receipt's batch stands in it, and nothing is in
+/// done has the answer of the history at the end, each earlier history begins it, each receipt's batch is recorded in it, and nothing is in
 /// it but what was offered and wasn't late, in the order of offering.
 pub fn headline_of_runs()
     ensures headline { (collectors : ℕ) (steps : List Step) (replies : List Reply) (last : World) → AllByRecursion IsStep steps → Runs (created collectors) steps replies last → Headline collectors steps replies last }

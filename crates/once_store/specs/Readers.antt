@@ -25,9 +25,9 @@ abbrev pub kept_count : {O Pen Seen : Type 0} {device : Ghosts O Pen Seen} → S
 kept_count reader = length reader.kept.entries
 
 -- it caches this block under this number
-abbrev pub IsKept : {O Pen Seen : Type 0} {device : Ghosts O Pen Seen} → ShelfReader O Pen Seen device → ℕ → List ℕ → Type 0
-IsKept reader n block = Contains reader.kept.entries (n, block)
+abbrev pub IsCached : {O Pen Seen : Type 0} {device : Ghosts O Pen Seen} → ShelfReader O Pen Seen device → ℕ → List ℕ → Type 0
+IsCached reader n block = Contains reader.kept.entries (n, block)
 
 -- each block that it caches is the one that is known to be settled under its number
-abbrev pub KnowsKept : {O Pen Seen : Type 0} (device : Ghosts O Pen Seen) → ShelfReader O Pen Seen device → Seen → Type 0
-KnowsKept device reader seen = (n : ℕ) (block : List ℕ) → IsKept reader n block → device.known seen n ≡ Some block
+abbrev pub KnowsCached : {O Pen Seen : Type 0} (device : Ghosts O Pen Seen) → ShelfReader O Pen Seen device → Seen → Type 0
+KnowsCached device reader seen = (n : ℕ) (block : List ℕ) → IsCached reader n block → device.known seen n ≡ Some block

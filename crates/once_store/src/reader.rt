@@ -37,7 +37,7 @@ pub struct ShelfReader<O: OnceDisk + Drop> {
 }
 
 impl<O: OnceDisk + Drop> ShelfReader<O> {
-    ghost use Rattle.once_store.specs.Readers.{IsKept, KnowsKept, capacity_of, kept_blocks, kept_count, reader_disk, without};
+    ghost use Rattle.once_store.specs.Readers.{IsCached, KnowsCached, capacity_of, kept_blocks, kept_count, reader_disk, without};
 
     /// A reader of a disk that caches at most `capacity` blocks. It has read none.
     pub(crate) fn new(
@@ -47,7 +47,7 @@ impl<O: OnceDisk + Drop> ShelfReader<O> {
     ) -> Result<Self, AllocError>
         ensures disk { IfOk result (λ reader. reader_disk reader ≡ disk.value) }
         ensures capacity { IfOk result (λ reader. capacity_of reader ≡ non_zero_usize_get capacity) }
-        ensures none { IfOk result (λ reader. (n : ℕ) (block : List ℕ) → IsKept reader n block → ⊥) }
+        ensures none { IfOk result (λ reader. (n : ℕ) (block : List ℕ) → IsCached reader n block → ⊥) }
     {
         let kept = LruCache::new(alloc, capacity)?;
         Ok(ShelfReader { disk, kept, alloc })
@@ -58,27 +58,27 @@ impl<O: OnceDisk + Drop> ShelfReader<O> {
     /// It takes no lock. If the cache is full, the least recently used block makes room. A block
     /// that is refused isn't cached.
     pub fn fetch(&mut self, seen: &mut O::Seen, n: u64) -> Result<(), BlockError>
-        ensures kept { OnOk result ((block : List ℕ) × IsKept self.new n block × IsWhole block) }
-        ensures octets { O.honest_seen (reader_disk self.old) seen.old → KnowsKept O.OnceDisk self.old seen.old → (block : List ℕ) → O.known seen.old n ≡ Some block → OnOk result (IsKept self.new n block × IsWhole block) }
+        ensures kept { OnOk result ((block : List ℕ) × IsCached self.new n block × IsWhole block) }
+        ensures octets { O.honest_seen (reader_disk self.old) seen.old → KnowsCached O.OnceDisk self.old seen.old → (block : List ℕ) → O.known seen.old n ≡ Some block → OnOk result (IsCached self.new n block × IsWhole block) }
 
         // A cached block stays, isn't read again, and none makes room for it.
-        ensures hit { (block : List ℕ) → IsKept self.old n block → IsOk result }
-        ensures unread { (block : List ℕ) → IsKept self.old n block → seen.new ≡ seen.old }
-        ensures all { (block : List ℕ) → IsKept self.old n block → (m : ℕ) (other : List ℕ) → IsKept self.old m other → IsKept self.new m other }
+        ensures hit { (block : List ℕ) → IsCached self.old n block → IsOk result }
+        ensures unread { (block : List ℕ) → IsCached self.old n block → seen.new ≡ seen.old }
+        ensures all { (block : List ℕ) → IsCached self.old n block → (m : ℕ) (other : List ℕ) → IsCached self.old m other → IsCached self.new m other }
 
         // The order of use: the block comes first, and the least recently used one makes room, one at most.
-        ensures first { (other : List ℕ) → IsKept self.old n other → (block : List ℕ) × (kept_blocks self.new ≡ (n, block) ∷ without n (kept_blocks self.old)) }
-        ensures added { ((block : List ℕ) → IsKept self.old n block → ⊥) → OnOk result ((block : List ℕ) × (kept_blocks self.new ≡ (n, block) ∷ take (capacity_of self.old - 1) (kept_blocks self.old))) }
+        ensures first { (other : List ℕ) → IsCached self.old n other → (block : List ℕ) × (kept_blocks self.new ≡ (n, block) ∷ without n (kept_blocks self.old)) }
+        ensures added { ((block : List ℕ) → IsCached self.old n block → ⊥) → OnOk result ((block : List ℕ) × (kept_blocks self.new ≡ (n, block) ∷ take (capacity_of self.old - 1) (kept_blocks self.old))) }
         ensures left { OnErr result ((kept_blocks self.new ≡ kept_blocks self.old) ⊎ (kept_blocks self.new ≡ take (capacity_of self.old - 1) (kept_blocks self.old))) }
         ensures one { kept_count self.old ≤ kept_count self.new + 1 }
 
         // None makes room before the cache is full, and a refusal adds none.
-        ensures stays { kept_count self.old < capacity_of self.old → (m : ℕ) (other : List ℕ) → IsKept self.old m other → IsKept self.new m other }
-        ensures refused { OnErr result ((m : ℕ) (other : List ℕ) → IsKept self.new m other → IsKept self.old m other) }
+        ensures stays { kept_count self.old < capacity_of self.old → (m : ℕ) (other : List ℕ) → IsCached self.old m other → IsCached self.new m other }
+        ensures refused { OnErr result ((m : ℕ) (other : List ℕ) → IsCached self.new m other → IsCached self.old m other) }
 
-        ensures knows { O.honest_seen (reader_disk self.old) seen.old → KnowsKept O.OnceDisk self.old seen.old → IsSome (O.known seen.old n) → KnowsKept O.OnceDisk self.new seen.new }
+        ensures knows { O.honest_seen (reader_disk self.old) seen.old → KnowsCached O.OnceDisk self.old seen.old → IsSome (O.known seen.old n) → KnowsCached O.OnceDisk self.new seen.new }
         ensures damaged { O.honest_seen (reader_disk self.old) seen.old → (block : List ℕ) → n < O.block_count (reader_disk self.old) → O.known seen.old n ≡ Some block → (m : ℕ) → result ≡ Err (BlockError.Damaged m) → (m ≡ n) × (IsWhole block → ⊥) }
-        ensures beyond { O.block_count (reader_disk self.old) ≤ n → ((block : List ℕ) → IsKept self.old n block → ⊥) → result ≡ Err (BlockError.Damaged n) }
+        ensures beyond { O.block_count (reader_disk self.old) ≤ n → ((block : List ℕ) → IsCached self.old n block → ⊥) → result ≡ Err (BlockError.Damaged n) }
         ensures number { (m : ℕ) → result ≡ Err (BlockError.Damaged m) → m ≡ n }
         ensures same { O.honest_seen (reader_disk self.old) seen.old → O.known seen.new ≡ O.known seen.old }
         ensures disk { reader_disk self.new ≡ reader_disk self.old }
@@ -102,8 +102,8 @@ impl<O: OnceDisk + Drop> ShelfReader<O> {
 
     /// A cached block. Call [`ShelfReader::fetch`] before.
     pub fn block(&self, n: u64) -> Option<&Block>
-        ensures some { IfSome result (λ block. IsKept self.now n block.now) }
-        ensures none { IfNone result ((block : List ℕ) → IsKept self.now n block → ⊥) }
+        ensures some { IfSome result (λ block. IsCached self.now n block.now) }
+        ensures none { IfNone result ((block : List ℕ) → IsCached self.now n block → ⊥) }
     {
         self.kept.peek(&n)
     }
@@ -118,13 +118,13 @@ impl<O: OnceDisk + Drop> ShelfReader<O> {
 
     // Makes a block the most recently used one. Returns whether it is cached.
     fn touch(&mut self, n: u64) -> bool
-        ensures kept { IsTrue result → (block : List ℕ) × IsKept self.new n block × IsWhole block }
-        ensures found { (block : List ℕ) → IsKept self.old n block → result ≡ true }
+        ensures kept { IsTrue result → (block : List ℕ) × IsCached self.new n block × IsWhole block }
+        ensures found { (block : List ℕ) → IsCached self.old n block → result ≡ true }
         ensures missed { result ≡ false → self.new.kept ≡ self.old.kept }
         ensures first { IsTrue result → (block : List ℕ) × (kept_blocks self.new ≡ (n, block) ∷ without n (kept_blocks self.old)) }
         ensures count { kept_count self.new ≡ kept_count self.old }
-        ensures fewer { (m : ℕ) (block : List ℕ) → IsKept self.new m block → IsKept self.old m block }
-        ensures all { (m : ℕ) (block : List ℕ) → IsKept self.old m block → IsKept self.new m block }
+        ensures fewer { (m : ℕ) (block : List ℕ) → IsCached self.new m block → IsCached self.old m block }
+        ensures all { (m : ℕ) (block : List ℕ) → IsCached self.old m block → IsCached self.new m block }
         ensures disk { reader_disk self.new ≡ reader_disk self.old }
         ensures capacity { capacity_of self.new ≡ capacity_of self.old }
     {
@@ -133,7 +133,7 @@ impl<O: OnceDisk + Drop> ShelfReader<O> {
 
     // A block to read into: that of the entry that makes room, if the cache is full.
     fn room(&mut self) -> Result<Block, AllocError>
-        ensures fewer { (m : ℕ) (block : List ℕ) → IsKept self.new m block → IsKept self.old m block }
+        ensures fewer { (m : ℕ) (block : List ℕ) → IsCached self.new m block → IsCached self.old m block }
         ensures stays { kept_count self.old < capacity_of self.old → self.new.kept ≡ self.old.kept }
         ensures last { capacity_of self.old ≤ kept_count self.old → kept_blocks self.new ≡ take (capacity_of self.old - 1) (kept_blocks self.old) }
         ensures few { kept_count self.old ≤ capacity_of self.old }
@@ -152,11 +152,11 @@ impl<O: OnceDisk + Drop> ShelfReader<O> {
     // Caches a block.
     fn keep(&mut self, n: u64, block: Block) -> Result<(), AllocFailed<(u64, Block)>>
         requires { IsWhole block }
-        ensures kept { OnOk result (IsKept self.new n block) }
-        ensures added { ((other : List ℕ) → IsKept self.old n other → ⊥) → OnOk result (kept_blocks self.new ≡ (n, block) ∷ take (capacity_of self.old - 1) (kept_blocks self.old)) }
-        ensures stays { kept_count self.old < capacity_of self.old → ((other : List ℕ) → IsKept self.old n other → ⊥) → (m : ℕ) (other : List ℕ) → IsKept self.old m other → IsKept self.new m other }
+        ensures kept { OnOk result (IsCached self.new n block) }
+        ensures added { ((other : List ℕ) → IsCached self.old n other → ⊥) → OnOk result (kept_blocks self.new ≡ (n, block) ∷ take (capacity_of self.old - 1) (kept_blocks self.old)) }
+        ensures stays { kept_count self.old < capacity_of self.old → ((other : List ℕ) → IsCached self.old n other → ⊥) → (m : ℕ) (other : List ℕ) → IsCached self.old m other → IsCached self.new m other }
         ensures refused { OnErr result (self.new.kept ≡ self.old.kept) }
-        ensures only { (m : ℕ) (other : List ℕ) → IsKept self.new m other → IsKept self.old m other ⊎ ((m ≡ n) × (other ≡ block)) }
+        ensures only { (m : ℕ) (other : List ℕ) → IsCached self.new m other → IsCached self.old m other ⊎ ((m ≡ n) × (other ≡ block)) }
         ensures disk { reader_disk self.new ≡ reader_disk self.old }
         ensures capacity { capacity_of self.new ≡ capacity_of self.old }
     {

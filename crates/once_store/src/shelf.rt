@@ -42,7 +42,7 @@ fn skip_tried<O: OnceDisk>(disk: &O, pen: &mut O::Pen, next: &mut u64) -> Result
 
 impl<O: OnceDisk + Drop> Shelf<O> {
     ghost use Rattle.once_store.specs.Shelves.{HasPassed, IsAfterBlank, Spends, disk_after, disk_of, next_of, pen_after, pen_of};
-    ghost use Rattle.once_store.specs.Readers.{IsKept, capacity_of, reader_disk};
+    ghost use Rattle.once_store.specs.Readers.{IsCached, capacity_of, reader_disk};
 
     /// A shelf over a disk and its pen, which looks for the first blank block from `next` on.
     ///
@@ -134,7 +134,7 @@ impl<O: OnceDisk + Drop> Shelf<O> {
         requires few { capacity ≤ 1024 }
         ensures disk { IfOk result (λ reader. reader_disk reader ≡ disk_of self.now) }
         ensures capacity { IfOk result (λ reader. capacity_of reader ≡ capacity) }
-        ensures none { IfOk result (λ reader. (n : ℕ) (block : List ℕ) → IsKept reader n block → ⊥) }
+        ensures none { IfOk result (λ reader. (n : ℕ) (block : List ℕ) → IsCached reader n block → ⊥) }
     {
         let Some(capacity) = NonZeroUsize::new(capacity) else {
             return Err(AllocError);

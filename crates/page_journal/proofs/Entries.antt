@@ -6,7 +6,7 @@ use Rattle.std.proofs.lemmas.List.{append-nil, length-set, get_or-set_same, get_
 use Rattle.std.proofs.lemmas.Option.{slice_get-get_or}
 use Rattle.disk_models.specs.Octets.{octets}
 use Rattle.page_journal.specs.Layout.{Image, pages_of}
-use Rattle.page_journal.specs.inner.Writing.{ImagesStand}
+use Rattle.page_journal.specs.inner.Writing.{HasImages}
 use Rattle.page_journal.specs.inner.Entering.{unhomed_after, with_entry}
 use Rattle.page_journal.specs.Recovers.{laid, AreDistinct, IsListed}
 use Rattle.page_journal.specs.Bookkeeping.{IsImage, is_among, place_of, unhomed_numbers, without}
@@ -150,7 +150,7 @@ pub images_after : (slot : ℕ) (named : List Image) (old : List Unhomed) → le
 images_after slot named old few all = after_images slot 0 named old (omega (arith, few)) (images_more slot (slot + 1) old (omega arith) all)
 
 -- each page is shown at its place after a post: at the post's image, or where it stood
-pub posted_shown : (f : ℕ → ℕ) (slot : ℕ) (named : List Image) (j : ℕ) (old : List Unhomed) (pages : List (List ℕ)) (n : ℕ) → ImagesStand f slot j named → n < length pages
+pub posted_shown : (f : ℕ → ℕ) (slot : ℕ) (named : List Image) (j : ℕ) (old : List Unhomed) (pages : List (List ℕ)) (n : ℕ) → HasImages f slot j named → n < length pages
     → slice_get pages n ≡ Some (octets f (place_of old n) 16384)
     → slice_get (laid named pages) n ≡ Some (octets f (place_of (unhomed_after slot j named old) n) 16384)
 posted_shown f slot [] j old pages n stand lt base = base

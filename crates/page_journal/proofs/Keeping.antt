@@ -8,11 +8,11 @@ use Rattle.disk_models.specs.Erase.{DiskState, MayLeave, MayLeaveBut, Leaves, Wr
 use Rattle.disk_models.proofs.api.OctetLemmas.{octets_agree}
 use Rattle.disk_models.proofs.api.Moments.{leaves_then, leaves_weaker, may_leave_now, synced_leave}
 use Rattle.page_journal.specs.Layout.{Image, pages_of, gate_place, home_place, images, homes_from}
-use Rattle.page_journal.specs.inner.Writing.{ImagesStand}
+use Rattle.page_journal.specs.inner.Writing.{HasImages}
 use Rattle.page_journal.specs.Recovers.{laid, IsListed, RecoversBy, Recovers, RepresentsPages}
 use Rattle.page_journal.specs.Bookkeeping.{AreNumbered, IsImage, place_of, unhomed_numbers, open_slots}
 use Rattle.page_journal.specs.inner.Entering.{unhomed_after}
-use Rattle.page_journal.specs.inner.Laying.{StandsHome}
+use Rattle.page_journal.specs.inner.Laying.{HomesRepresent}
 use Rattle.page_journal.specs.declared.unhomed.Unhomed.{Unhomed}
 use Rattle.page_journal.proofs.Covering.{length-laid, length-homes_from, get_or-homes_from, are_homes, torn_home}
 use Rattle.page_journal.proofs.Placing.{others, place_cases, place_forgotten, place_kept, listed_before, none_unhomed, listed_left, listed_right}
@@ -70,7 +70,7 @@ module _ (homes : ℕ) (note order : List ℕ) (n : ℕ) (s0 s1 : DiskState) (un
       (cases_eq m n)
 
 -- all is home and synced, and no slot is open
-module _ (homes : ℕ) (note : List ℕ) (s : DiskState) (pages : List (List ℕ)) (h : StandsHome homes note [] s pages) where
+module _ (homes : ℕ) (note : List ℕ) (s : DiskState) (pages : List (List ℕ)) (h : HomesRepresent homes note [] s pages) where
   pub stands_represents : RepresentsPages homes note [] s pages
   stands_represents c may = subst (λ f. RecoversBy homes note [] f pages) (sym (synced_leave s c h.settled may)) h.home.means
 
@@ -81,7 +81,7 @@ module _ (homes : ℕ) (note : List ℕ) (s : DiskState) (pages : List (List ℕ
       ∙ ap (λ (p : List ℕ). Some p) (get_or-homes_from s.octet homes n lt)
 
 -- Where each page is shown home, the home pages are the map; a sync fixes that.
-pub shown_stands : (homes : ℕ) (note order : List ℕ) (s0 s1 : DiskState) (pages : List (List ℕ)) → RepresentsPages homes note order s0 pages → ShownAt homes [] s0.octet pages → Syncs s0 s1 → StandsHome homes note order s1 pages
+pub shown_stands : (homes : ℕ) (note order : List ℕ) (s0 s1 : DiskState) (pages : List (List ℕ)) → RepresentsPages homes note order s0 pages → ShownAt homes [] s0.octet pages → Syncs s0 s1 → HomesRepresent homes note order s1 pages
 shown_stands homes note order s0 s1 pages represents shown synced =
     let means : RecoversBy homes note order s0.octet pages = now_means homes note order s0 pages represents in
     let home : pages ≡ homes_from s0.octet 0 homes =
@@ -107,7 +107,7 @@ place_stays opened n unhomed s0 s2 room all outside =
 -- each page is shown after it
 pub post_shown : (homes : ℕ) (note : List ℕ) (opened : ℕ) → opened < 8 → (s0 s2 : DiskState) (pages : List (List ℕ)) → RepresentsPages homes note (open_slots opened) s0 pages
     → (unhomed : List Unhomed) → AllByRecursion (IsImage opened) unhomed → ShownAt homes unhomed s0.octet pages
-    → (named : List Image) → ((i : ℕ) → ¬ InSlot opened i → s2.octet i ≡ s0.octet i) → ImagesStand s2.octet opened 0 named
+    → (named : List Image) → ((i : ℕ) → ¬ InSlot opened i → s2.octet i ≡ s0.octet i) → HasImages s2.octet opened 0 named
     → ShownAt homes (unhomed_after opened 0 named unhomed) s2.octet (laid named pages)
 post_shown homes note opened room s0 s2 pages represents unhomed all shown named outside stand n lt =
     posted_shown s2.octet opened named 0 unhomed pages n stand
@@ -142,7 +142,7 @@ home_crash homes note order n s0 s1 unhomed pages w represents covered listed =
 -- a checkpoint: a sync, and then the gates
 module _ (homes : ℕ) (note : List ℕ) (opened : ℕ) (s0 s1 s2 : DiskState) (unhomed : List Unhomed) (all : unhomed_numbers unhomed ≡ []) (pages : List (List ℕ))
     (represents : RepresentsPages homes note (open_slots opened) s0 pages) (shown : ShownAt homes unhomed s0.octet pages) where
-  pub checkpoint_stands : Syncs s0 s1 → StandsHome homes note (open_slots opened) s1 pages
+  pub checkpoint_stands : Syncs s0 s1 → HomesRepresent homes note (open_slots opened) s1 pages
   checkpoint_stands synced = shown_stands homes note (open_slots opened) s0 s1 pages represents
       (subst (λ (l : List Unhomed). ShownAt homes l s0.octet pages) (none_unhomed unhomed all) shown) synced
 

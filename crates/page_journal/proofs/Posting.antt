@@ -8,7 +8,7 @@ use Rattle.disk_models.specs.Erase.{DiskState, MayLeave, MayLeaveBut, Leaves}
 use Rattle.disk_models.proofs.api.Overlay.{overlay, overlay_out, before_crash}
 use Rattle.disk_models.proofs.api.Moments.{leaves_then, leaves_weaker, synced_leave}
 use Rattle.page_journal.specs.Layout.{Image, gate_place, header_place, image_place, number_from, IsOpen, transaction, images, pages_of}
-use Rattle.page_journal.specs.inner.Writing.{header_octets, Fills, OpensGate, ImagesStand}
+use Rattle.page_journal.specs.inner.Writing.{header_octets, Fills, OpensGate, HasImages}
 use Rattle.page_journal.specs.Bookkeeping.{AreNumbered, open_slots}
 use Rattle.page_journal.specs.Recovers.{laid, AreDistinct, AreBelow, IsWhole, RecoversBy, RecoversEither, RepresentsPages}
 use Rattle.page_journal.proofs.Staging.{ReadsAs, staged, length-header_octets}
@@ -18,7 +18,7 @@ use Rattle.page_journal.proofs.Placing.{slots_within, all_slots, open_push}
 use Rattle.disk_models.proofs.api.OctetLemmas.{octets_agree}
 
 -- images that stand where nothing was written since
-stand_same : (f g : ℕ → ℕ) (slot : ℕ) → ((i : ℕ) → image_place slot 0 ≤ i → g i ≡ f i) → (named : List Image) (j : ℕ) → ImagesStand f slot j named → ImagesStand g slot j named
+stand_same : (f g : ℕ → ℕ) (slot : ℕ) → ((i : ℕ) → image_place slot 0 ≤ i → g i ≡ f i) → (named : List Image) (j : ℕ) → HasImages f slot j named → HasImages g slot j named
 stand_same f g slot agree [] j stand = tt
 stand_same f g slot agree (image ∷ rest) j stand =
     (octets_agree g f (image_place slot j) 16384 (λ i w. agree i (omega (arith, w.0))) ∙ stand.0, stand_same f g slot agree rest (suc j) stand.1)
@@ -146,7 +146,7 @@ module _ (homes : ℕ) (note : List ℕ) (opened : ℕ) (room : opened < 8) (s0 
     post_reads opens = posted_images homes note (open_slots opened) opened (opened + 1) room s0 pages represents free named header s1 (omega (arith, some)) few (omega (arith, room)) (omega (arith, small)) below distinct is_header fills s2 opens
 
     -- the images are read where they were written
-    pub post_stand : OpensGate opened s1 s2 → ImagesStand s2.octet opened 0 named
+    pub post_stand : OpensGate opened s1 s2 → HasImages s2.octet opened 0 named
     post_stand opens = stand_same s1.octet s2.octet opened (λ i high. opens.outside i (λ v. absurd (omega (arith, high, v.1)))) named 0 fills.images_stand
 
     -- outside its slot nothing was written

@@ -5,7 +5,7 @@ ghost use Rattle.disk_models.specs.Serves.{Serves};
 ghost use Rattle.page_journal.specs.Layout.{gate_place, slots_end};
 ghost use Rattle.page_journal.specs.Bookkeeping.{open_slots};
 ghost use Rattle.page_journal.specs.Recovers.{Recovers};
-ghost use Rattle.page_journal.specs.inner.Laying.{StandsHome};
+ghost use Rattle.page_journal.specs.inner.Laying.{HomesRepresent};
 
 use crate::layout::{CLOSED, GATE, PAGE, SLOT_PAGES, SLOTS};
 use disk_models::{EraseDisk, Fault};
@@ -15,10 +15,10 @@ pub fn close<D: EraseDisk>(disk: &mut D, slot: u64) -> Result<(), Fault>
     requires slot { slot < 8 }
     requires room { slots_end ≤ D.octet_count disk.old }
     ensures serves { Serves D.EraseDisk disk.old disk.new (IsErr result) }
-    ensures crash { D.honest disk.old → (homes : ℕ) (note rest : List ℕ) (pages : List (List ℕ)) → StandsHome homes note (slot ∷ rest) (D.model disk.old) pages
+    ensures crash { D.honest disk.old → (homes : ℕ) (note rest : List ℕ) (pages : List (List ℕ)) → HomesRepresent homes note (slot ∷ rest) (D.model disk.old) pages
         → Leaves (D.model disk.old) (D.model disk.new) (λ c. Recovers homes note c pages) }
-    ensures closed { D.honest disk.old → (homes : ℕ) (note rest : List ℕ) (pages : List (List ℕ)) → StandsHome homes note (slot ∷ rest) (D.model disk.old) pages
-        → OnOk result (StandsHome homes note rest (D.model disk.new) pages) }
+    ensures closed { D.honest disk.old → (homes : ℕ) (note rest : List ℕ) (pages : List (List ℕ)) → HomesRepresent homes note (slot ∷ rest) (D.model disk.old) pages
+        → OnOk result (HomesRepresent homes note rest (D.model disk.new) pages) }
 {
     disk.write_at(PAGE * (GATE + SLOT_PAGES * slot), &[CLOSED])?;
     disk.sync()
@@ -29,10 +29,10 @@ pub fn close_first<D: EraseDisk>(disk: &mut D, count: u64) -> Result<(), Fault>
     requires few { count ≤ 8 }
     requires room { slots_end ≤ D.octet_count disk.old }
     ensures serves { Serves D.EraseDisk disk.old disk.new (IsErr result) }
-    ensures crash { D.honest disk.old → (homes : ℕ) (note : List ℕ) (pages : List (List ℕ)) → StandsHome homes note (open_slots count) (D.model disk.old) pages
+    ensures crash { D.honest disk.old → (homes : ℕ) (note : List ℕ) (pages : List (List ℕ)) → HomesRepresent homes note (open_slots count) (D.model disk.old) pages
         → Leaves (D.model disk.old) (D.model disk.new) (λ c. Recovers homes note c pages) }
-    ensures closed { D.honest disk.old → (homes : ℕ) (note : List ℕ) (pages : List (List ℕ)) → StandsHome homes note (open_slots count) (D.model disk.old) pages
-        → OnOk result (StandsHome homes note [] (D.model disk.new) pages) }
+    ensures closed { D.honest disk.old → (homes : ℕ) (note : List ℕ) (pages : List (List ℕ)) → HomesRepresent homes note (open_slots count) (D.model disk.old) pages
+        → OnOk result (HomesRepresent homes note [] (D.model disk.new) pages) }
 {
     for slot in 0..count {
         close(disk, slot)?;

@@ -6,4 +6,4 @@ pub mod Reporting
 pub mod Answering
 pub mod Looking
 mod Everything
-pub mod Standing
+pub mod Representing

@@ -17,6 +17,6 @@ AreTheSettled count known blocks = (n : ℕ) (octets : List ℕ) → IsBlock n o
 -- An errand of a turn over a past, and a look that was got with it, on this disk: the errand lies over the past, and the look is
 -- honest and found the past's blocks.
 pub record IsErrandOn {D E S : Type 0} (located : E → D → Past → Type 0) (honest : D → S → Type 0) (count : D → ℕ) (known : S → ℕ → Option (List ℕ)) (p : Past) (errand : E) (seen : S) (d : D) : Type 0 where
-  pub stands : located errand d p
+  pub represents_all : located errand d p
   pub follows : honest d seen
   pub found : AreTheSettled (count d) (known seen) p.blocks

@@ -17,8 +17,8 @@ TurnGives historical again answered Again = again
 TurnGives historical again answered (Historical errand) = historical errand
 
 -- what a question has gathered holds over this history and each later one
-abbrev pub HoldsOnward : {C : Type 0} → (C → History → Type 0) → C → History → Type 0
-HoldsOnward gathered cursor h = (g : History) → Begins h g → gathered cursor g
+abbrev pub StaysTrue : {C : Type 0} → (C → History → Type 0) → C → History → Type 0
+StaysTrue gathered cursor h = (g : History) → Begins h g → gathered cursor g
 
 -- what asks up to this moment is refused as above the watermark only where it is, and the watermark is returned; else for a trouble from outside
 abbrev pub IsReportedAt : AskError → History → ℕ → Type 0

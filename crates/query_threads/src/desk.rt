@@ -9,7 +9,7 @@ ghost use Rattle.board.specs.Past.{Past, Among, GoesOnAs, reach};
 ghost use Rattle.board.specs.Views.{View, Within, Reached, IsCaughtUp, IsFrontOf, BeginsView};
 ghost use Rattle.query_threads.specs.Steps.{IsCrowded, DoesAdmit, DoesMark, DoesApply, DoesFlush, DoesReopen};
 ghost use Rattle.query_threads.specs.Looks.{IsErrandOn};
-ghost use Rattle.query_threads.specs.Turns.{HoldsOnward, TurnGives, IsReported, IsReportedAt};
+ghost use Rattle.query_threads.specs.Turns.{StaysTrue, TurnGives, IsReported, IsReportedAt};
 ghost use Rattle.query_threads.specs.Seeing.{Sees, ComesOf};
 ghost use Rattle.query_threads.specs.Troubles.{OnAdmitTrouble, OnMarkTrouble, OnAskTrouble};
 ghost use Rattle.query_threads.specs.Usages.{AreLanes};
@@ -274,7 +274,7 @@ impl<A: Store, N: Named + OnDisk<A::Disk>> Desk<A, N> {
         ensures fits { IfOk result (λ turn. TurnGives (λ e. A.fits e.0 cursor.new) ⊤ (λ _. ⊤) turn) }
         ensures right { IsSome N.disk → IsHistory pass.new.past.history }
         ensures settled { IsSome N.disk → OnOk result (last_moment (A.asks cursor.old) < settled pass.new.past.history) }
-        ensures gives { IsSome N.disk → HoldsOnward A.gathered cursor.old pass.old.past.history → IfOk result (λ turn. TurnGives (λ e. IfSome N.disk (IsErrandOn (λ errand. A.located errand cursor.new) A.honest A.block_count A.known pass.new.past e.0 e.1)) (A.gathered cursor.new pass.new.past.history) (λ answer. IsAnswered (applied pass.new.past.history) (A.asks cursor.old) answer) turn) }
+        ensures gives { IsSome N.disk → StaysTrue A.gathered cursor.old pass.old.past.history → IfOk result (λ turn. TurnGives (λ e. IfSome N.disk (IsErrandOn (λ errand. A.located errand cursor.new) A.honest A.block_count A.known pass.new.past e.0 e.1)) (A.gathered cursor.new pass.new.past.history) (λ answer. IsAnswered (applied pass.new.past.history) (A.asks cursor.old) answer) turn) }
         ensures reported { IsSome N.disk → IfErr result (λ e. IsReported e pass.new.past.history (A.asks cursor.old)) }
         ensures trouble { IfErr result (OnAskTrouble (λ t. ComesOf N.disk A.disk_of A.represents (λ a b. A.reports a t b) pass.old pass.new)) }
     {
@@ -329,8 +329,8 @@ impl<A: Store, N: Named + OnDisk<A::Disk>> Desk<A, N> {
         ensures right { IsSome N.disk → IsHistory pass.new.past.history }
         ensures settled { IsSome N.disk → OnOk result ((A.walks walk.old).to < settled pass.new.past.history) }
         ensures kept { IsSome N.disk → N.disk ≡ Some (A.reads reader.old) → Among (A.kept reader.old) pass.old.past.blocks → Among (A.kept reader.new) pass.new.past.blocks }
-        ensures walked { IsSome N.disk → N.disk ≡ Some (A.reads reader.old) → Among (A.kept reader.old) pass.old.past.blocks → HoldsOnward A.walked walk.old pass.old.past.history → IfOk result (λ found. IfNone found (A.walked walk.new pass.new.past.history)) }
-        ensures answer { IsSome N.disk → N.disk ≡ Some (A.reads reader.old) → Among (A.kept reader.old) pass.old.past.blocks → HoldsOnward A.walked walk.old pass.old.past.history → IfOk result (λ found. IfSome found (λ answer. IsChangedAnswer (applied pass.new.past.history) (A.walks walk.old) answer.spots.items answer.more)) }
+        ensures walked { IsSome N.disk → N.disk ≡ Some (A.reads reader.old) → Among (A.kept reader.old) pass.old.past.blocks → StaysTrue A.walked walk.old pass.old.past.history → IfOk result (λ found. IfNone found (A.walked walk.new pass.new.past.history)) }
+        ensures answer { IsSome N.disk → N.disk ≡ Some (A.reads reader.old) → Among (A.kept reader.old) pass.old.past.blocks → StaysTrue A.walked walk.old pass.old.past.history → IfOk result (λ found. IfSome found (λ answer. IsChangedAnswer (applied pass.new.past.history) (A.walks walk.old) answer.spots.items answer.more)) }
         ensures reported { IsSome N.disk → N.disk ≡ Some (A.reads reader.old) → Among (A.kept reader.old) pass.old.past.blocks → IfErr result (λ e. IsReportedAt e pass.new.past.history (A.walks walk.old).to) }
         ensures trouble { IfErr result (OnAskTrouble (λ t. ComesOf N.disk A.disk_of A.represents (λ a b. A.fails a t b) pass.old pass.new)) }
     {

@@ -22,7 +22,7 @@ use Rattle.version_model.proofs.api.Pushed.{Has-nil}
 use Rattle.tsb_walk.specs.Touched.{HasWithin}
 use Rattle.route_history.specs.Changes.{ReportsChanged}
 use Rattle.route_history.specs.Stamps.{orders, stamp_of}
-use Rattle.route_history.specs.Kept.{Timed, timed, key_of, IsVersion, AreVersions, Kept}
+use Rattle.route_history.specs.Kept.{Timed, timed, key_of, IsVersion, AreVersions, HaveVersions}
 use Rattle.route_history.proofs.KeysApart.{prefix-prefix, session-prefix}
 use Rattle.route_history.proofs.Reporting.{reported_timed}
 
@@ -183,7 +183,7 @@ module _ (p : Peer) (x : IpPrefix) (from to : ℕ) where
   ]
 
 -- the spots that changed
-pub kept_reports_changed : (ps : List (Placed Admitted)) (versions : List Version) (q : ChangedQuestion) → Kept ps versions → ReportsChanged versions ps q
+pub kept_reports_changed : (ps : List (Placed Admitted)) (versions : List Version) (q : ChangedQuestion) → HaveVersions ps versions → ReportsChanged versions ps q
 kept_reports_changed ps versions q kept = record {
   fits = λ spot h. (let k = found spot h in (k.peer, k.prefix));
   each = λ spot h. (found spot h).within;

@@ -20,5 +20,5 @@ module _ {O Pen Seen : Type 0} (device : Ghosts O Pen Seen) (all : List Version)
     well = well;
     blocks = h.blocks;
     known = subst (λ (k : ℕ → Option (List ℕ)). AreKnown k (device.block_count (reader_disk t)) h.blocks) (sym known) (subst (λ (d : O). AreKnown (device.known s) (device.block_count d) h.blocks) (sym disk) h.known);
-    stands = h.stands;
+    represents_all = h.represents_all;
   }

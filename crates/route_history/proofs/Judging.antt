@@ -21,7 +21,7 @@ use Rattle.route_meaning.proofs.Holding.{Holds-after, after-Holds}
 use Rattle.route_meaning.proofs.api.There.{rows_there}
 use Rattle.version_model.specs.Versions.{Version, Found, found_version, Answers}
 use Rattle.route_history.specs.Stamps.{stamp_of, last_stamp}
-use Rattle.route_history.specs.Kept.{Timed, at_time, timed, key_of, HasValue, IsVersion, AreVersions, Kept}
+use Rattle.route_history.specs.Kept.{Timed, at_time, timed, key_of, HasValue, IsVersion, AreVersions, HaveVersions}
 use Rattle.route_history.specs.Walks.{counts, stamp_of_found, Reports}
 use Rattle.route_history.proofs.KeysApart.{prefix-prefix, session-session, session-prefix, prefix-session}
 use Rattle.route_history.proofs.Latest.{RisesFrom, stamp-leb, times_timed, rises_from, counts_at, latest, as_of_latest, latest_as_of}
@@ -213,10 +213,10 @@ pub zeros : (qs : List (Placed Admitted)) → AllByRecursion (λ q. 0 ≤ time_o
 zeros [] = tt
 zeros (q ∷ qs) = (omega arith, zeros qs)
 
-pub kept_rises : (ps : List (Placed Admitted)) (versions : List Version) → IsRising time_of ps → Kept ps versions → RisesFrom (stamp_of 0 0) versions
+pub kept_rises : (ps : List (Placed Admitted)) (versions : List Version) → IsRising time_of ps → HaveVersions ps versions → RisesFrom (stamp_of 0 0) versions
 kept_rises ps versions timely kept = rises_from 0 0 (timed ps) versions (times_timed 0 ps (zeros ps) timely) kept
 
-module _ (ps : List (Placed Admitted)) (versions : List Version) (moment : ℕ) (peer : Peer) (prefix : IpPrefix) (timely : IsRising time_of ps) (kept : Kept ps versions) (hp : IsPeer peer) (hx : IsPrefix prefix) where
+module _ (ps : List (Placed Admitted)) (versions : List Version) (moment : ℕ) (peer : Peer) (prefix : IpPrefix) (timely : IsRising time_of ps) (kept : HaveVersions ps versions) (hp : IsPeer peer) (hx : IsPrefix prefix) where
   rises : RisesFrom (stamp_of 0 0) versions
   rises = kept_rises ps versions timely kept
 
@@ -287,7 +287,7 @@ by_admission : (ps : List (Placed Admitted)) → AllByRecursion (λ (x : Timed).
 by_admission [] a = tt
 by_admission (p ∷ ps) a = let r = untimed (time_of p) p.item.changes (timed ps) a in (r.0, by_admission ps r.1)
 
-pub kept_valid : (ps : List (Placed Admitted)) (versions : List Version) → Kept ps versions → AllByRecursion (λ p. AllByRecursion IsChange p.item.changes) ps
+pub kept_valid : (ps : List (Placed Admitted)) (versions : List Version) → HaveVersions ps versions → AllByRecursion (λ p. AllByRecursion IsChange p.item.changes) ps
 kept_valid ps versions kept = by_admission ps (changes_fit 0 (timed ps) versions kept)
 
 in_time_fit : (moment : ℕ) (xs : List Timed) → AllByRecursion (λ (x : Timed). IsChange x.change) xs → AllByRecursion IsChange (timely_changes moment xs)
@@ -301,13 +301,13 @@ all_middle : (before after : List Change) (c : Change) → AllByRecursion IsChan
 all_middle [] after c a = a.0
 all_middle (b ∷ bs) after c a = all_middle bs after c a.1
 
-pub holds_fits : (ps : List (Placed Admitted)) (versions : List Version) (moment : ℕ) (peer : Peer) (prefix : IpPrefix) (route : Route) → Kept ps versions → Holds ps moment peer prefix route → IsPeer peer × IsPrefix prefix
+pub holds_fits : (ps : List (Placed Admitted)) (versions : List Version) (moment : ℕ) (peer : Peer) (prefix : IpPrefix) (route : Route) → HaveVersions ps versions → Holds ps moment peer prefix route → IsPeer peer × IsPrefix prefix
 holds_fits ps versions moment peer prefix route kept h =
     let is : IsChange (Announce peer prefix route) = all_middle h.before h.after (Announce peer prefix route) (subst (AllByRecursion IsChange) (timely_timed moment ps ∙ h.announced) (in_time_fit moment (timed ps) (changes_fit 0 (timed ps) versions kept))) in
     (is.0, is.1)
 
 -- what follows of each moment
-pub kept_reports : (ps : List (Placed Admitted)) (versions : List Version) (moment : ℕ) → IsRising time_of ps → Kept ps versions → Reports versions ps moment
+pub kept_reports : (ps : List (Placed Admitted)) (versions : List Version) (moment : ℕ) → IsRising time_of ps → HaveVersions ps versions → Reports versions ps moment
 kept_reports ps versions moment timely kept = record {
   fits = λ p x route h. holds_fits ps versions moment p x route kept h;
   listed = λ select low. rows_there ps moment select low None (kept_valid ps versions kept);

@@ -21,7 +21,7 @@ use Rattle.route_meaning.specs.History.{History, IsHistory, Begins, applied, set
 use Rattle.route_meaning.proofs.api.Settling.{Holds-until}
 use Rattle.version_model.specs.Versions.{Version}
 use Rattle.route_history.specs.Stamps.{orders, stamp_of, last_stamp}
-use Rattle.route_history.specs.Kept.{Timed, timed, key_of, HasValue, IsVersion, AreVersions, Kept}
+use Rattle.route_history.specs.Kept.{Timed, timed, key_of, HasValue, IsVersion, AreVersions, HaveVersions}
 use Rattle.route_history.specs.Walks.{Gathered, IsSameVersion}
 use Rattle.route_history.specs.Spans.{is_of_two, span_start, asked, IsChangeOf, IsEventOf, HasReported, HasReportedSo}
 use Rattle.route_history.specs.declared.rows.RowsCursor.{RowsCursor}
@@ -171,7 +171,7 @@ reported_alike vs ws ps q (Some at) left reported more hp hx a h =
 
 -- ---- from one history to a later one
 
-pub rows_go_on : (h g : History) (all new : List Version) (c : RowsCursor) → IsHistory h → IsHistory g → Begins h g → c.question.moment < settled h → Kept (applied h) all → Kept (applied g) new → Gathered all (applied h) c → Gathered new (applied g) c
+pub rows_go_on : (h g : History) (all new : List Version) (c : RowsCursor) → IsHistory h → IsHistory g → Begins h g → c.question.moment < settled h → HaveVersions (applied h) all → HaveVersions (applied g) new → Gathered all (applied h) c → Gathered new (applied g) c
 rows_go_on h g all new c is on b lt kept later gathered =
     let moment = c.question.moment in
     let s = timed_grows h g is b in
@@ -185,7 +185,7 @@ rows_go_on h g all new c is on b lt kept later gathered =
       holds = λ p x route. (Holds-until (applied h) (applied g) moment p x route same, Holds-until (applied g) (applied h) moment p x route (sym same));
     }) alike
 
-pub events_go_on : (h g : History) (all new : List Version) (c : EventsCursor) → IsHistory h → IsHistory g → Begins h g → c.question.to < settled h → IsPeer c.question.peer → IsPrefix c.question.prefix → Kept (applied h) all → Kept (applied g) new → HasReportedSo all (applied h) c → HasReportedSo new (applied g) c
+pub events_go_on : (h g : History) (all new : List Version) (c : EventsCursor) → IsHistory h → IsHistory g → Begins h g → c.question.to < settled h → IsPeer c.question.peer → IsPrefix c.question.prefix → HaveVersions (applied h) all → HaveVersions (applied g) new → HasReportedSo all (applied h) c → HasReportedSo new (applied g) c
 events_go_on h g all new c is on b lt hp hx kept later reported =
     let q = c.question in
     let s = timed_grows h g is b in

@@ -8,7 +8,7 @@ use Rattle.route_meaning.specs.Holds.{time_of}
 use Rattle.route_meaning.specs.Merged.{Placed}
 use Rattle.version_model.specs.Versions.{Version}
 use Rattle.route_history.specs.Stamps.{orders, stamp_of}
-use Rattle.route_history.specs.Kept.{Timed, at_time, timed, IsVersion, AreVersions, Kept}
+use Rattle.route_history.specs.Kept.{Timed, at_time, timed, IsVersion, AreVersions, HaveVersions}
 use Rattle.route_history.specs.Growing.{AreBefore}
 
 none_first : (n : ℕ) → 0 + n ≡ n
@@ -20,7 +20,7 @@ one_more n [] (w ∷ ws) t v k is = absurd k
 one_more n (u ∷ us) [] t v k is = absurd k
 one_more n (u ∷ us) (w ∷ ws) t v k is = (k.0, one_more (suc n) us ws t v k.1 (subst (λ (m : ℕ). IsVersion m t v) (let e : n + suc (length ws) ≡ suc n + length ws = omega arith in e) is))
 
-pub kept_one_more : (ps qs : List (Placed Admitted)) (all : List Version) (t : Timed) (v : Version) → timed qs ≡ timed ps ++ t ∷ [] → Kept ps all → IsVersion (length all) t v → Kept qs (all ++ v ∷ [])
+pub kept_one_more : (ps qs : List (Placed Admitted)) (all : List Version) (t : Timed) (v : Version) → timed qs ≡ timed ps ++ t ∷ [] → HaveVersions ps all → IsVersion (length all) t v → HaveVersions qs (all ++ v ∷ [])
 kept_one_more ps qs all t v next kept is = subst (λ (ts : List Timed). AreVersions 0 ts (all ++ v ∷ [])) (sym next) (one_more 0 (timed ps) all t v kept (subst (λ (m : ℕ). IsVersion m t v) (sym (none_first (length all))) is))
 
 all_until : (time u : ℕ) (cs : List Change) (ts : List Timed) → u ≤ time → AllByRecursion (λ t. t.time ≤ time) ts → AllByRecursion (λ t. t.time ≤ time) (map (at_time u) cs ++ ts)
@@ -41,5 +41,5 @@ stamps_before time n (t ∷ ts) (v ∷ vs) a k =
     let is : v.stamp ≡ stamp_of t.time n = k.0.stamp in
     (omega (arith, h, is), subst (λ (m : ℕ). AreBefore (stamp_of time m) vs) (let e : suc n + length vs ≡ n + suc (length vs) = omega arith in e) (stamps_before time (suc n) ts vs a.1 k.1))
 
-pub kept_before : (ps : List (Placed Admitted)) (all : List Version) (time : ℕ) → AllByRecursion (λ p. time_of p ≤ time) ps → Kept ps all → AreBefore (stamp_of time (length all)) all
+pub kept_before : (ps : List (Placed Admitted)) (all : List Version) (time : ℕ) → AllByRecursion (λ p. time_of p ≤ time) ps → HaveVersions ps all → AreBefore (stamp_of time (length all)) all
 kept_before ps all time a kept = subst (λ (m : ℕ). AreBefore (stamp_of time m) all) (none_first (length all)) (stamps_before time 0 (timed ps) all (timed_all_until time ps a) kept)

@@ -21,7 +21,7 @@ use Rattle.route_meaning.proofs.Holding.{both, same_peer-true, same_prefix-true}
 use Rattle.route_meaning.proofs.api.Sorting.{all_weaker}
 use Rattle.version_model.specs.Versions.{Version, IsRising}
 use Rattle.route_history.specs.Stamps.{orders, stamp_of, last_stamp}
-use Rattle.route_history.specs.Kept.{Timed, at_time, timed, key_of, HasValue, IsVersion, AreVersions, Kept}
+use Rattle.route_history.specs.Kept.{Timed, at_time, timed, key_of, HasValue, IsVersion, AreVersions, HaveVersions}
 use Rattle.route_history.specs.Spans.{AreStampsRising, is_of_two, is_at, span_end, asked, IsChangeOf, IsEventOf, HasEvent, ReportsEvents}
 use Rattle.route_history.proofs.KeysApart.{prefix-prefix, session-session, session-prefix, prefix-session}
 use Rattle.route_history.proofs.Latest.{RisesFrom, stamp-leb, below_all, at_place}
@@ -167,12 +167,12 @@ pub rising_record : (vs : List Version) → AreStampsRising vs → IsRising vs
 rising_record vs r = record { rises = λ i j v w lt a b. rising_at vs r i j v w lt a b }
 
 -- what follows of each span
-pub kept_reports_events : (ps : List (Placed Admitted)) (versions : List Version) (q : EventsQuestion) → TimesRise time_of ps → Kept ps versions → IsPeer q.peer → IsPrefix q.prefix → ReportsEvents versions ps q
+pub kept_reports_events : (ps : List (Placed Admitted)) (versions : List Version) (q : EventsQuestion) → TimesRise time_of ps → HaveVersions ps versions → IsPeer q.peer → IsPrefix q.prefix → ReportsEvents versions ps q
 kept_reports_events ps versions q timely kept hp hx = record {
   rising = rises_rise (stamp_of 0 0) versions (kept_rises ps versions timely kept);
   each = each_reported q.peer q.prefix q.from q.to hp hx 0 (timed ps) versions kept;
   reported = subst (AllZip (IsEventOf q.peer q.prefix) (asked versions q (span_end q))) (sym (reported_timed q.peer q.prefix q.from q.to ps)) (versions_reported q.peer q.prefix q.from q.to hp hx 0 (timed ps) versions kept);
 }
 
-pub kept_rising : (ps : List (Placed Admitted)) (versions : List Version) → TimesRise time_of ps → Kept ps versions → IsRising versions
+pub kept_rising : (ps : List (Placed Admitted)) (versions : List Version) → TimesRise time_of ps → HaveVersions ps versions → IsRising versions
 kept_rising ps versions timely kept = rising_record versions (rises_rise (stamp_of 0 0) versions (kept_rises ps versions timely kept))

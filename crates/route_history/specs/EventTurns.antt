@@ -13,7 +13,7 @@ use Rattle.version_model.specs.Entries.{versions_of}
 use Rattle.disk_models.specs.declared.once.OnceDisk.{Ghosts}
 use Rattle.once_store.specs.declared.reader.ShelfReader.{ShelfReader}
 use Rattle.tsb_walk.specs.Looked.{IsParted}
-use Rattle.tsb_walk.specs.Knowing.{ReadsWell, StandsKnown}
+use Rattle.tsb_walk.specs.Knowing.{ReadsWell, RepresentsKnown}
 use Rattle.route_history.specs.declared.events.EventsCursor.{EventsCursor}
 use Rattle.route_history.specs.declared.events_turn.EventsErrand.{EventsErrand}
 use Rattle.route_history.specs.declared.events_turn.EventsTurn.{EventsTurn}
@@ -23,13 +23,13 @@ use Rattle.route_history.specs.Points.{PartsAt}
 use Rattle.route_history.specs.Spans.{HasReportedSo}
 
 -- both looks of the errand stand
-abbrev pub Stand : (ℕ → Option BlockNode) → List Version → EventsCursor → EventsErrand → Type 0
-Stand blocks all c errand = IsParted blocks all (key_number c.question.peer c.question.prefix) errand.from errand.route × IsParted blocks all (session_number c.question.peer) errand.from errand.session
+abbrev pub BothRepresent : (ℕ → Option BlockNode) → List Version → EventsCursor → EventsErrand → Type 0
+BothRepresent blocks all c errand = IsParted blocks all (key_number c.question.peer c.question.prefix) errand.from errand.route × IsParted blocks all (session_number c.question.peer) errand.from errand.session
 
 -- what a look returned is true of these versions, or its place stands by the blocks that a reader knows; and the reader reads well
 abbrev pub IsKnownPart : {O Pen Seen : Type 0} → (device : Ghosts O Pen Seen) → ShelfReader O Pen Seen device → Seen → List Version → ℕ → ℕ → Parted → Type 0
 IsKnownPart device reader seen all key from (Here part) = IsPart all key from (versions_of part.entries.items) part.reported × ReadsWell device reader seen
-IsKnownPart device reader seen all key from (InBlock place) = StandsKnown device reader seen all place
+IsKnownPart device reader seen all key from (InBlock place) = RepresentsKnown device reader seen all place
 
 -- the same of both looks of the errand
 abbrev pub AreKnownParts : {O Pen Seen : Type 0} → (device : Ghosts O Pen Seen) → ShelfReader O Pen Seen device → Seen → List Version → EventsCursor → EventsErrand → Type 0
@@ -51,7 +51,7 @@ HasFit c (Historical errand) = IsEventsErrandOf c errand
 abbrev pub IsEventsTurn : (ℕ → Option BlockNode) → List Version → List (Placed Admitted) → EventsCursor → EventsCursor → EventsTurn → Type 0
 IsEventsTurn blocks all ps c d (Done answer) = IsEventsAnswer ps c.question answer.events.items answer.more
 IsEventsTurn blocks all ps c d Again = HasReportedSo all ps d × (d.question ≡ c.question) × Rose c.at d.at
-IsEventsTurn blocks all ps c d (Historical errand) = (d ≡ c) × IsEventsErrandOf d errand × Stand blocks all d errand
+IsEventsTurn blocks all ps c d (Historical errand) = (d ≡ c) × IsEventsErrandOf d errand × BothRepresent blocks all d errand
 
 -- an answer is the cursor's, whose walk is over; if the walk goes on, the cursor is the same
 abbrev pub IsReportedSo : EventsCursor → EventsCursor → EventsTurn → Type 0

@@ -53,5 +53,5 @@ AreVersions n (t ∷ ts) [] = ⊥
 AreVersions n (t ∷ ts) (v ∷ vs) = IsVersion n t v × AreVersions (suc n) ts vs
 
 -- the versions are those of the changes of these admissions, and no others
-abbrev pub Kept : List (Placed Admitted) → List Version → Type 0
-Kept ps versions = AreVersions 0 (timed ps) versions
+abbrev pub HaveVersions : List (Placed Admitted) → List Version → Type 0
+HaveVersions ps versions = AreVersions 0 (timed ps) versions

@@ -5,7 +5,7 @@ use Rattle.route_meaning.specs.Merged.{Placed}
 use Rattle.route_meaning.specs.Rows.{IsAnswer}
 use Rattle.version_model.specs.Versions.{Version}
 use Rattle.version_model.specs.Ranges.{IsPoint, range_of}
-use Rattle.version_model.specs.Blocks.{BlockNode, PlaceStands}
+use Rattle.version_model.specs.Blocks.{BlockNode, PlaceRepresents}
 use Rattle.route_history.specs.declared.rows.RowsCursor.{RowsCursor}
 use Rattle.route_history.specs.declared.rows_turn.RowsTurn.{RowsTurn}
 use Rattle.route_history.specs.declared.rows_turn.RowsTurn.TheVariants.{Done, Again, Historical}
@@ -29,7 +29,7 @@ HasFit c (Historical errand) = IsErrandOf c errand
 abbrev pub IsTurn : (ℕ → Option BlockNode) → List Version → List (Placed Admitted) → RowsCursor → RowsCursor → RowsTurn → Type 0
 IsTurn blocks all ps c d (Done answer) = IsAnswer ps c.question answer.rows.items answer.more
 IsTurn blocks all ps c d Again = Gathered all ps d × (d.question ≡ c.question) × Rose (front_number c.front) (front_number d.front)
-IsTurn blocks all ps c d (Historical errand) = Gathered all ps d × (d.question ≡ c.question) × IsErrandOf d errand × PlaceStands blocks all errand.place × NotBack (front_number c.front) (front_number d.front)
+IsTurn blocks all ps c d (Historical errand) = Gathered all ps d × (d.question ≡ c.question) × IsErrandOf d errand × PlaceRepresents blocks all errand.place × NotBack (front_number c.front) (front_number d.front)
 
 -- an answer is the cursor's, whose walk is over; if the walk goes on, the cursor is the same
 abbrev pub IsReported : RowsCursor → RowsCursor → RowsTurn → Type 0

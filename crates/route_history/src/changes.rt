@@ -9,7 +9,7 @@ ghost use Rattle.version_model.specs.Sizes.{entry_octets};
 ghost use Rattle.version_model.specs.Versions.{Version};
 ghost use Rattle.route_history.specs.Stamps.{stamp_of};
 ghost use Rattle.route_history.specs.Kept.{IsVersion, HasValue, at_time, key_of};
-ghost use Rattle.route_history.specs.Growing.{StandsGrown, AreBefore, HasApplied};
+ghost use Rattle.route_history.specs.Growing.{RepresentsGrown, AreBefore, HasApplied};
 
 use crate::versions::Growing;
 use route_model::{Change, Key, Moment};
@@ -78,8 +78,8 @@ pub fn apply<V: Growing>(
     change: &Change,
 ) -> Result<(), V::Refusal>
     requires change { IsChange change.now }
-    ensures applied { (blocks : ℕ → Option BlockNode) (all : List Version) → V.stands versions.old blocks all → AreBefore (stamp_of time order) all → OnOk result (HasApplied (V.stands versions.new) blocks all order (at_time time change.now)) }
-    ensures refused { (blocks : ℕ → Option BlockNode) (all : List Version) → V.stands versions.old blocks all → OnErr result (StandsGrown (V.stands versions.new) blocks all) }
+    ensures applied { (blocks : ℕ → Option BlockNode) (all : List Version) → V.represents_all versions.old blocks all → AreBefore (stamp_of time order) all → OnOk result (HasApplied (V.represents_all versions.new) blocks all order (at_time time change.now)) }
+    ensures refused { (blocks : ℕ → Option BlockNode) (all : List Version) → V.represents_all versions.old blocks all → OnErr result (RepresentsGrown (V.represents_all versions.new) blocks all) }
 {
     let stamp = Stamp::new(time.seconds(), order);
     let key = key_of(change);

@@ -9,7 +9,7 @@ ghost use Rattle.version_model.specs.Blocks.{BlockNode};
 ghost use Rattle.version_model.specs.Looks.{IsPart};
 ghost use Rattle.version_model.specs.Entries.{versions_of};
 ghost use Rattle.once_store.specs.Readers.{capacity_of, reader_disk};
-ghost use Rattle.tsb_walk.specs.Inside.{KeepsInside};
+ghost use Rattle.tsb_walk.specs.Inside.{CachesInside};
 ghost use Rattle.tsb_walk.specs.Knowing.{ReadsWell};
 ghost use Rattle.route_history.specs.Blame.{BlamesNone};
 ghost use Rattle.route_history.specs.Walks.{Rose};
@@ -79,12 +79,12 @@ pub fn take_events_turn<V: Versions>(
     alloc: Global,
     cursor: &mut EventsCursor,
 ) -> Result<EventsTurn, NodeError>
-    ensures turn { IfOk result (λ turn. (blocks : ℕ → Option BlockNode) (all : List Version) (ps : List (Placed Admitted)) → V.stands versions.old blocks all → ReportsEvents all ps cursor.old.question → HasReportedSo all ps cursor.old → IsEventsTurn blocks all ps cursor.old cursor.new turn) }
+    ensures turn { IfOk result (λ turn. (blocks : ℕ → Option BlockNode) (all : List Version) (ps : List (Placed Admitted)) → V.represents_all versions.old blocks all → ReportsEvents all ps cursor.old.question → HasReportedSo all ps cursor.old → IsEventsTurn blocks all ps cursor.old cursor.new turn) }
     ensures fits { IfOk result (λ turn. HasFit cursor.new turn) }
     ensures refused { OnErr result (IsSameReporting cursor.old cursor.new) }
-    ensures blames { IfErr result (λ refusal. (blocks : ℕ → Option BlockNode) (all : List Version) → V.stands versions.old blocks all → BlamesNone refusal) }
+    ensures blames { IfErr result (λ refusal. (blocks : ℕ → Option BlockNode) (all : List Version) → V.represents_all versions.old blocks all → BlamesNone refusal) }
     ensures question { cursor.new.question ≡ cursor.old.question }
-    ensures kept { (blocks : ℕ → Option BlockNode) (all : List Version) → V.stands versions.old blocks all → V.stands versions.new blocks all }
+    ensures kept { (blocks : ℕ → Option BlockNode) (all : List Version) → V.represents_all versions.old blocks all → V.represents_all versions.new blocks all }
 {
     let Some(at) = cursor.at else {
         return Ok(EventsTurn::Done(cursor.report(alloc)));
@@ -119,7 +119,7 @@ fn part_of<O: OnceDisk + Drop>(
     ensures part { (all : List Version) → IsRising all → IsKnownPart O.OnceDisk reader.old seen.old all key from parted → IfOk result (λ part. IsPart all key from (versions_of part.entries.items) part.reported) }
     ensures reads { (all : List Version) → IsKnownPart O.OnceDisk reader.old seen.old all key from parted → ReadsWell O.OnceDisk reader.new seen.new }
     ensures never { (all : List Version) → IsKnownPart O.OnceDisk reader.old seen.old all key from parted → (block : ℕ) → result ≡ Err (BlockError.Damaged block) → ⊥ }
-    ensures inside { KeepsInside O.OnceDisk reader.old → KeepsInside O.OnceDisk reader.new }
+    ensures inside { CachesInside O.OnceDisk reader.old → CachesInside O.OnceDisk reader.new }
     ensures same { O.honest_seen (reader_disk reader.old) seen.old → O.known seen.new ≡ O.known seen.old }
     ensures disk { reader_disk reader.new ≡ reader_disk reader.old }
     ensures capacity { capacity_of reader.new ≡ capacity_of reader.old }
@@ -150,7 +150,7 @@ impl EventsErrand {
         ensures refused { OnErr result (IsSameReporting cursor.old cursor.new) }
         ensures reads { (all : List Version) → AreKnownParts O.OnceDisk reader.old seen.old all cursor.old self → ReadsWell O.OnceDisk reader.new seen.new }
         ensures never { (all : List Version) → AreKnownParts O.OnceDisk reader.old seen.old all cursor.old self → (block : ℕ) → result ≡ Err (BlockError.Damaged block) → ⊥ }
-        ensures inside { KeepsInside O.OnceDisk reader.old → KeepsInside O.OnceDisk reader.new }
+        ensures inside { CachesInside O.OnceDisk reader.old → CachesInside O.OnceDisk reader.new }
         ensures same { O.honest_seen (reader_disk reader.old) seen.old → O.known seen.new ≡ O.known seen.old }
         ensures disk { reader_disk reader.new ≡ reader_disk reader.old }
         ensures capacity { capacity_of reader.new ≡ capacity_of reader.old }

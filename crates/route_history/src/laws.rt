@@ -14,7 +14,7 @@ ghost use Rattle.version_model.specs.Versions.{Version, IsRising as AreStampsInO
 ghost use Rattle.route_history.specs.declared.rows.RowsCursor.{RowsCursor};
 ghost use Rattle.route_history.specs.declared.events.EventsCursor.{EventsCursor};
 ghost use Rattle.route_history.specs.Stamps.{stamp_of};
-ghost use Rattle.route_history.specs.Kept.{Timed, timed, IsVersion, Kept};
+ghost use Rattle.route_history.specs.Kept.{Timed, timed, IsVersion, HaveVersions};
 ghost use Rattle.route_history.specs.Growing.{AreBefore};
 ghost use Rattle.route_history.specs.Walks.{Reports, Gathered, GoesOn, IsSameVersion};
 ghost use Rattle.route_history.specs.Changes.{HasChangedSo, ReportsChanged};
@@ -25,17 +25,17 @@ ghost use Rattle.route_history.specs.Spans.{ReportsEvents, HasReportedSo, Events
 /// two lookups at its greatest stamp return, compared by stamp; the events of a span are the versions of the two keys in it; the spots that
 /// changed in it are those of which a version is in it; and the stamps rise.
 pub fn versions_report()
-    ensures rows { (ps : List (Placed Admitted)) (all : List Version) (moment : ℕ) → IsRising time_of ps → Kept ps all → Reports all ps moment }
-    ensures events { (ps : List (Placed Admitted)) (all : List Version) (q : EventsQuestion) → IsRising time_of ps → Kept ps all → IsPeer q.peer → IsPrefix q.prefix → ReportsEvents all ps q }
-    ensures changed { (ps : List (Placed Admitted)) (all : List Version) (q : ChangedQuestion) → Kept ps all → ReportsChanged all ps q }
-    ensures stamps { (ps : List (Placed Admitted)) (all : List Version) → IsRising time_of ps → Kept ps all → AreStampsInOrder all }
+    ensures rows { (ps : List (Placed Admitted)) (all : List Version) (moment : ℕ) → IsRising time_of ps → HaveVersions ps all → Reports all ps moment }
+    ensures events { (ps : List (Placed Admitted)) (all : List Version) (q : EventsQuestion) → IsRising time_of ps → HaveVersions ps all → IsPeer q.peer → IsPrefix q.prefix → ReportsEvents all ps q }
+    ensures changed { (ps : List (Placed Admitted)) (all : List Version) (q : ChangedQuestion) → HaveVersions ps all → ReportsChanged all ps q }
+    ensures stamps { (ps : List (Placed Admitted)) (all : List Version) → IsRising time_of ps → HaveVersions ps all → AreStampsInOrder all }
 {}
 
 /// With the version of the next change, whose number is how many versions there are, the versions are again those of the applied
 /// changes; and its stamp is above theirs if its time is no earlier than theirs.
 pub fn kept_goes_on()
-    ensures more { (ps qs : List (Placed Admitted)) (all : List Version) (t : Timed) (v : Version) → timed qs ≡ timed ps ++ t ∷ [] → Kept ps all → IsVersion (length all) t v → Kept qs (all ++ v ∷ []) }
-    ensures before { (ps : List (Placed Admitted)) (all : List Version) (time : ℕ) → AllByRecursion (λ p. time_of p ≤ time) ps → Kept ps all → AreBefore (stamp_of time (length all)) all }
+    ensures more { (ps qs : List (Placed Admitted)) (all : List Version) (t : Timed) (v : Version) → timed qs ≡ timed ps ++ t ∷ [] → HaveVersions ps all → IsVersion (length all) t v → HaveVersions qs (all ++ v ∷ []) }
+    ensures before { (ps : List (Placed Admitted)) (all : List Version) (time : ℕ) → AllByRecursion (λ p. time_of p ≤ time) ps → HaveVersions ps all → AreBefore (stamp_of time (length all)) all }
 {}
 
 /// What a cursor has gathered stays right when more changes are applied, none of which counts at its moment, or in its span.
@@ -53,7 +53,7 @@ pub fn gathered_alike()
 /// What a cursor has gathered over a history is right over each later one too, whatever the versions of both are, if the last moment
 /// that it asks about was settled.
 pub fn gathered_follows_histories()
-    ensures rows { (h g : History) (all new : List Version) (c : RowsCursor) → IsHistory h → IsHistory g → Begins h g → c.question.moment < settled h → Kept (applied h) all → Kept (applied g) new → Gathered all (applied h) c → Gathered new (applied g) c }
-    ensures events { (h g : History) (all new : List Version) (c : EventsCursor) → IsHistory h → IsHistory g → Begins h g → c.question.to < settled h → IsPeer c.question.peer → IsPrefix c.question.prefix → Kept (applied h) all → Kept (applied g) new → HasReportedSo all (applied h) c → HasReportedSo new (applied g) c }
+    ensures rows { (h g : History) (all new : List Version) (c : RowsCursor) → IsHistory h → IsHistory g → Begins h g → c.question.moment < settled h → HaveVersions (applied h) all → HaveVersions (applied g) new → Gathered all (applied h) c → Gathered new (applied g) c }
+    ensures events { (h g : History) (all new : List Version) (c : EventsCursor) → IsHistory h → IsHistory g → Begins h g → c.question.to < settled h → IsPeer c.question.peer → IsPrefix c.question.prefix → HaveVersions (applied h) all → HaveVersions (applied g) new → HasReportedSo all (applied h) c → HasReportedSo new (applied g) c }
     ensures changed { (h g : History) (c : ChangedCursor) → IsHistory h → IsHistory g → Begins h g → c.question.to < settled h → HasChangedSo (applied h) c → HasChangedSo (applied g) c }
 {}

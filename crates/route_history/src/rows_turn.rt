@@ -6,8 +6,8 @@ ghost use Rattle.route_meaning.specs.Merged.{Placed};
 ghost use Rattle.version_model.specs.Versions.{Version};
 ghost use Rattle.version_model.specs.Blocks.{BlockNode};
 ghost use Rattle.once_store.specs.Readers.{capacity_of, reader_disk};
-ghost use Rattle.tsb_walk.specs.Inside.{KeepsInside};
-ghost use Rattle.tsb_walk.specs.Knowing.{ReadsWell, StandsKnown};
+ghost use Rattle.tsb_walk.specs.Inside.{CachesInside};
+ghost use Rattle.tsb_walk.specs.Knowing.{ReadsWell, RepresentsKnown};
 ghost use Rattle.route_history.specs.Stamps.{last_stamp};
 ghost use Rattle.route_history.specs.Fronts.{front_number};
 ghost use Rattle.route_history.specs.Blame.{BlamesNone};
@@ -96,12 +96,12 @@ pub fn take_rows_turn<V: Versions>(
     alloc: Global,
     cursor: &mut RowsCursor,
 ) -> Result<RowsTurn, NodeError>
-    ensures turn { IfOk result (λ turn. (blocks : ℕ → Option BlockNode) (all : List Version) (ps : List (Placed Admitted)) → V.stands versions.old blocks all → Reports all ps cursor.old.question.moment → Gathered all ps cursor.old → IsTurn blocks all ps cursor.old cursor.new turn) }
+    ensures turn { IfOk result (λ turn. (blocks : ℕ → Option BlockNode) (all : List Version) (ps : List (Placed Admitted)) → V.represents_all versions.old blocks all → Reports all ps cursor.old.question.moment → Gathered all ps cursor.old → IsTurn blocks all ps cursor.old cursor.new turn) }
     ensures fits { IfOk result (λ turn. HasFit cursor.new turn) }
     ensures refused { OnErr result ((all : List Version) (ps : List (Placed Admitted)) → Reports all ps cursor.old.question.moment → Gathered all ps cursor.old → Gathered all ps cursor.new) }
-    ensures blames { IfErr result (λ refusal. (blocks : ℕ → Option BlockNode) (all : List Version) → V.stands versions.old blocks all → BlamesNone refusal) }
+    ensures blames { IfErr result (λ refusal. (blocks : ℕ → Option BlockNode) (all : List Version) → V.represents_all versions.old blocks all → BlamesNone refusal) }
     ensures question { cursor.new.question ≡ cursor.old.question }
-    ensures kept { (blocks : ℕ → Option BlockNode) (all : List Version) → V.stands versions.old blocks all → V.stands versions.new blocks all }
+    ensures kept { (blocks : ℕ → Option BlockNode) (all : List Version) → V.represents_all versions.old blocks all → V.represents_all versions.new blocks all }
 {
     let Some(front) = cursor.leap() else {
         return Ok(RowsTurn::Done(cursor.report(alloc)));
@@ -130,12 +130,12 @@ impl RowsErrand {
         cursor: &mut RowsCursor,
     ) -> Result<(), BlockError>
         requires fits { IsErrandOf cursor.old self }
-        ensures finished { (all : List Version) (ps : List (Placed Admitted)) → StandsKnown O.OnceDisk reader.old seen.old all self.place → Reports all ps cursor.old.question.moment → Gathered all ps cursor.old → OnOk result (Gathered all ps cursor.new × Rose (front_number cursor.old.front) (front_number cursor.new.front)) }
+        ensures finished { (all : List Version) (ps : List (Placed Admitted)) → RepresentsKnown O.OnceDisk reader.old seen.old all self.place → Reports all ps cursor.old.question.moment → Gathered all ps cursor.old → OnOk result (Gathered all ps cursor.new × Rose (front_number cursor.old.front) (front_number cursor.new.front)) }
         ensures question { cursor.new.question ≡ cursor.old.question }
         ensures refused { OnErr result (IsSame cursor.old cursor.new) }
-        ensures reads { (all : List Version) → StandsKnown O.OnceDisk reader.old seen.old all self.place → ReadsWell O.OnceDisk reader.new seen.new }
-        ensures never { (all : List Version) → StandsKnown O.OnceDisk reader.old seen.old all self.place → (block : ℕ) → result ≡ Err (BlockError.Damaged block) → ⊥ }
-        ensures inside { KeepsInside O.OnceDisk reader.old → KeepsInside O.OnceDisk reader.new }
+        ensures reads { (all : List Version) → RepresentsKnown O.OnceDisk reader.old seen.old all self.place → ReadsWell O.OnceDisk reader.new seen.new }
+        ensures never { (all : List Version) → RepresentsKnown O.OnceDisk reader.old seen.old all self.place → (block : ℕ) → result ≡ Err (BlockError.Damaged block) → ⊥ }
+        ensures inside { CachesInside O.OnceDisk reader.old → CachesInside O.OnceDisk reader.new }
         ensures same { O.honest_seen (reader_disk reader.old) seen.old → O.known seen.new ≡ O.known seen.old }
         ensures disk { reader_disk reader.new ≡ reader_disk reader.old }
         ensures capacity { capacity_of reader.new ≡ capacity_of reader.old }

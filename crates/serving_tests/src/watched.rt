@@ -4,7 +4,7 @@ ghost use Rattle.disk_archive.specs.Cursors.{IsGathered, IsWalked, asks};
 ghost use Rattle.disk_archive.specs.Descents.{IsErrandFor};
 ghost use Rattle.once_store.specs.Readers.{kept_blocks, reader_disk};
 ghost use Rattle.shared_archive.specs.Represented.{LocatedInPast, gathered_on, walked_on};
-ghost use Rattle.shared_archive.specs.Held.{HeldFlushes, HeldLookFails, HeldReports, HoldsPast, disk_in, pages_in, right_held};
+ghost use Rattle.shared_archive.specs.Held.{HeldFlushes, HeldLookFails, HeldReports, HeldRepresents, disk_in, pages_in, right_held};
 ghost use Rattle.shared_archive.specs.Reopened.{Reopens};
 ghost use Rattle.shared_archive.specs.Reported.{Misses};
 
@@ -65,7 +65,7 @@ impl Store for WatchedStore {
 
     type Walk = ChangedCursor;
 
-    ghost represents = { λ store p. HoldsPast store.inner.archive p };
+    ghost represents = { λ store p. HeldRepresents store.inner.archive p };
 
     ghost pages = { λ store. pages_in store.inner.archive };
 

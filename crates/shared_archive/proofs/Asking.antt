@@ -8,7 +8,7 @@ use Rattle.once_store.specs.Readers.{kept_blocks, reader_disk}
 use Rattle.route_meaning.specs.History.{History, settled}
 use Rattle.interleaving_core.specs.declared.query.Query.{Query}
 use Rattle.interleaving_core.specs.Does.{last_moment}
-use Rattle.tsb_walk.specs.Inside.{KeepsInside}
+use Rattle.tsb_walk.specs.Inside.{CachesInside}
 use Rattle.tsb_walk.specs.Knowing.{ReadsWell}
 use Rattle.board.specs.Past.{Past, Among}
 use Rattle.query_threads.specs.Looks.{AreSettled, AreTheSettled}
@@ -54,9 +54,9 @@ located_past count known errand c p are l other same = record {
   gathered = l.gathered;
   versions = l.versions;
   kept = l.kept;
-  says = l.says;
-  are = λ n node here. (let b = l.are n node here in record { inside = b.inside; octets = b.octets; here = ((same n b.octets).0 ((are n b.octets).1 (b.inside, b.here))).1; says = b.says });
-  stands = l.stands;
+  represents_node = l.represents_node;
+  are = λ n node here. (let b = l.are n node here in record { inside = b.inside; octets = b.octets; here = ((same n b.octets).0 ((are n b.octets).1 (b.inside, b.here))).1; represents_node = b.represents_node });
+  represents_all = l.represents_all;
 }
 
 module _ {O Pen Seen : Type 0} (device : Ghosts O Pen Seen) (reader : ShelfReader O Pen Seen device) (seen : Seen) where
@@ -64,7 +64,7 @@ module _ {O Pen Seen : Type 0} (device : Ghosts O Pen Seen) (reader : ShelfReade
   pub reads_well : AreSettled (device.block_count (reader_disk reader)) (device.known seen) (kept_blocks reader) → device.honest_seen (reader_disk reader) seen → ReadsWell device reader seen
   reads_well are honest = record { honest = honest; kept = λ n block k. (are n block (block_of (kept_blocks reader) n block k)).1 }
 
-  pub keeps_inside : AreSettled (device.block_count (reader_disk reader)) (device.known seen) (kept_blocks reader) → KeepsInside device reader
+  pub keeps_inside : AreSettled (device.block_count (reader_disk reader)) (device.known seen) (kept_blocks reader) → CachesInside device reader
   keeps_inside are = λ n block k. (are n block (block_of (kept_blocks reader) n block k)).0
 
   -- the errand lies in the blocks that the reader knows
@@ -73,7 +73,7 @@ module _ {O Pen Seen : Type 0} (device : Ghosts O Pen Seen) (reader : ShelfReade
   located_known errand c p are honest l past = record { well = reads_well are honest; located = l (device.known seen) past }
 
   -- what a reader keeps afterwards is settled still
-  pub settled_still : (new : ShelfReader O Pen Seen device) (seen' : Seen) → ReadsWell device new seen' → KeepsInside device new → reader_disk new ≡ reader_disk reader → device.known seen' ≡ device.known seen → AreSettled (device.block_count (reader_disk reader)) (device.known seen) (kept_blocks new)
+  pub settled_still : (new : ShelfReader O Pen Seen device) (seen' : Seen) → ReadsWell device new seen' → CachesInside device new → reader_disk new ≡ reader_disk reader → device.known seen' ≡ device.known seen → AreSettled (device.block_count (reader_disk reader)) (device.known seen) (kept_blocks new)
   settled_still new seen' well inside disk known = λ n octets b.
       let k = entry_of (kept_blocks new) n octets b in
       (subst (λ (d : O). n < device.block_count d) disk (inside n octets k), ap (λ (f : ℕ → Option (List ℕ)). f n) (sym known) ∙ well.kept n octets k)
@@ -86,11 +86,11 @@ module _ {E O Pen Seen : Type 0} {erase : EraseGhosts E} {once : Ghosts O Pen Se
   from_past disk among = record { disk = disk; kept = λ n octets kept. ((k.blocks n octets).0 (among n octets (block_of (kept_blocks reader) n octets kept))).1 }
 
   -- what such a reader keeps lies on its disk
-  inside : reader_disk reader ≡ once_of a → Among (kept_blocks reader) p.blocks → KeepsInside once reader
+  inside : reader_disk reader ≡ once_of a → Among (kept_blocks reader) p.blocks → CachesInside once reader
   inside disk among n octets kept = subst (λ (d : O). n < once.block_count d) (sym disk) ((k.blocks n octets).0 (among n octets (block_of (kept_blocks reader) n octets kept))).0
 
   -- what it keeps after a call that left the blocks as they were is of the past's blocks
-  pub among_then : once_of z ≡ once_of a → once_state z ≡ once_state a → reader_disk reader ≡ once_of a → Among (kept_blocks reader) p.blocks → ReadsFrom z new → (KeepsInside once reader → KeepsInside once new) → Among (kept_blocks new) p.blocks
+  pub among_then : once_of z ≡ once_of a → once_state z ≡ once_state a → reader_disk reader ≡ once_of a → Among (kept_blocks reader) p.blocks → ReadsFrom z new → (CachesInside once reader → CachesInside once new) → Among (kept_blocks new) p.blocks
   among_then same state disk among from on_disk n octets b =
       let kept = entry_of (kept_blocks new) n octets b in
       (k.blocks n octets).1 (subst (λ (d : O). n < once.block_count d) (from.disk ∙ same) (on_disk (inside disk among) n octets kept), ap (λ (o : OnceState). o.settled n) (sym state) ∙ from.kept n octets kept)

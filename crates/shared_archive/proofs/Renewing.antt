@@ -27,7 +27,7 @@ use Rattle.disk_archive.specs.Sites.{IsNoted, Rests, Site}
 use Rattle.disk_archive.specs.Trees.{TreeLocated}
 use Rattle.disk_archive.proofs.api.Trees.{tree_grows}
 use Rattle.shared_archive.specs.Represented.{RepresentsPast, ring_pages}
-use Rattle.shared_archive.specs.Held.{AreDisks, HoldsPast, LacksPast, RestOn, disk_at, disk_in, pages_in, right_held}
+use Rattle.shared_archive.specs.Held.{AreDisks, HeldRepresents, LacksPast, RestOn, disk_at, disk_in, pages_in, right_held}
 use Rattle.shared_archive.specs.Reopened.{Fails, IsAway, IsOpen, IsUp, Reopens, erase_faults, erase_faults_at, pen_faults, pen_faults_at}
 use Rattle.shared_archive.specs.Reported.{Failed}
 use Rattle.shared_archive.proofs.Reporting.{counts_one}
@@ -154,11 +154,11 @@ module _ {E O Pen Seen : Type 0} {erase : EraseGhosts E} {once : OnceGhosts O Pe
   lacks_other (Closed s) disks others p rest k = record { remembers = k.remembers; rest = rest }
 
   -- what it holds stays
-  pub stays_held : (held : Held E O Pen Seen erase once) (p : Past) → HoldsPast held p → GoesOnAs p p
+  pub stays_held : (held : Held E O Pen Seen erase once) (p : Past) → HeldRepresents held p → GoesOnAs p p
   stays_held held p k = record { right = right_held held p k; begins = Begins-refl p.history; blocks = λ n octets b. b }
 
   -- a held archive represents a past only on disks that follow their models
-  pub holds_honest : (held : Held E O Pen Seen erase once) (p : Past) → HoldsPast held p → (e : E) × erase.honest e
+  pub holds_honest : (held : Held E O Pen Seen erase once) (p : Past) → HeldRepresents held p → (e : E) × erase.honest e
   holds_honest (Open a) p k = (erase_of a, (honest_of a p k).0)
   holds_honest (Closed s) p k = (k.disks.erase, k.lacks.rest.erasable)
 
@@ -176,12 +176,12 @@ module _ {E O Pen Seen : Type 0} {erase : EraseGhosts E} {once : OnceGhosts O Pe
 
   -- an opening on the disks that were taken away
   pub reopens_by : (a mid b : Held E O Pen Seen erase once) (disks : Disks E O Pen Seen) (r : Result (Unit {0}) Trouble) (e p : ℕ) → e ≡ erase_faults a → p ≡ pen_faults a
-      → ((x : Past) → HoldsPast a x → LacksPast mid disks x) → OnOk r (IsOpen b × ((x : Past) → LacksPast mid disks x → IsUp b)) → IfErr r (λ t. Fails ⊥ e (erase_faults b) p (pen_faults b) t) → Reopens a r b
+      → ((x : Past) → HeldRepresents a x → LacksPast mid disks x) → OnOk r (IsOpen b × ((x : Past) → LacksPast mid disks x → IsUp b)) → IfErr r (λ t. Fails ⊥ e (erase_faults b) p (pen_faults b) t) → Reopens a r b
   reopens_by a mid b disks (Ok done) e p same pen taken opens fails = (opens.0, λ x k. opens.1 x (taken x k))
   reopens_by a mid b disks (Err t) e p same pen taken opens fails = fails_of (IsAway a) e (erase_faults a) (erase_faults b) p (pen_faults a) (pen_faults b) t same pen fails
 
   -- the same where no past can be represented
-  pub reopens_files : (a b : Held E O Pen Seen erase once) (r : Result (Unit {0}) Trouble) (e p : ℕ) → e ≡ erase_faults a → p ≡ pen_faults a → ((x : Past) → HoldsPast a x → ⊥) → OnOk r (IsOpen b) → IfErr r (λ t. Fails ⊥ e (erase_faults b) p (pen_faults b) t) → Reopens a r b
+  pub reopens_files : (a b : Held E O Pen Seen erase once) (r : Result (Unit {0}) Trouble) (e p : ℕ) → e ≡ erase_faults a → p ≡ pen_faults a → ((x : Past) → HeldRepresents a x → ⊥) → OnOk r (IsOpen b) → IfErr r (λ t. Fails ⊥ e (erase_faults b) p (pen_faults b) t) → Reopens a r b
   reopens_files a b (Ok done) e p same pen never opens fails = (opens, λ x k. absurd (never x k))
   reopens_files a b (Err t) e p same pen never opens fails = fails_of (IsAway a) e (erase_faults a) (erase_faults b) p (pen_faults a) (pen_faults b) t same pen fails
 

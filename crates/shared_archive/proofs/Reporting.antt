@@ -18,7 +18,7 @@ use Rattle.disk_archive.specs.declared.flush_error.FlushError.{FlushError}
 use Rattle.disk_archive.specs.declared.flush_error.FlushError.TheVariants as flushes
 use Rattle.disk_archive.specs.declared.ask_error.AskError.{AskError}
 use Rattle.disk_archive.specs.declared.ask_error.AskError.TheVariants as asks
-use Rattle.disk_archive.specs.Archives.{GoesOn, Holds, IsHonest, erase_of, is_down, pen_in}
+use Rattle.disk_archive.specs.Archives.{GoesOn, RepresentsIfHonest, IsHonest, erase_of, is_down, pen_in}
 use Rattle.disk_archive.specs.Blanks.{NoneBlank, unused_pages}
 use Rattle.disk_archive.specs.Checks.{HasPages, root_in}
 use Rattle.disk_archive.specs.Creations.{CountsOne}
@@ -56,7 +56,7 @@ module _ {E O Pen Seen : Type 0} {erase : EraseGhosts E} {once : OnceGhosts O Pe
       → ((◌≡◌ {A = Result R AdmitError} (Err e) (Err admits.NeedsRecovery)) ↔ (is_down a ≡ true))
       → ((◌≡◌ {A = Result R AdmitError} (Err e) (Err admits.Fault)) → erase.fault_count (erase_of b) ≡ min (erase.fault_count (erase_of a) + 1) 18446744073709551615)
       → (is_down a ≡ false → is_down b ≡ true → ◌≡◌ {A = Result R AdmitError} (Err e) (Err admits.Fault))
-      → (IsHonest a → (h : History) → Holds a h → (page : ℕ) → e ≡ admits.BadNode page → ⊥)
+      → (IsHonest a → (h : History) → RepresentsIfHonest a h → (page : ℕ) → e ≡ admits.BadNode page → ⊥)
       → OnAdmitTrouble (λ t. Reports a t b) (of_admit e)
   admit_reports admits.NeedsRecovery down counted falls sound = down.0 refl
   admit_reports admits.NoCollector down counted falls sound = tt
@@ -82,11 +82,11 @@ module _ {E O Pen Seen : Type 0} {erase : EraseGhosts E} {once : OnceGhosts O Pe
       → ((◌≡◌ {A = Result R ApplyError} (Err e) (Err applies.NeedsRecovery)) ↔ (is_down a ≡ true))
       → ReportsOne (erase.fault_count (erase_of a)) (erase.fault_count (erase_of b)) (once.pen_fault_count (pen_in a)) (once.pen_fault_count (pen_in b)) (◌≡◌ {A = Result R ApplyError} (Err e) (Err applies.Fault))
       → (is_down a ≡ false → is_down b ≡ true → ◌≡◌ {A = Result R ApplyError} (Err e) (Err applies.Fault))
-      → (IsHonest a → (h : History) → Holds a h → e ≡ applies.CounterFull → sum_by (λ p. length p.item.changes) (applied h) ≡ 18446744073709551615)
+      → (IsHonest a → (h : History) → RepresentsIfHonest a h → e ≡ applies.CounterFull → sum_by (λ p. length p.item.changes) (applied h) ≡ 18446744073709551615)
       → (e ≡ applies.PagesFull → unused_pages a < 9)
       → (IsHonest a → (pages : List (List ℕ)) → HasPages a pages → e ≡ applies.TooHigh → HasRootLevel pages (root_in a) 7)
       → (IsHonest a → e ≡ applies.OnceFull → NoneBlank b)
-      → (IsHonest a → (h : History) → Holds a h → (page : ℕ) → e ≡ applies.BadNode page → ⊥)
+      → (IsHonest a → (h : History) → RepresentsIfHonest a h → (page : ℕ) → e ≡ applies.BadNode page → ⊥)
       → Reports a (of_apply e) b
   apply_reports applies.NeedsRecovery down counted falls counter few high full sound = down.0 refl
   apply_reports applies.CounterFull down counted falls counter few high full sound = (stays_up applies.CounterFull applies.NeedsRecovery applies.Fault down falls (λ i. cc) (λ i. cc), λ h on. counter (honest_going h on) h (λ _. on) refl)
@@ -108,7 +108,7 @@ module _ {E O Pen Seen : Type 0} {erase : EraseGhosts E} {once : OnceGhosts O Pe
       → ((◌≡◌ {A = Result R AskError} (Err e) (Err asks.NeedsRecovery)) ↔ (is_down a ≡ true))
       → ((◌≡◌ {A = Result R AskError} (Err e) (Err asks.Fault)) → erase.fault_count (erase_of b) ≡ min (erase.fault_count (erase_of a) + 1) 18446744073709551615)
       → is_down b ≡ is_down a
-      → (IsHonest a → (h : History) → Holds a h → (page : ℕ) → e ≡ asks.BadNode page → ⊥)
+      → (IsHonest a → (h : History) → RepresentsIfHonest a h → (page : ℕ) → e ≡ asks.BadNode page → ⊥)
       → ((block : ℕ) → e ≡ asks.Damaged block → ⊥)
       → OnAskTrouble (λ t. Reports a t b) (of_ask e)
   ask_reports asks.NeedsRecovery down counted same sound undamaged = down.0 refl

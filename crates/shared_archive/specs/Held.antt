@@ -75,12 +75,12 @@ pub record ShutPast {E O Pen Seen : Type 0} (erase : EraseGhosts E) (once : Once
   pub lacks : Lacks erase once s disks p
 
 -- It represents the past. If it isn't open, what is found when it is opened represents one that this begins.
-abbrev pub HoldsPast : {E O Pen Seen : Type 0} {erase : EraseGhosts E} {once : OnceGhosts O Pen Seen} → Held E O Pen Seen erase once → Past → Type 0
-HoldsPast (Open a) p = RepresentsPast a p
-HoldsPast {erase = erase} {once = once} (Closed s) p = ShutPast erase once s p
+abbrev pub HeldRepresents : {E O Pen Seen : Type 0} {erase : EraseGhosts E} {once : OnceGhosts O Pen Seen} → Held E O Pen Seen erase once → Past → Type 0
+HeldRepresents (Open a) p = RepresentsPast a p
+HeldRepresents {erase = erase} {once = once} (Closed s) p = ShutPast erase once s p
 
 -- a history that it holds is right
-abbrev pub right_held : {E O Pen Seen : Type 0} {erase : EraseGhosts E} {once : OnceGhosts O Pen Seen} (held : Held E O Pen Seen erase once) (p : Past) → HoldsPast held p → IsHistory p.history
+abbrev pub right_held : {E O Pen Seen : Type 0} {erase : EraseGhosts E} {once : OnceGhosts O Pen Seen} (held : Held E O Pen Seen erase once) (p : Past) → HeldRepresents held p → IsHistory p.history
 right_held (Open a) p holds = right_going a p.history holds.goes_on
 right_held (Closed s) p holds = holds.lacks.remembers.right
 

@@ -6,7 +6,7 @@ use Rattle.query_threads.specs.declared.refusal.Trouble.{Trouble}
 use Rattle.query_threads.specs.declared.refusal.Trouble.TheVariants.{Fault, NeedsRecovery, DamagedPage, DamagedBlock, CounterFull, TooHigh, PagesFull, OnceFull, OutOfMemory}
 use Rattle.board.specs.Past.{Past}
 use Rattle.disk_archive.specs.Archives.{erase_of, is_down, pen_in}
-use Rattle.shared_archive.specs.Held.{HoldsPast}
+use Rattle.shared_archive.specs.Held.{HeldRepresents}
 use Rattle.shared_archive.specs.Reported.{Failed}
 use Rattle.shared_archive.specs.declared.held.Disks.{Disks}
 use Rattle.shared_archive.specs.declared.held.Held.{Held}
@@ -62,5 +62,5 @@ IsUp (Closed s) = ⊥
 
 -- An opening of an archive returned this. After a success it is open, and if it represented a past it needn't be opened again.
 abbrev pub Reopens : {E O Pen Seen : Type 0} {erase : EraseGhosts E} {once : OnceGhosts O Pen Seen} → Held E O Pen Seen erase once → Result (Unit {0}) Trouble → Held E O Pen Seen erase once → Type 0
-Reopens a (Ok done) b = IsOpen b × ((p : Past) → HoldsPast a p → IsUp b)
+Reopens a (Ok done) b = IsOpen b × ((p : Past) → HeldRepresents a p → IsUp b)
 Reopens a (Err trouble) b = Fails (IsAway a) (erase_faults a) (erase_faults b) (pen_faults a) (pen_faults b) trouble

@@ -30,11 +30,11 @@ use route_model::{Admission, Mark};
 use std::alloc::Global;
 
 impl<E: EraseDisk + Drop, O: OnceDisk + Drop> Held<E, O> {
-    ghost use Rattle.shared_archive.specs.Held.{HeldFlushes, HeldLookFails, HeldReports, HoldsPast, disk_in, pages_in};
+    ghost use Rattle.shared_archive.specs.Held.{HeldFlushes, HeldLookFails, HeldReports, HeldRepresents, disk_in, pages_in};
 
     /// How many collectors there are.
     pub fn collectors(&self) -> u8
-        ensures { (p : Past) → HoldsPast self.now p → result ≡ length p.history.intakes }
+        ensures { (p : Past) → HeldRepresents self.now p → result ≡ length p.history.intakes }
     {
         match self {
             Held::Open(archive) => archive.collectors(),
@@ -54,7 +54,7 @@ impl<E: EraseDisk + Drop, O: OnceDisk + Drop> Held<E, O> {
 
     /// The settled watermark.
     pub fn settled(&self) -> Mark
-        ensures { (p : Past) → HoldsPast self.now p → result ≡ settled p.history }
+        ensures { (p : Past) → HeldRepresents self.now p → result ≡ settled p.history }
     {
         match self {
             Held::Open(archive) => archive.settled(),
@@ -64,7 +64,7 @@ impl<E: EraseDisk + Drop, O: OnceDisk + Drop> Held<E, O> {
 
     /// How many admissions of a collector there are, 0 of one that there isn't.
     pub fn admitted(&self, collector: u8) -> u64
-        ensures { (p : Past) → HoldsPast self.now p → result ≡ count_of p.history collector }
+        ensures { (p : Past) → HeldRepresents self.now p → result ≡ count_of p.history collector }
     {
         match self {
             Held::Open(archive) => turns::admitted(archive, collector),
@@ -77,7 +77,7 @@ impl<E: EraseDisk + Drop, O: OnceDisk + Drop> Held<E, O> {
 
     /// How much of it is used, if it is open and memory is left for the report.
     pub fn usage(&self, alloc: Global) -> Option<Usage>
-        ensures lanes { (p : Past) → HoldsPast self.now p → IfSome result (λ usage. AreLanes usage.lanes.items p.history) }
+        ensures lanes { (p : Past) → HeldRepresents self.now p → IfSome result (λ usage. AreLanes usage.lanes.items p.history) }
     {
         match self {
             Held::Open(archive) => usage_of(alloc, archive),
@@ -87,8 +87,8 @@ impl<E: EraseDisk + Drop, O: OnceDisk + Drop> Held<E, O> {
 
     /// Admits a batch.
     pub fn admit(&mut self, collector: u8, batch: &[Admission]) -> Result<BatchReply, AdmitError>
-        ensures done { (p : Past) → HoldsPast self.old p → (q : Past) × GoesOnAs p q × HoldsPast self.new q × DoesAdmit collector batch.now result p.history q.history }
-        ensures full { (p : Past) → HoldsPast self.old p → result ≡ Err AdmitError.IntakeFull → IsCrowded (pages_in self.old) p.history collector batch.now }
+        ensures done { (p : Past) → HeldRepresents self.old p → (q : Past) × GoesOnAs p q × HeldRepresents self.new q × DoesAdmit collector batch.now result p.history q.history }
+        ensures full { (p : Past) → HeldRepresents self.old p → result ≡ Err AdmitError.IntakeFull → IsCrowded (pages_in self.old) p.history collector batch.now }
         ensures trouble { IfErr result (OnAdmitTrouble (λ t. HeldReports self.old t self.new)) }
         ensures disk { disk_in self.new ≡ disk_in self.old }
         ensures pages { pages_in self.new ≡ pages_in self.old }
@@ -101,7 +101,7 @@ impl<E: EraseDisk + Drop, O: OnceDisk + Drop> Held<E, O> {
 
     /// Raises the mark of a collector.
     pub fn mark(&mut self, collector: u8, mark: Mark) -> Result<(), MarkError>
-        ensures done { (p : Past) → HoldsPast self.old p → (q : Past) × GoesOnAs p q × HoldsPast self.new q × DoesMark collector mark result p.history q.history }
+        ensures done { (p : Past) → HeldRepresents self.old p → (q : Past) × GoesOnAs p q × HeldRepresents self.new q × DoesMark collector mark result p.history q.history }
         ensures trouble { IfErr result (OnMarkTrouble (λ t. HeldReports self.old t self.new)) }
         ensures disk { disk_in self.new ≡ disk_in self.old }
         ensures pages { pages_in self.new ≡ pages_in self.old }
@@ -114,7 +114,7 @@ impl<E: EraseDisk + Drop, O: OnceDisk + Drop> Held<E, O> {
 
     /// Applies the next change, and perhaps some more.
     pub fn apply_step(&mut self) -> Result<Step, Trouble>
-        ensures done { (p : Past) → HoldsPast self.old p → (q : Past) × GoesOnAs p q × HoldsPast self.new q × DoesApply result p.history q.history }
+        ensures done { (p : Past) → HeldRepresents self.old p → (q : Past) × GoesOnAs p q × HeldRepresents self.new q × DoesApply result p.history q.history }
         ensures trouble { IfErr result (λ t. HeldReports self.old t self.new) }
         ensures disk { disk_in self.new ≡ disk_in self.old }
         ensures pages { pages_in self.new ≡ pages_in self.old }
@@ -127,7 +127,7 @@ impl<E: EraseDisk + Drop, O: OnceDisk + Drop> Held<E, O> {
 
     /// Writes a page home that waits.
     pub fn flush_step(&mut self) -> Result<Flush, Trouble>
-        ensures done { (p : Past) → HoldsPast self.old p → (q : Past) × GoesOnAs p q × HoldsPast self.new q × DoesFlush result p.history q.history }
+        ensures done { (p : Past) → HeldRepresents self.old p → (q : Past) × GoesOnAs p q × HeldRepresents self.new q × DoesFlush result p.history q.history }
         ensures flushes { IfOk result (λ step. HeldFlushes self.old step self.new) }
         ensures trouble { IfErr result (λ t. HeldReports self.old t self.new) }
         ensures disk { disk_in self.new ≡ disk_in self.old }
@@ -141,12 +141,12 @@ impl<E: EraseDisk + Drop, O: OnceDisk + Drop> Held<E, O> {
 
     /// A turn of a question.
     pub fn descend(&mut self, cursor: &mut Cursor) -> Result<Turn<Errand>, AskError>
-        ensures represents { (p : Past) → HoldsPast self.old p → HoldsPast self.new p }
+        ensures represents { (p : Past) → HeldRepresents self.old p → HeldRepresents self.new p }
         ensures asks { asks cursor.new ≡ asks cursor.old }
         ensures fits { IfOk result (λ turn. TurnGives (λ errand. IsErrandFor cursor.new errand) ⊤ (λ _. ⊤) turn) }
-        ensures settled { (p : Past) → HoldsPast self.old p → OnOk result (last_moment (asks cursor.old) < settled p.history) }
-        ensures gives { (p : Past) → HoldsPast self.old p → IsGathered cursor.old p.history → IfOk result (λ turn. TurnGives (λ errand. LocatedInPast (O.block_count (disk_in self.old)) errand cursor.new p) (IsGathered cursor.new p.history) (λ answer. IsAnswered (applied p.history) (asks cursor.old) answer) turn) }
-        ensures reported { (p : Past) → HoldsPast self.old p → IfErr result (λ e. IsReported e p.history (asks cursor.old)) }
+        ensures settled { (p : Past) → HeldRepresents self.old p → OnOk result (last_moment (asks cursor.old) < settled p.history) }
+        ensures gives { (p : Past) → HeldRepresents self.old p → IsGathered cursor.old p.history → IfOk result (λ turn. TurnGives (λ errand. LocatedInPast (O.block_count (disk_in self.old)) errand cursor.new p) (IsGathered cursor.new p.history) (λ answer. IsAnswered (applied p.history) (asks cursor.old) answer) turn) }
+        ensures reported { (p : Past) → HeldRepresents self.old p → IfErr result (λ e. IsReported e p.history (asks cursor.old)) }
         ensures trouble { IfErr result (OnAskTrouble (λ t. HeldReports self.old t self.new)) }
         ensures disk { disk_in self.new ≡ disk_in self.old }
         ensures pages { pages_in self.new ≡ pages_in self.old }
@@ -159,10 +159,10 @@ impl<E: EraseDisk + Drop, O: OnceDisk + Drop> Held<E, O> {
 
     /// A look at which blocks are settled.
     pub fn seen(&mut self) -> Result<O::Seen, Trouble>
-        ensures represents { (p : Past) → HoldsPast self.old p → HoldsPast self.new p }
-        ensures honest { (p : Past) → HoldsPast self.old p → IfOk result (λ s. O.honest_seen (disk_in self.old) s) }
-        ensures known { (p : Past) → HoldsPast self.old p → IfOk result (λ s. AreTheSettled (O.block_count (disk_in self.old)) (O.known s) p.blocks) }
-        ensures sound { (p : Past) → HoldsPast self.old p → IfErr result IsOutside }
+        ensures represents { (p : Past) → HeldRepresents self.old p → HeldRepresents self.new p }
+        ensures honest { (p : Past) → HeldRepresents self.old p → IfOk result (λ s. O.honest_seen (disk_in self.old) s) }
+        ensures known { (p : Past) → HeldRepresents self.old p → IfOk result (λ s. AreTheSettled (O.block_count (disk_in self.old)) (O.known s) p.blocks) }
+        ensures sound { (p : Past) → HeldRepresents self.old p → IfErr result IsOutside }
         ensures trouble { IfErr result (λ t. HeldReports self.old t self.new) }
         ensures disk { disk_in self.new ≡ disk_in self.old }
         ensures pages { pages_in self.new ≡ pages_in self.old }
@@ -179,13 +179,13 @@ impl<E: EraseDisk + Drop, O: OnceDisk + Drop> Held<E, O> {
         reader: &mut ShelfReader<O>,
         walk: &mut ChangedCursor,
     ) -> Result<Option<ChangedAnswer>, AskError>
-        ensures represents { (p : Past) → HoldsPast self.old p → HoldsPast self.new p }
+        ensures represents { (p : Past) → HeldRepresents self.old p → HeldRepresents self.new p }
         ensures walks { walk.new.question ≡ walk.old.question }
-        ensures settled { (p : Past) → HoldsPast self.old p → OnOk result (walk.old.question.to < settled p.history) }
-        ensures walked { (p : Past) → HoldsPast self.old p → reader_disk reader.old ≡ disk_in self.old → Among (kept_blocks reader.old) p.blocks → IsWalked walk.old p.history → IfOk result (λ found. IfNone found (IsWalked walk.new p.history)) }
-        ensures answer { (p : Past) → HoldsPast self.old p → reader_disk reader.old ≡ disk_in self.old → Among (kept_blocks reader.old) p.blocks → IsWalked walk.old p.history → IfOk result (λ found. IfSome found (λ answer. IsChangedAnswer (applied p.history) walk.old.question answer.spots.items answer.more)) }
-        ensures kept { (p : Past) → HoldsPast self.old p → reader_disk reader.old ≡ disk_in self.old → Among (kept_blocks reader.old) p.blocks → Among (kept_blocks reader.new) p.blocks }
-        ensures reported { (p : Past) → HoldsPast self.old p → reader_disk reader.old ≡ disk_in self.old → Among (kept_blocks reader.old) p.blocks → IfErr result (λ e. IsReportedAt e p.history walk.old.question.to) }
+        ensures settled { (p : Past) → HeldRepresents self.old p → OnOk result (walk.old.question.to < settled p.history) }
+        ensures walked { (p : Past) → HeldRepresents self.old p → reader_disk reader.old ≡ disk_in self.old → Among (kept_blocks reader.old) p.blocks → IsWalked walk.old p.history → IfOk result (λ found. IfNone found (IsWalked walk.new p.history)) }
+        ensures answer { (p : Past) → HeldRepresents self.old p → reader_disk reader.old ≡ disk_in self.old → Among (kept_blocks reader.old) p.blocks → IsWalked walk.old p.history → IfOk result (λ found. IfSome found (λ answer. IsChangedAnswer (applied p.history) walk.old.question answer.spots.items answer.more)) }
+        ensures kept { (p : Past) → HeldRepresents self.old p → reader_disk reader.old ≡ disk_in self.old → Among (kept_blocks reader.old) p.blocks → Among (kept_blocks reader.new) p.blocks }
+        ensures reported { (p : Past) → HeldRepresents self.old p → reader_disk reader.old ≡ disk_in self.old → Among (kept_blocks reader.old) p.blocks → IfErr result (λ e. IsReportedAt e p.history walk.old.question.to) }
         ensures trouble { IfErr result (OnAskTrouble (λ t. HeldLookFails self.old t self.new)) }
         ensures reads { reader_disk reader.new ≡ reader_disk reader.old }
         ensures disk { disk_in self.new ≡ disk_in self.old }

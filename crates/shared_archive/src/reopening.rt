@@ -70,7 +70,7 @@ fn take_from<E: EraseDisk + Drop, O: OnceDisk + Drop>(
 }
 
 impl<E: EraseDisk + Drop, O: OnceDisk + Drop> Held<E, O> {
-    ghost use Rattle.shared_archive.specs.Held.{AreDisks, HoldsPast, LacksPast, disk_in, pages_in};
+    ghost use Rattle.shared_archive.specs.Held.{AreDisks, HeldRepresents, LacksPast, disk_in, pages_in};
     ghost use Rattle.shared_archive.specs.Reopened.{IsAway, IsOpen, IsUp, Reopens, erase_faults, pen_faults};
 
     // Shuts an open archive, and returns its disks.
@@ -90,7 +90,7 @@ impl<E: EraseDisk + Drop, O: OnceDisk + Drop> Held<E, O> {
 
     /// Takes the disks away, to open the archive again on them. Without memory nothing changes.
     pub(crate) fn take_disks(&mut self, alloc: Global) -> Result<Disks<E, O>, Trouble>
-        ensures taken { (p : Past) → HoldsPast self.old p → IfOk result (λ disks. LacksPast self.new disks p) }
+        ensures taken { (p : Past) → HeldRepresents self.old p → IfOk result (λ disks. LacksPast self.new disks p) }
         ensures away { OnOk result (IsAway self.new) }
         ensures disks { IfOk result (AreDisks self.old) }
         ensures pages { pages_in self.new ≡ pages_in self.old }
@@ -109,7 +109,7 @@ impl<E: EraseDisk + Drop, O: OnceDisk + Drop> Held<E, O> {
     /// Gives the disks back that were away.
     pub(crate) fn put_disks(&mut self, disks: Disks<E, O>)
         requires away { IsAway self.old }
-        ensures kept { (p : Past) → LacksPast self.old disks p → HoldsPast self.new p }
+        ensures kept { (p : Past) → LacksPast self.old disks p → HeldRepresents self.new p }
         ensures disk { disk_in self.new ≡ disks.once.value }
         ensures pages { pages_in self.new ≡ pages_in self.old }
         ensures erase { erase_faults self.new ≡ E.fault_count disks.erase }
@@ -124,7 +124,7 @@ impl<E: EraseDisk + Drop, O: OnceDisk + Drop> Held<E, O> {
     /// Opens the archive on the disks that were away, or keeps them.
     pub(crate) fn open_on(&mut self, alloc: Global, disks: Disks<E, O>) -> Result<(), Trouble>
         requires away { IsAway self.old }
-        ensures done { (p : Past) → LacksPast self.old disks p → (q : Past) × GoesOnAs p q × HoldsPast self.new q × DoesReopen result p.history q.history }
+        ensures done { (p : Past) → LacksPast self.old disks p → (q : Past) × GoesOnAs p q × HeldRepresents self.new q × DoesReopen result p.history q.history }
         ensures disk { disk_in self.new ≡ disks.once.value }
         ensures pages { pages_in self.new ≡ pages_in self.old }
         ensures opens { OnOk result (IsOpen self.new × ((p : Past) → LacksPast self.old disks p → IsUp self.new)) }
@@ -144,7 +144,7 @@ impl<E: EraseDisk + Drop, O: OnceDisk + Drop> Held<E, O> {
 
     /// Opens the archive again on its disks. If that fails it keeps them, reports the same numbers as before, and can be opened later.
     pub fn reopen(&mut self, alloc: Global) -> Result<(), Trouble>
-        ensures done { (p : Past) → HoldsPast self.old p → (q : Past) × GoesOnAs p q × HoldsPast self.new q × DoesReopen result p.history q.history }
+        ensures done { (p : Past) → HeldRepresents self.old p → (q : Past) × GoesOnAs p q × HeldRepresents self.new q × DoesReopen result p.history q.history }
         ensures opens { Reopens self.old result self.new }
         ensures disk { disk_in self.new ≡ disk_in self.old }
         ensures pages { pages_in self.new ≡ pages_in self.old }

@@ -17,7 +17,7 @@ use Rattle.query_threads.specs.declared.refusal.AskError.{AskError}
 use Rattle.query_threads.proofs.Answering.{answer_stays}
 use Rattle.query_threads.proofs.Seen.{goes_on_then}
 use Rattle.shared_archive.specs.declared.memory.MemStore.{MemStore}
-use Rattle.shared_archive.specs.Held.{HoldsPast}
+use Rattle.shared_archive.specs.Held.{HeldRepresents}
 use Rattle.thread_tests.specs.declared.works.Work.{Work}
 use Rattle.thread_tests.specs.declared.works.Work.TheVariants.{Admit, Mark, Apply, Ask}
 use Rattle.thread_tests.specs.declared.works.Returned.{Returned}
@@ -106,11 +106,11 @@ two_pushed a b x y none one both v w empty first second ok_a ok_b =
 -- both threads began with one view, and all is there in the end
 pub is_played : (works others : List Work) (v from also to end : View) (closed : Option MemStore) (ran too : Option (Vec Returned)) (store : MemStore) (one two : Vec Returned)
     → from ≡ v → also ≡ v → closed ≡ Some store → ran ≡ Some one → too ≡ Some two
-    → IfSome closed (λ s. (last : Past) × HoldsPast s.archive last × IsFrontOf last to × IsFrontOf last end)
+    → IfSome closed (λ s. (last : Past) × HeldRepresents s.archive last × IsFrontOf last to × IsFrontOf last end)
     → IfSome ran (λ r. Follows works r.items from to) → IfSome too (λ r. Follows others r.items also end)
     → IsPlayed v works others (record { store = store; one = one; two = two })
 is_played works others v from also to end closed ran too store one two same as_well is_closed is_ran is_too ends first second =
-    let last = at_some closed (λ s. (last : Past) × HoldsPast s.archive last × IsFrontOf last to × IsFrontOf last end) store is_closed ends in
+    let last = at_some closed (λ s. (last : Past) × HeldRepresents s.archive last × IsFrontOf last to × IsFrontOf last end) store is_closed ends in
     let front = at_some ran (λ r. Follows works r.items from to) one is_ran first in
     let other = at_some too (λ r. Follows others r.items also end) two is_too second in
     record {

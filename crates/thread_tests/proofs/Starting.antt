@@ -11,7 +11,7 @@ use Rattle.route_meaning.specs.History.{Intake, History, IsHistory, all_of}
 use Rattle.interleaving_core.specs.Steps.{empty}
 use Rattle.archive_head.specs.declared.lane.Lane.{Lane}
 use Rattle.archive_pages.specs.declared.settings.Settings.{Settings}
-use Rattle.archive_pages.specs.Represented.{LaneStands}
+use Rattle.archive_pages.specs.Represented.{LaneRepresents}
 use Rattle.disk_archive.specs.declared.archive.Archive.{Archive}
 use Rattle.disk_archive.specs.Archives.{HeadRepresentsOn, Represents, GoesOn, settings_of}
 
@@ -32,8 +32,8 @@ record Counts (lane : Lane) (i : Intake) : Type 0 where
   admitted : lane.admitted ≡ length i.admitted
   mark : lane.mark ≡ i.mark
 
-counts_of : (s : Settings) (pages : List (List ℕ)) (c : ℕ) (lane : Lane) (i : Intake) (waits : List Admitted) → LaneStands s pages c lane i waits → Counts lane i
-counts_of s pages c lane i waits stands = record { offered = stands.offered; admitted = stands.admitted; mark = stands.mark }
+counts_of : (s : Settings) (pages : List (List ℕ)) (c : ℕ) (lane : Lane) (i : Intake) (waits : List Admitted) → LaneRepresents s pages c lane i waits → Counts lane i
+counts_of s pages c lane i waits represents_all = record { offered = represents_all.offered; admitted = represents_all.admitted; mark = represents_all.mark }
 
 none_given : (given : List Admitted) → length given ≡ 0 → given ≡ []
 none_given [] e = refl

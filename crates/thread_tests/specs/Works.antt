@@ -12,7 +12,7 @@ use Rattle.query_threads.specs.Seeing.{Sees, Since}
 use Rattle.query_threads.specs.Steps.{DoesAdmit, DoesMark, DoesApply}
 use Rattle.query_threads.specs.Turns.{IsReported}
 use Rattle.query_threads.specs.declared.refusal.AskError.{AskError}
-use Rattle.shared_archive.specs.Held.{HoldsPast}
+use Rattle.shared_archive.specs.Held.{HeldRepresents}
 use Rattle.thread_tests.specs.declared.works.Work.{Work}
 use Rattle.thread_tests.specs.declared.works.Work.TheVariants.{Admit, Mark, Apply, Ask}
 use Rattle.thread_tests.specs.declared.works.Returned.{Returned}
@@ -57,6 +57,6 @@ pub record IsWork (works : List Work) (returned : List Returned) (first : View) 
 -- of both lead.
 pub record IsPlayed (first : View) (works others : List Work) (played : Played) : Type 0 where
   pub last : Past
-  pub represented : HoldsPast played.store.archive last
+  pub represented : HeldRepresents played.store.archive last
   pub one : IsWork works played.one.items first last
   pub two : IsWork others played.two.items first last

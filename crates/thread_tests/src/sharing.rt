@@ -9,7 +9,7 @@ ghost use Rattle.board.specs.Past.{Past};
 ghost use Rattle.board.specs.Views.{IsFrontOf, View};
 ghost use Rattle.disk_archive.specs.Archives.{GoesOn};
 ghost use Rattle.shared_archive.specs.Represented.{RepresentsPast};
-ghost use Rattle.shared_archive.specs.Held.{HoldsPast, disk_in, pages_in};
+ghost use Rattle.shared_archive.specs.Held.{HeldRepresents, disk_in, pages_in};
 ghost use Rattle.thread_tests.specs.Works.{Follows, IsPlayed};
 
 use crate::playing::{Done, Stage, run};
@@ -66,7 +66,7 @@ fn close<N: Named + OnDisk<MemOnce>>(
     first: Pass<N>,
     second: Pass<N>,
 ) -> Option<MemStore>
-    ensures fronts { IsSome N.disk → IfSome result (λ store. (last : Past) × HoldsPast store.archive last × IsFrontOf last first × IsFrontOf last second) }
+    ensures fronts { IsSome N.disk → IfSome result (λ store. (last : Past) × HeldRepresents store.archive last × IsFrontOf last first × IsFrontOf last second) }
 {
     let mut passes = Vec::new(alloc);
     let one = passes.push(first);
@@ -91,8 +91,8 @@ fn play<N: Named + OnDisk<MemOnce> + Send + Sync, R: Threads + Wait + Sync>(
     requires some { 1 ≤ opened.collectors }
     requires disk { N.disk ≡ Some (disk_in store.archive) }
     requires pages { N.pages ≡ pages_in store.archive }
-    requires represented { (p : Past) × HoldsPast store.archive p × (length p.history.intakes ≡ opened.collectors) }
-    ensures played { IfSome result (λ played. (first : View) × HoldsPast store.archive first.past × IsPlayed first one.items two.items played) }
+    requires represented { (p : Past) × HeldRepresents store.archive p × (length p.history.intakes ≡ opened.collectors) }
+    ensures played { IfSome result (λ played. (first : View) × HeldRepresents store.archive first.past × IsPlayed first one.items two.items played) }
 {
     let (stage, mut first): (Stage<N>, Pass<N>) = Shared::new(opened, store, NoGate);
     let second = stage.split(&mut first);

@@ -40,13 +40,13 @@ rose_onward (Some a) (Some b) None r on = tt
 rose_onward (Some a) (Some b) (Some c) r on = let lt : a < b = r in let le : b ≤ c = on in omega (arith, lt, le)
 
 -- a key where a walk stands that came from this one isn't below it
-pub stands_above : (from at : ℕ) (o : Option ℕ) → IsOnward (Some from) o → NotBack o (Some at) → from ≤ at
-stands_above from at None on back = absurd back
-stands_above from at (Some n) on back = let le : from ≤ n = on in let le' : n ≤ at = back in omega (arith, le, le')
+pub represents_above : (from at : ℕ) (o : Option ℕ) → IsOnward (Some from) o → NotBack o (Some at) → from ≤ at
+represents_above from at None on back = absurd back
+represents_above from at (Some n) on back = let le : from ≤ n = on in let le' : n ≤ at = back in omega (arith, le, le')
 
 -- the key from which the run goes on isn't above where the walk stands
 pub from_below : (from : ℕ) (last front : Option ℕ) (at : ℕ) → IsFrom from last front → NotBack front (Some at) → IfSome last (λ l. l < at) → from ≤ at
-from_below from None front at is back above = stands_above from at front is back
+from_below from None front at is back above = represents_above from at front is back
 from_below from (Some l) front at is back above = let lt : l < at = above in let e : from ≡ suc l = is in omega (arith, e, lt)
 
 -- what is reached from a key on goes on from it

@@ -12,7 +12,7 @@ use Rattle.tsb_walk.specs.declared.error.NodeError.{NodeError}
 use Rattle.tsb_walk.specs.declared.error.NodeError.TheVariants as nodes
 use Rattle.tsb_walk.specs.Refusals.{LookRefusal, WalkRefusal, of_block}
 use Rattle.tsb_walk.specs.declared.page_place.PagePlace.{PagePlace}
-use Rattle.tsb_walk.specs.Knowing.{ReadsWell, StandsKnown}
+use Rattle.tsb_walk.specs.Knowing.{ReadsWell, RepresentsKnown}
 use Rattle.tsb_walk.specs.Looked.{GoesOnIn}
 use Rattle.tsb_walk.specs.Shown.{keys_at, HasKey}
 use Rattle.tsb_walk.proofs.Gathering.{known_on}
@@ -38,7 +38,7 @@ module _ {P : Type 0} (pages : Ghosts P) {O Pen Seen : Type 0} (device : OnceGho
     shown = r.shown;
     shows = shows r.start r.shown r.shows;
     store = r.store;
-    stands = r.stands;
+    represents_all = r.represents_all;
     named = r.named;
     rising = r.rising;
     well = r.well;
@@ -53,7 +53,7 @@ module _ {P : Type 0} (pages : Ghosts P) {O Pen Seen : Type 0} (device : OnceGho
     shown = r.shown;
     shows = shows r.start r.shown r.shows;
     store = r.store;
-    stands = r.stands;
+    represents_all = r.represents_all;
     named = r.named;
     rising = r.rising;
     well = well;
@@ -61,8 +61,8 @@ module _ {P : Type 0} (pages : Ghosts P) {O Pen Seen : Type 0} (device : OnceGho
   }
 
   -- the place in the past to which a look leads stands by known blocks
-  pub place_known : (held : P) (reader : ShelfReader O Pen Seen device) (seen : Seen) (r : ReadsTree pages held device reader seen root burnt all) (key stamp : ℕ) (place : Place) → GoesOnIn r.store.blocks all key stamp place → StandsKnown device reader seen all place
-  place_known held reader seen r key stamp place goes = record { well = r.well; blocks = r.store.blocks; known = r.known; stands = goes.stands }
+  pub place_known : (held : P) (reader : ShelfReader O Pen Seen device) (seen : Seen) (r : ReadsTree pages held device reader seen root burnt all) (key stamp : ℕ) (place : Place) → GoesOnIn r.store.blocks all key stamp place → RepresentsKnown device reader seen all place
+  place_known held reader seen r key stamp place goes = record { well = r.well; blocks = r.store.blocks; known = r.known; represents_all = goes.represents_all }
 
 -- where pages alone may be called bad, and none is, nothing is blamed
 pub page_blames : {A : Type 0} (r : Result A NodeError) (down : Bool) → IfErr r (LookRefusal down) → ((page : ℕ) → r ≡ Err (nodes.BadNode page) → ⊥) → IfErr r BlamesNone

@@ -8,7 +8,7 @@ use Rattle.std.proofs.lemmas.Bool.Decides.{nat_tests}
 use Rattle.version_model.specs.declared.entry.Entry.{Entry}
 use Rattle.version_model.specs.Entries.{version_of, versions_of}
 use Rattle.version_model.specs.Ranges.{Range, IsPoint}
-use Rattle.version_model.specs.Shows.{Shows}
+use Rattle.version_model.specs.LeafVersions.{LeafRepresents}
 use Rattle.version_model.specs.Versions.{Version, Has}
 use Rattle.version_model.proofs.api.LooksShown.{Has-tail, Has-head, Has-cases}
 use Rattle.version_model.proofs.api.Pushed.{Has-nil}
@@ -130,7 +130,7 @@ version_entry from first end key (entry ∷ entries) v low has of at before = el
 
 -- ---- a leaf more
 
-module _ (all : List Version) (r : Range) (leaf : List Version) (shows : Shows all r leaf) where
+module _ (all : List Version) (r : Range) (leaf : List Version) (shows : LeafRepresents all r leaf) where
   -- of the range's keys, a leaf has the versions in its stamps that there are
   leaf_all : (key first end : ℕ) → r.low ≤ key → key < r.high → r.start ≤ first → end ≤ r.end → HasWithin leaf key first end → HasWithin all key first end
   leaf_all key first end low high start upto h = record {
@@ -163,7 +163,7 @@ in_two all key first at end h = elim (cases_lt h.version.stamp at) [
   | inr ge ↦ inr (record { version = h.version; has = h.has; of_key = h.of_key; from = ge; before = h.before })
 ]
 
-pub gathers : (all : List Version) (r : Range) (leaf : List Version) (entries : List Entry) (first from at end high new : ℕ) (m n : BTreeMap ℕ ℕ) → Shows all r leaf → versions_of entries ≡ leaf → IsPoint r from at → first ≤ at → at ≤ end → end ≤ r.end → new ≤ high → new ≤ r.high
+pub gathers : (all : List Version) (r : Range) (leaf : List Version) (entries : List Entry) (first from at end high new : ℕ) (m n : BTreeMap ℕ ℕ) → LeafRepresents all r leaf → versions_of entries ≡ leaf → IsPoint r from at → first ≤ at → at ≤ end → end ≤ r.end → new ≤ high → new ≤ r.high
     → ((key : ℕ) → IsSome (get nat_cmp n key) ↔ (IsSome (get nat_cmp m key) ⊎ HasEntry from at end key entries)) → IsGathered all first from at high m → IsGathered all first from end new n
 gathers all r leaf entries first from at end high new m n shows is point begun onward within lower inside put so = record {
   above = λ key some. elim ((put key).0 some) [

@@ -28,13 +28,13 @@ use Rattle.version_model.specs.Blocks.{BlockNode}
 use Rattle.version_model.specs.Pages.{Store}
 use Rattle.version_model.specs.Ranges.{end_or}
 use Rattle.version_model.specs.Versions.{Version}
-use Rattle.tree_questions.specs.Turning.{ShowsTree, TurnsRows, TurnsEvents, GoesOnRows, GoesOnEvents}
+use Rattle.tree_questions.specs.Turning.{RepresentsTree, TurnsRows, TurnsEvents, GoesOnRows, GoesOnEvents}
 use Rattle.tree_questions.specs.inner.Reporting.{KeepsEvents, KeepsRows, ReportsOn, ReportedEvents, ReportedRows}
 
 -- where pages were only read
 pub shows_pages : {P : Type 0} (pages : Ghosts P) (root : PagePlace) (burnt : ℕ) (store : Store) (all : List Version) (held held' : P) → ((start : Start) (shown : List (List ℕ)) → pages.shows held start shown → pages.shows held' start shown)
-    → ShowsTree pages held root burnt store all → ShowsTree pages held' root burnt store all
-shows_pages pages root burnt store all held held' shows r = record { start = r.start; shown = r.shown; shows = shows r.start r.shown r.shows; stands = r.stands; named = r.named; rising = r.rising }
+    → RepresentsTree pages held root burnt store all → RepresentsTree pages held' root burnt store all
+shows_pages pages root burnt store all held held' shows r = record { start = r.start; shown = r.shown; shows = shows r.start r.shown r.shows; represents_all = r.represents_all; named = r.named; rising = r.rising }
 
 -- the walk went on from a key that isn't before the front
 pub rose_on : (f g : Option ℕ) (from : ℕ) → NotBack f (Some from) → Rose (Some from) g → Rose f g

@@ -7,7 +7,7 @@ use Rattle.page_tx.specs.declared.pages.Pages.{Ghosts}
 use Rattle.page_tx.specs.Start.{Start}
 use Rattle.tsb_walk.specs.declared.page_place.PagePlace.{PagePlace}
 use Rattle.tsb_walk.specs.Knowing.{ReadsWell, AreKnown}
-use Rattle.tsb_walk.specs.Shown.{StandsShown}
+use Rattle.tsb_walk.specs.Shown.{RepresentsShown}
 use Rattle.version_model.specs.Pages.{Store}
 use Rattle.version_model.specs.Versions.{Version, IsRising}
 
@@ -18,7 +18,7 @@ pub record ReadsTree {P : Type 0} (pages : Ghosts P) (held : P) {O Pen Seen : Ty
   pub shown : List (List ℕ)
   pub shows : pages.shows held start shown
   pub store : Store
-  pub stands : StandsShown shown store all root
+  pub represents_all : RepresentsShown shown store all root
   pub named : store.next ≤ burnt
   pub rising : IsRising all
   pub well : ReadsWell device reader seen

@@ -8,7 +8,7 @@ ghost use Rattle.once_store.specs.Readers.{capacity_of, reader_disk};
 ghost use Rattle.version_model.specs.Pages.{all_keys};
 ghost use Rattle.version_model.specs.Versions.{Version};
 ghost use Rattle.tsb_walk.specs.AllVersions.{VersionsRefusal};
-ghost use Rattle.tsb_walk.specs.Inside.{KeepsInside};
+ghost use Rattle.tsb_walk.specs.Inside.{CachesInside};
 ghost use Rattle.tsb_walk.specs.Refusals.{OnlyReads};
 ghost use Rattle.tsb_walk.specs.Shown.{keys_at};
 ghost use Rattle.route_history.specs.Blame.{BlamesNone};
@@ -50,7 +50,7 @@ pub fn changed_look<P: Pages, O: OnceDisk + Drop>(
     ensures blames { (all : List Version) → ReadsTree P.Pages pages.old O.OnceDisk reader.old seen.old root.now burnt all → IfErr result BlamesNone }
     ensures refused { IfErr result (VersionsRefusal (P.down pages.old)) }
     ensures same { OnlyReads P.Pages pages.old pages.new (result ≡ Err NodeError.Fault) }
-    ensures on_disk { KeepsInside O.OnceDisk reader.old → KeepsInside O.OnceDisk reader.new }
+    ensures on_disk { CachesInside O.OnceDisk reader.old → CachesInside O.OnceDisk reader.new }
     ensures known { O.honest_seen (reader_disk reader.old) seen.old → O.known seen.new ≡ O.known seen.old }
     ensures disk { reader_disk reader.new ≡ reader_disk reader.old }
     ensures capacity { capacity_of reader.new ≡ capacity_of reader.old }

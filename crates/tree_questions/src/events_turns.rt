@@ -12,7 +12,7 @@ ghost use Rattle.tsb_walk.specs.Shown.{keys_at};
 ghost use Rattle.route_history.specs.Blame.{BlamesNone};
 ghost use Rattle.route_history.specs.Points.{PartsAt};
 ghost use Rattle.route_history.specs.Spans.{ReportsEvents, HasReportedSo};
-ghost use Rattle.tree_questions.specs.Turning.{ShowsTree, TurnsEvents, GoesOnEvents, EventsBelow};
+ghost use Rattle.tree_questions.specs.Turning.{RepresentsTree, TurnsEvents, GoesOnEvents, EventsBelow};
 ghost use Rattle.tree_questions.specs.inner.Reporting.{KeepsEvents, ReportsOn, ReportedEvents};
 
 use crate::naming::part_named;
@@ -60,12 +60,12 @@ fn look<P: Pages>(
 ) -> Result<Parted, NodeError>
     requires all { keys_at root.now ≡ all_keys }
     requires level { 1 ≤ root.now.level }
-    ensures part { (store : Store) (all : List Version) → ShowsTree P.Pages pages.old root.now burnt store all → IfOk result (IsParted store.blocks all key from) }
-    ensures stays { (store : Store) (all : List Version) → ShowsTree P.Pages pages.old root.now burnt store all → ShowsTree P.Pages pages.new root.now burnt store all }
+    ensures part { (store : Store) (all : List Version) → RepresentsTree P.Pages pages.old root.now burnt store all → IfOk result (IsParted store.blocks all key from) }
+    ensures stays { (store : Store) (all : List Version) → RepresentsTree P.Pages pages.old root.now burnt store all → RepresentsTree P.Pages pages.new root.now burnt store all }
     ensures point { IfOk result (PartsAt key from) }
     ensures onward { IfOk result (ReportsOn from) }
     ensures named { IfOk result (PartsBelow burnt) }
-    ensures blames { (store : Store) (all : List Version) → ShowsTree P.Pages pages.old root.now burnt store all → IfErr result BlamesNone }
+    ensures blames { (store : Store) (all : List Version) → RepresentsTree P.Pages pages.old root.now burnt store all → IfErr result BlamesNone }
     ensures refused { IfErr result (LookRefusal (P.down pages.old)) }
     ensures same { OnlyReads P.Pages pages.old pages.new (result ≡ Err NodeError.Fault) }
 {
@@ -88,12 +88,12 @@ pub fn events_turn<P: Pages>(
 ) -> Result<EventsTurn, NodeError>
     requires all { keys_at root.now ≡ all_keys }
     requires level { 1 ≤ root.now.level }
-    ensures turn { (store : Store) (all : List Version) (ps : List (Placed Admitted)) → ShowsTree P.Pages pages.old root.now burnt store all → ReportsEvents all ps cursor.old.question → HasReportedSo all ps cursor.old → IfOk result (TurnsEvents store.blocks all ps cursor.old cursor.new) }
+    ensures turn { (store : Store) (all : List Version) (ps : List (Placed Admitted)) → RepresentsTree P.Pages pages.old root.now burnt store all → ReportsEvents all ps cursor.old.question → HasReportedSo all ps cursor.old → IfOk result (TurnsEvents store.blocks all ps cursor.old cursor.new) }
     ensures goes_on { IfOk result (GoesOnEvents cursor.old cursor.new) }
     ensures burnt { IfOk result (EventsBelow burnt) }
-    ensures gathered { (store : Store) (all : List Version) (ps : List (Placed Admitted)) → ShowsTree P.Pages pages.old root.now burnt store all → ReportsEvents all ps cursor.old.question → HasReportedSo all ps cursor.old → HasReportedSo all ps cursor.new }
+    ensures gathered { (store : Store) (all : List Version) (ps : List (Placed Admitted)) → RepresentsTree P.Pages pages.old root.now burnt store all → ReportsEvents all ps cursor.old.question → HasReportedSo all ps cursor.old → HasReportedSo all ps cursor.new }
     ensures question { cursor.new.question ≡ cursor.old.question }
-    ensures blames { (store : Store) (all : List Version) → ShowsTree P.Pages pages.old root.now burnt store all → IfErr result BlamesNone }
+    ensures blames { (store : Store) (all : List Version) → RepresentsTree P.Pages pages.old root.now burnt store all → IfErr result BlamesNone }
     ensures refused { IfErr result (LookRefusal (P.down pages.old)) }
     ensures same { OnlyReads P.Pages pages.old pages.new (result ≡ Err NodeError.Fault) }
 {

@@ -6,7 +6,7 @@ ghost use Rattle.version_model.specs.Pages.{Store};
 ghost use Rattle.version_model.specs.Versions.{Version, IsRising};
 ghost use Rattle.tsb_walk.specs.Looked.{IsLooked, IsParted, LooksAt, LooksBelow, LooksOn, PartsAt, PartsBelow, ReportsAll};
 ghost use Rattle.tsb_walk.specs.Refusals.{LookRefusal, OnlyReads, WalkRefusal};
-ghost use Rattle.tsb_walk.specs.Shown.{HasKey, StandsShown};
+ghost use Rattle.tsb_walk.specs.Shown.{HasKey, RepresentsShown};
 ghost use Rattle.tsb_walk.specs.inner.ColumnSpots.{IsThere};
 ghost use Rattle.tsb_walk.specs.inner.PageSteps.{HasPoint};
 ghost use Rattle.tree_questions.specs.inner.Named.{IsSpotBelow};
@@ -53,9 +53,9 @@ pub(crate) fn next_named<P: Pages>(
 ) -> Result<Looked, NodeError>
     requires has { HasKey root.now from }
     requires level { 1 ≤ root.now.level }
-    ensures next { (start : Start) (shown : List (List ℕ)) → P.shows pages.old start shown → (s : Store) (all : List Version) → StandsShown shown s all root.now → IfOk result (IsLooked s.blocks all from stamp) }
+    ensures next { (start : Start) (shown : List (List ℕ)) → P.shows pages.old start shown → (s : Store) (all : List Version) → RepresentsShown shown s all root.now → IfOk result (IsLooked s.blocks all from stamp) }
     ensures named { IfOk result (LooksBelow burnt) }
-    ensures blames { (start : Start) (shown : List (List ℕ)) → P.shows pages.old start shown → (s : Store) (all : List Version) → StandsShown shown s all root.now → s.next ≤ burnt → (page : ℕ) → result ≡ Err (NodeError.BadNode page) → ⊥ }
+    ensures blames { (start : Start) (shown : List (List ℕ)) → P.shows pages.old start shown → (s : Store) (all : List Version) → RepresentsShown shown s all root.now → s.next ≤ burnt → (page : ℕ) → result ≡ Err (NodeError.BadNode page) → ⊥ }
     ensures point { IfOk result (LooksAt from stamp) }
     ensures onward { IfOk result (LooksOn from) }
     ensures refused { IfErr result (LookRefusal (P.down pages.old)) }
@@ -79,9 +79,9 @@ pub(crate) fn part_named<P: Pages>(
 ) -> Result<Parted, NodeError>
     requires has { HasKey root.now key }
     requires level { 1 ≤ root.now.level }
-    ensures part { (start : Start) (shown : List (List ℕ)) → P.shows pages.old start shown → (s : Store) (all : List Version) → IsRising all → StandsShown shown s all root.now → IfOk result (IsParted s.blocks all key from) }
+    ensures part { (start : Start) (shown : List (List ℕ)) → P.shows pages.old start shown → (s : Store) (all : List Version) → IsRising all → RepresentsShown shown s all root.now → IfOk result (IsParted s.blocks all key from) }
     ensures named { IfOk result (PartsBelow burnt) }
-    ensures blames { (start : Start) (shown : List (List ℕ)) → P.shows pages.old start shown → (s : Store) (all : List Version) → StandsShown shown s all root.now → s.next ≤ burnt → (page : ℕ) → result ≡ Err (NodeError.BadNode page) → ⊥ }
+    ensures blames { (start : Start) (shown : List (List ℕ)) → P.shows pages.old start shown → (s : Store) (all : List Version) → RepresentsShown shown s all root.now → s.next ≤ burnt → (page : ℕ) → result ≡ Err (NodeError.BadNode page) → ⊥ }
     ensures point { IfOk result (PartsAt key from) }
     ensures reported { IfOk result ReportsAll }
     ensures refused { IfErr result (LookRefusal (P.down pages.old)) }
@@ -108,7 +108,7 @@ pub(crate) fn column_named<P: Pages>(
     ensures has { IfOk result (λ at. HasKey at.column key) }
     ensures point { IfOk result (λ at. HasPoint key stamp at.spot) }
     ensures named { IfOk result (λ at. IsSpotBelow burnt at.spot) }
-    ensures blames { (start : Start) (shown : List (List ℕ)) → P.shows pages.old start shown → (s : Store) (all : List Version) → StandsShown shown s all root.now → s.next ≤ burnt → (page : ℕ) → result ≡ Err (NodeError.BadNode page) → ⊥ }
+    ensures blames { (start : Start) (shown : List (List ℕ)) → P.shows pages.old start shown → (s : Store) (all : List Version) → RepresentsShown shown s all root.now → s.next ≤ burnt → (page : ℕ) → result ≡ Err (NodeError.BadNode page) → ⊥ }
     ensures refused { IfErr result (WalkRefusal (P.down pages.old)) }
     ensures same { OnlyReads P.Pages pages.old pages.new (result ≡ Err NodeError.Fault) }
 {

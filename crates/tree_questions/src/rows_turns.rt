@@ -10,7 +10,7 @@ ghost use Rattle.tsb_walk.specs.Refusals.{LookRefusal, OnlyReads};
 ghost use Rattle.tsb_walk.specs.Shown.{keys_at};
 ghost use Rattle.route_history.specs.Blame.{BlamesNone};
 ghost use Rattle.route_history.specs.Walks.{Reports, Gathered};
-ghost use Rattle.tree_questions.specs.Turning.{ShowsTree, TurnsRows, GoesOnRows, RowsBelow};
+ghost use Rattle.tree_questions.specs.Turning.{RepresentsTree, TurnsRows, GoesOnRows, RowsBelow};
 ghost use Rattle.tree_questions.specs.inner.Reporting.{KeepsRows, ReportedRows};
 
 use crate::naming::next_named;
@@ -64,12 +64,12 @@ pub fn rows_turn<P: Pages>(
 ) -> Result<RowsTurn, NodeError>
     requires all { keys_at root.now ≡ all_keys }
     requires level { 1 ≤ root.now.level }
-    ensures turn { (store : Store) (all : List Version) (ps : List (Placed Admitted)) → ShowsTree P.Pages pages.old root.now burnt store all → Reports all ps cursor.old.question.moment → Gathered all ps cursor.old → IfOk result (TurnsRows store.blocks all ps cursor.old cursor.new) }
+    ensures turn { (store : Store) (all : List Version) (ps : List (Placed Admitted)) → RepresentsTree P.Pages pages.old root.now burnt store all → Reports all ps cursor.old.question.moment → Gathered all ps cursor.old → IfOk result (TurnsRows store.blocks all ps cursor.old cursor.new) }
     ensures goes_on { IfOk result (GoesOnRows cursor.old cursor.new) }
     ensures burnt { IfOk result (RowsBelow burnt) }
-    ensures gathered { (store : Store) (all : List Version) (ps : List (Placed Admitted)) → ShowsTree P.Pages pages.old root.now burnt store all → Reports all ps cursor.old.question.moment → Gathered all ps cursor.old → Gathered all ps cursor.new }
+    ensures gathered { (store : Store) (all : List Version) (ps : List (Placed Admitted)) → RepresentsTree P.Pages pages.old root.now burnt store all → Reports all ps cursor.old.question.moment → Gathered all ps cursor.old → Gathered all ps cursor.new }
     ensures question { cursor.new.question ≡ cursor.old.question }
-    ensures blames { (store : Store) (all : List Version) → ShowsTree P.Pages pages.old root.now burnt store all → IfErr result BlamesNone }
+    ensures blames { (store : Store) (all : List Version) → RepresentsTree P.Pages pages.old root.now burnt store all → IfErr result BlamesNone }
     ensures refused { IfErr result (LookRefusal (P.down pages.old)) }
     ensures same { OnlyReads P.Pages pages.old pages.new (result ≡ Err NodeError.Fault) }
 {

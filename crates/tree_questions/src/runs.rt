@@ -5,7 +5,7 @@ ghost use Rattle.page_tx.specs.Start.{Start};
 ghost use Rattle.version_model.specs.Pages.{Store};
 ghost use Rattle.version_model.specs.Versions.{Version};
 ghost use Rattle.tsb_walk.specs.Refusals.{LookRefusal, OnlyReads};
-ghost use Rattle.tsb_walk.specs.Shown.{HasKey, StandsShown};
+ghost use Rattle.tsb_walk.specs.Shown.{HasKey, RepresentsShown};
 ghost use Rattle.tsb_runs.specs.Runs.{IsRun};
 
 use page_tx::Pages;
@@ -34,8 +34,8 @@ pub(crate) fn run_from<P: Pages>(
 ) -> Result<Run, NodeError>
     requires has { HasKey root.now from }
     requires level { 1 ≤ root.now.level }
-    ensures run { (start : Start) (shown : List (List ℕ)) → P.shows pages.old start shown → (s : Store) (all : List Version) → StandsShown shown s all root.now → IfOk result (IsRun all stamp from) }
-    ensures blames { (start : Start) (shown : List (List ℕ)) → P.shows pages.old start shown → (s : Store) (all : List Version) → StandsShown shown s all root.now → (page : ℕ) → result ≡ Err (NodeError.BadNode page) → ⊥ }
+    ensures run { (start : Start) (shown : List (List ℕ)) → P.shows pages.old start shown → (s : Store) (all : List Version) → RepresentsShown shown s all root.now → IfOk result (IsRun all stamp from) }
+    ensures blames { (start : Start) (shown : List (List ℕ)) → P.shows pages.old start shown → (s : Store) (all : List Version) → RepresentsShown shown s all root.now → (page : ℕ) → result ≡ Err (NodeError.BadNode page) → ⊥ }
     ensures refused { IfErr result (LookRefusal (P.down pages.old)) }
     ensures same { OnlyReads P.Pages pages.old pages.new (result ≡ Err NodeError.Fault) }
 {

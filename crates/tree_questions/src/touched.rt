@@ -5,15 +5,15 @@ ghost use Rattle.page_tx.specs.Start.{Start};
 ghost use Rattle.once_store.specs.Readers.{capacity_of, reader_disk};
 ghost use Rattle.version_model.specs.Pages.{CurrentLeaf, all_keys, current_range};
 ghost use Rattle.version_model.specs.Ranges.{IsPoint, high_or, range_of};
-ghost use Rattle.version_model.specs.Shows.{Shows};
+ghost use Rattle.version_model.specs.LeafVersions.{LeafRepresents};
 ghost use Rattle.version_model.specs.Versions.{Version};
-ghost use Rattle.tsb_node.specs.Views.{PageSays};
+ghost use Rattle.tsb_node.specs.Views.{PageRepresents};
 ghost use Rattle.tsb_walk.specs.AllVersions.{VersionsRefusal};
-ghost use Rattle.tsb_walk.specs.Inside.{KeepsInside};
-ghost use Rattle.tsb_walk.specs.Knowing.{ReadsWell, StandsKnown};
+ghost use Rattle.tsb_walk.specs.Inside.{CachesInside};
+ghost use Rattle.tsb_walk.specs.Knowing.{ReadsWell, RepresentsKnown};
 ghost use Rattle.tsb_walk.specs.PageWays.{IsNoLeaf};
 ghost use Rattle.tsb_walk.specs.Refusals.{LookRefusal, OnlyReads};
-ghost use Rattle.tsb_walk.specs.Shown.{HasKey, Says, keys_at};
+ghost use Rattle.tsb_walk.specs.Shown.{HasKey, RepresentsNode, keys_at};
 ghost use Rattle.tsb_walk.specs.Touched.{AreTouched};
 ghost use Rattle.route_history.specs.Blame.{BlamesNone};
 ghost use Rattle.tree_questions.specs.Reading.{ReadsTree};
@@ -42,13 +42,13 @@ fn take_page(
     until: Stamp,
     gathering: &mut Gathering,
 ) -> Result<(), ReadFault>
-    ensures gathered { (all versions : List Version) (first : ℕ) → PageSays page.now (CurrentLeaf (keys_at column.now) leaf.now.start versions) → Shows all (current_range (keys_at column.now) leaf.now.start) versions
+    ensures gathered { (all versions : List Version) (first : ℕ) → PageRepresents page.now (CurrentLeaf (keys_at column.now) leaf.now.start versions) → LeafRepresents all (current_range (keys_at column.now) leaf.now.start) versions
         → IsPoint (current_range (keys_at column.now) leaf.now.start) gathering.old.from gathering.old.at → first ≤ gathering.old.at → gathering.old.at ≤ until → HasGathered all first gathering.old → OnOk result (HasGathered all first gathering.new) }
     ensures inside { OnOk result (gathering.old.from < high_or gathering.old.high → gathering.old.from < high_or column.now.high → gathering.old.from < high_or gathering.new.high) }
     ensures onward { OnOk result (gathering.old.at < until → gathering.old.at < gathering.new.at) }
     ensures upto { OnOk result (gathering.new.at ≤ until) }
     ensures from { gathering.new.from ≡ gathering.old.from }
-    ensures none { result ≡ Err ReadFault.NotANode → (versions : List Version) → PageSays page.now (CurrentLeaf (keys_at column.now) leaf.now.start versions) → ⊥ }
+    ensures none { result ≡ Err ReadFault.NotANode → (versions : List Version) → PageRepresents page.now (CurrentLeaf (keys_at column.now) leaf.now.start versions) → ⊥ }
 {
     stamp_fits(gathering.at);
     if !is_current_leaf(page, column, leaf.start) {
@@ -66,7 +66,7 @@ fn take_current<P: Pages>(
     until: Stamp,
     gathering: &mut Gathering,
 ) -> Result<(), NodeError>
-    ensures gathered { (start : Start) (shown : List (List ℕ)) → P.shows pages.old start shown → (all versions : List Version) (first : ℕ) → Says shown leaf.now.page (CurrentLeaf (keys_at column.now) leaf.now.start versions) → Shows all (current_range (keys_at column.now) leaf.now.start) versions
+    ensures gathered { (start : Start) (shown : List (List ℕ)) → P.shows pages.old start shown → (all versions : List Version) (first : ℕ) → RepresentsNode shown leaf.now.page (CurrentLeaf (keys_at column.now) leaf.now.start versions) → LeafRepresents all (current_range (keys_at column.now) leaf.now.start) versions
         → IsPoint (current_range (keys_at column.now) leaf.now.start) gathering.old.from gathering.old.at → first ≤ gathering.old.at → gathering.old.at ≤ until → HasGathered all first gathering.old → OnOk result (HasGathered all first gathering.new) }
     ensures inside { OnOk result (gathering.old.from < high_or gathering.old.high → gathering.old.from < high_or column.now.high → gathering.old.from < high_or gathering.new.high) }
     ensures onward { OnOk result (gathering.old.at < until → gathering.old.at < gathering.new.at) }
@@ -96,14 +96,14 @@ fn take_past<O: OnceDisk + Drop>(
     gathering: &mut Gathering,
 ) -> Result<(), BlockError>
     requires point { IsPoint (range_of place.now.bounds) gathering.old.from gathering.old.at }
-    ensures gathered { (all : List Version) (first : ℕ) → StandsKnown O.OnceDisk reader.old seen.old all place.now → first ≤ gathering.old.at → gathering.old.at ≤ until → HasGathered all first gathering.old → OnOk result (HasGathered all first gathering.new) }
+    ensures gathered { (all : List Version) (first : ℕ) → RepresentsKnown O.OnceDisk reader.old seen.old all place.now → first ≤ gathering.old.at → gathering.old.at ≤ until → HasGathered all first gathering.old → OnOk result (HasGathered all first gathering.new) }
     ensures inside { OnOk result (gathering.old.from < high_or gathering.old.high → gathering.old.from < high_or gathering.new.high) }
     ensures onward { OnOk result (gathering.old.at < until → gathering.old.at < gathering.new.at) }
     ensures upto { OnOk result (gathering.new.at ≤ until) }
     ensures from { gathering.new.from ≡ gathering.old.from }
-    ensures reads { (all : List Version) → StandsKnown O.OnceDisk reader.old seen.old all place.now → ReadsWell O.OnceDisk reader.new seen.new }
-    ensures never { (all : List Version) → StandsKnown O.OnceDisk reader.old seen.old all place.now → (block : ℕ) → result ≡ Err (BlockError.Damaged block) → ⊥ }
-    ensures on_disk { KeepsInside O.OnceDisk reader.old → KeepsInside O.OnceDisk reader.new }
+    ensures reads { (all : List Version) → RepresentsKnown O.OnceDisk reader.old seen.old all place.now → ReadsWell O.OnceDisk reader.new seen.new }
+    ensures never { (all : List Version) → RepresentsKnown O.OnceDisk reader.old seen.old all place.now → (block : ℕ) → result ≡ Err (BlockError.Damaged block) → ⊥ }
+    ensures on_disk { CachesInside O.OnceDisk reader.old → CachesInside O.OnceDisk reader.new }
     ensures known { O.honest_seen (reader_disk reader.old) seen.old → O.known seen.new ≡ O.known seen.old }
     ensures disk { reader_disk reader.new ≡ reader_disk reader.old }
     ensures capacity { capacity_of reader.new ≡ capacity_of reader.old }
@@ -145,7 +145,7 @@ fn take_part<P: Pages, O: OnceDisk + Drop>(
     ensures blames { (all : List Version) → ReadsTree P.Pages pages.old O.OnceDisk reader.old seen.old root.now burnt all → IfErr result BlamesNone }
     ensures refused { IfErr result (VersionsRefusal (P.down pages.old)) }
     ensures same { OnlyReads P.Pages pages.old pages.new (result ≡ Err NodeError.Fault) }
-    ensures on_disk { KeepsInside O.OnceDisk reader.old → KeepsInside O.OnceDisk reader.new }
+    ensures on_disk { CachesInside O.OnceDisk reader.old → CachesInside O.OnceDisk reader.new }
     ensures known { O.honest_seen (reader_disk reader.old) seen.old → O.known seen.new ≡ O.known seen.old }
     ensures disk { reader_disk reader.new ≡ reader_disk reader.old }
     ensures capacity { capacity_of reader.new ≡ capacity_of reader.old }
@@ -201,7 +201,7 @@ pub(crate) fn touched_keys<P: Pages, O: OnceDisk + Drop>(
     ensures blames { (all : List Version) → ReadsTree P.Pages pages.old O.OnceDisk reader.old seen.old root.now burnt all → IfErr result BlamesNone }
     ensures refused { IfErr result (VersionsRefusal (P.down pages.old)) }
     ensures same { OnlyReads P.Pages pages.old pages.new (result ≡ Err NodeError.Fault) }
-    ensures on_disk { KeepsInside O.OnceDisk reader.old → KeepsInside O.OnceDisk reader.new }
+    ensures on_disk { CachesInside O.OnceDisk reader.old → CachesInside O.OnceDisk reader.new }
     ensures known { O.honest_seen (reader_disk reader.old) seen.old → O.known seen.new ≡ O.known seen.old }
     ensures disk { reader_disk reader.new ≡ reader_disk reader.old }
     ensures capacity { capacity_of reader.new ≡ capacity_of reader.old }

@@ -4,7 +4,7 @@ ghost use Rattle.std.specs.Prelude.{◌≡◌, ◌<◌, ◌≤◌, ◌↔◌, �
 ghost use Rattle.std.specs.BTreeMap.{Updates, get};
 ghost use Rattle.std.specs.Ordering.{nat_cmp};
 ghost use Rattle.version_model.specs.Ranges.{Range, IsPoint, end_or, high_or};
-ghost use Rattle.version_model.specs.Shows.{Shows};
+ghost use Rattle.version_model.specs.LeafVersions.{LeafRepresents};
 ghost use Rattle.version_model.specs.Versions.{Version};
 ghost use Rattle.tsb_node.specs.Leaves.{LeafNode, BeginsAsLeaf};
 ghost use Rattle.tsb_walk.specs.Touched.{AreTouched};
@@ -121,7 +121,7 @@ fn is_past(key: Key, high: &Option<Key>) -> bool
 impl Gathering {
     ghost use Rattle.std.specs.Prelude.{◌≡◌, ◌<◌, ◌≤◌, ℕ, List, Err, OnOk, IfOk, length};
     ghost use Rattle.version_model.specs.Ranges.{Range, IsPoint, end_or, high_or};
-    ghost use Rattle.version_model.specs.Shows.{Shows};
+    ghost use Rattle.version_model.specs.LeafVersions.{LeafRepresents};
     ghost use Rattle.version_model.specs.Versions.{Version};
     ghost use Rattle.tsb_node.specs.Leaves.{LeafNode, BeginsAsLeaf};
     ghost use Rattle.tsb_walk.specs.Touched.{AreTouched};
@@ -153,7 +153,7 @@ impl Gathering {
         until: Stamp,
     ) -> Result<(), ReadFault>
         requires size { length octets.now ≡ 16384 }
-        ensures gathered { OnOk result ((all : List Version) (r : Range) (leaf : LeafNode) (first : ℕ) → BeginsAsLeaf leaf octets.now → Shows all r leaf.versions → r.high ≡ high_or high → r.end ≡ end_or end → IsPoint r self.old.from self.old.at
+        ensures gathered { OnOk result ((all : List Version) (r : Range) (leaf : LeafNode) (first : ℕ) → BeginsAsLeaf leaf octets.now → LeafRepresents all r leaf.versions → r.high ≡ high_or high → r.end ≡ end_or end → IsPoint r self.old.from self.old.at
             → first ≤ self.old.at → self.old.at ≤ until → HasGathered all first self.old → HasGathered all first self.new) }
         ensures inside { OnOk result (self.old.from < high_or self.old.high → self.old.from < high_or high → self.old.from < high_or self.new.high) }
         ensures onward { OnOk result (self.old.at < until → self.old.at < end_or end → self.old.at < self.new.at) }

@@ -8,7 +8,7 @@ use Rattle.version_model.specs.declared.child.Child.{Child}
 use Rattle.version_model.specs.Counts.{count_in}
 use Rattle.version_model.specs.Pages.{KeyNode, current_range}
 use Rattle.tsb_walk.specs.declared.page_place.PagePlace.{PagePlace}
-use Rattle.tsb_walk.specs.Shown.{Says, keys_at}
+use Rattle.tsb_walk.specs.Shown.{RepresentsNode, keys_at}
 use Rattle.tsb_walk.specs.Knowing.{ReadsWell}
 use Rattle.tsb_check.specs.Counted.{reported}
 use Rattle.tsb_check.specs.Pages.{AreCountedUnder, none_under, column_under, children_under, IsUnder, at_top, as_child, IsColumnUnder, IsBadUnder, no_key_node, no_column, no_leaf, IsUnknownUnder, IsDamagedUnder, ReportsTree, places_under}
@@ -41,12 +41,12 @@ module _ (shown : List (List ℕ)) (places : List PagePlace) where
     pub under_last : IsUnder shown places place
     under_last = (all_back (IsUnder shown places) rest (place ∷ []) (subst AreUnder apart under)).0
 
-    pub under_children : (children : List Child) (left' : List PagePlace) → Says shown place.page (KeyNode place.level (keys_at place) children) → left' ≡ rest ++ places_under place children → AreUnder left'
-    under_children children left' says pushed =
-        subst AreUnder (sym pushed) (all_both (IsUnder shown places) rest (places_under place children) under_rest (all_from (IsUnder shown places) (places_under place children) (λ next one. as_child place next children under_last says one)))
+    pub under_children : (children : List Child) (left' : List PagePlace) → RepresentsNode shown place.page (KeyNode place.level (keys_at place) children) → left' ≡ rest ++ places_under place children → AreUnder left'
+    under_children children left' represents_node pushed =
+        subst AreUnder (sym pushed) (all_both (IsUnder shown places) rest (places_under place children) under_rest (all_from (IsUnder shown places) (places_under place children) (λ next one. as_child place next children under_last represents_node one)))
 
     column_of : place.level ≡ 1 → (c : IsColumnAt shown place) → IsColumnUnder shown places place c.parts c.start c.current
-    column_of level c = record { under = under_last; lowest = level; says = c.says }
+    column_of level c = record { under = under_last; lowest = level; represents_node = c.represents_node }
 
     pub bad_of : (page : ℕ) → place.level ≡ 1 → IsBadColumn shown place page → IsBadUnder shown places page
     bad_of _ level (bad_column never) = no_column place under_last level never
@@ -80,17 +80,17 @@ module _ (shown : List (List ℕ)) (known : ℕ → Option (List ℕ)) (count : 
           on = λ m rests.
               let e : counts.total + (m + (c + 0)) ≡ counts.total + c + m = omega arith in
               subst (AreCountedUnder shown known count places) e
-              (on_as m (c + 0) rests (column_under place [] reports.column.parts reports.column.start reports.column.current reports.versions reports.past 0 level reports.column.says reports.leaf reports.counted none_under));
+              (on_as m (c + 0) rests (column_under place [] reports.column.parts reports.column.start reports.column.current reports.versions reports.past 0 level reports.column.represents_node reports.leaf reports.counted none_under));
         }
 
-    pub counts_children : (children : List Child) (left' : List PagePlace) → Says shown place.page (KeyNode place.level (keys_at place) children) → left' ≡ rest ++ places_under place children → CountsOnUnder shown known count places left' n
-    counts_children children left' says pushed = record {
+    pub counts_children : (children : List Child) (left' : List PagePlace) → RepresentsNode shown place.page (KeyNode place.level (keys_at place) children) → left' ≡ rest ++ places_under place children → CountsOnUnder shown known count places left' n
+    counts_children children left' represents_node pushed = record {
       total = counts.total;
       is = counts.is;
       on = λ m all.
           let two = under_apart shown known count left' m all rest (places_under place children) pushed in
           let e : counts.total + (two.front + (two.back + 0)) ≡ counts.total + m = omega (arith, two.is) in
-          subst (AreCountedUnder shown known count places) e (on_as two.front (two.back + 0) two.counts_front (children_under place [] children two.back 0 says two.counts_back none_under));
+          subst (AreCountedUnder shown known count places) e (on_as two.front (two.back + 0) two.counts_front (children_under place [] children two.back 0 represents_node two.counts_back none_under));
     }
 
   pub counts_last : (left : List PagePlace) (n : ℕ) → left ≡ [] → CountsOnUnder shown known count places left n → ReportsTree shown known count places n

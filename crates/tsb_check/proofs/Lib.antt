@@ -7,7 +7,7 @@ pub mod Loops
 pub mod Reporting
 pub mod Placed
 pub mod Counts
-pub mod Standing
+pub mod Representing
 pub mod Columns
 pub mod Under
 pub mod GoingUnder

@@ -7,27 +7,27 @@ use Rattle.version_model.specs.Blocks.{OldLeaf, OldColumn, IsWider}
 use Rattle.once_store.specs.Digests.{IsWhole}
 use Rattle.tsb_node.specs.Leaves.{LeafNode, IsLeafBlock}
 use Rattle.tsb_node.specs.Columns.{ColumnInBlock, IsColumnBlock}
-use Rattle.tsb_node.specs.Views.{says_old_leaf, says_old_column}
+use Rattle.tsb_node.specs.Views.{represents_old_leaf, represents_old_column}
 use Rattle.tsb_node.proofs.api.Blocks.{leaf_begins, column_begins, leaf_whole, column_whole, one_leaf, one_column}
 use Rattle.tsb_walk.specs.Ways.{IsLeafFor, IsColumnFor}
-use Rattle.tsb_walk.proofs.Blocks.{said_leaf, said_column}
+use Rattle.tsb_walk.proofs.Blocks.{leaf_decoded, column_decoded}
 use Rattle.tsb_check.specs.Counted.{IsSoundFor, AreLower}
 
 -- what is asked for carries its digest
 pub sound_whole : (place : Place) (octets : List ℕ) → IsSoundFor place octets → IsWhole octets
-sound_whole place octets (inl leaf) = (let said = said_leaf octets (OldLeaf leaf.1.wide leaf.0) leaf.1.says leaf.1.wide leaf.0 refl in leaf_whole said.leaf octets said.block)
-sound_whole place octets (inr column) = (let said = said_column octets (OldColumn column.1.wide column.0) column.1.says column.1.wide column.0 refl in column_whole said.column octets said.block)
+sound_whole place octets (inl leaf) = (let decoded = leaf_decoded octets (OldLeaf leaf.1.wide leaf.0) leaf.1.represents_node leaf.1.wide leaf.0 refl in leaf_whole decoded.leaf octets decoded.block)
+sound_whole place octets (inr column) = (let decoded = column_decoded octets (OldColumn column.1.wide column.0) column.1.represents_node column.1.wide column.0 refl in column_whole decoded.column octets decoded.block)
 
 module _ (place : Place) (octets : List ℕ) where
   -- ---- leaves
 
   pub leaf_reported : (leaf : LeafNode) → place.part.kind ≡ LeafBlock → IsLeafBlock leaf octets → IsWider (range_of leaf.bounds) (range_of place.bounds) → IsLeafFor place octets leaf.versions
-  leaf_reported leaf kind is wider = record { wide = range_of leaf.bounds; kind = kind; says = says_old_leaf leaf is; wider = wider }
+  leaf_reported leaf kind is wider = record { wide = range_of leaf.bounds; kind = kind; represents_node = represents_old_leaf leaf is; wider = wider }
 
   sound_leaf : place.part.kind ≡ LeafBlock → IsSoundFor place octets → (leaf : LeafNode) × IsLeafBlock leaf octets × IsWider (range_of leaf.bounds) (range_of place.bounds)
   sound_leaf kind (inl leaf) =
-      let said = said_leaf octets (OldLeaf leaf.1.wide leaf.0) leaf.1.says leaf.1.wide leaf.0 refl in
-      (said.leaf, said.block, subst (λ (r : Range). IsWider r (range_of place.bounds)) (sym said.range) leaf.1.wider)
+      let decoded = leaf_decoded octets (OldLeaf leaf.1.wide leaf.0) leaf.1.represents_node leaf.1.wide leaf.0 refl in
+      (decoded.leaf, decoded.block, subst (λ (r : Range). IsWider r (range_of place.bounds)) (sym decoded.range) leaf.1.wider)
   sound_leaf kind (inr column) = absurd (let k : LeafBlock ≡ ColumnBlock = sym kind ∙ column.1.kind in cc)
 
   pub some_leaf : place.part.kind ≡ LeafBlock → IsSoundFor place octets → (leaf : LeafNode) × IsLeafBlock leaf octets
@@ -42,13 +42,13 @@ module _ (place : Place) (octets : List ℕ) where
   -- ---- columns
 
   pub column_reported : (column : ColumnInBlock) → place.part.kind ≡ ColumnBlock → IsColumnBlock column octets → IsWider (range_of column.bounds) (range_of place.bounds) → IsColumnFor place octets column.parts
-  column_reported column kind is wider = record { wide = range_of column.bounds; kind = kind; says = says_old_column column is; wider = wider }
+  column_reported column kind is wider = record { wide = range_of column.bounds; kind = kind; represents_node = represents_old_column column is; wider = wider }
 
   sound_column : place.part.kind ≡ ColumnBlock → IsSoundFor place octets → (column : ColumnInBlock) × IsColumnBlock column octets × IsWider (range_of column.bounds) (range_of place.bounds) × AreLower place.part.block column.parts
   sound_column kind (inl leaf) = absurd (let k : LeafBlock ≡ ColumnBlock = sym leaf.1.kind ∙ kind in cc)
   sound_column kind (inr column) =
-      let said = said_column octets (OldColumn column.1.wide column.0) column.1.says column.1.wide column.0 refl in
-      (said.column, said.block, subst (λ (r : Range). IsWider r (range_of place.bounds)) (sym said.range) column.1.wider, subst (AreLower place.part.block) (sym said.same) column.2)
+      let decoded = column_decoded octets (OldColumn column.1.wide column.0) column.1.represents_node column.1.wide column.0 refl in
+      (decoded.column, decoded.block, subst (λ (r : Range). IsWider r (range_of place.bounds)) (sym decoded.range) column.1.wider, subst (AreLower place.part.block) (sym decoded.same) column.2)
 
   pub some_column : place.part.kind ≡ ColumnBlock → IsSoundFor place octets → (column : ColumnInBlock) × IsColumnBlock column octets
   some_column kind sound = (let column = sound_column kind sound in (column.0, column.1))

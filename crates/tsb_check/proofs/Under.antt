@@ -14,13 +14,13 @@ module _ (shown : List (List ℕ)) (known : ℕ → Option (List ℕ)) (count : 
   under_both _ ys _ m none_under more =
       let e : m ≡ 0 + m = omega arith in
       subst (AreCountedUnder shown known count ys) e more
-  under_both _ ys _ m (column_under place rest parts start current versions c k level says leaf counted rests) more =
+  under_both _ ys _ m (column_under place rest parts start current versions c k level represents_node leaf counted rests) more =
       let n = c + count_in versions (current_range (keys_at place) start) in
       let e : n + (k + m) ≡ n + k + m = omega arith in
-      subst (AreCountedUnder shown known count (place ∷ (rest ++ ys))) e (column_under place (rest ++ ys) parts start current versions c (k + m) level says leaf counted (under_both rest ys k m rests more))
-  under_both _ ys _ m (children_under place rest children c k says inner rests) more =
+      subst (AreCountedUnder shown known count (place ∷ (rest ++ ys))) e (column_under place (rest ++ ys) parts start current versions c (k + m) level represents_node leaf counted (under_both rest ys k m rests more))
+  under_both _ ys _ m (children_under place rest children c k represents_node inner rests) more =
       let e : c + (k + m) ≡ c + k + m = omega arith in
-      subst (AreCountedUnder shown known count (place ∷ (rest ++ ys))) e (children_under place (rest ++ ys) children c (k + m) says inner (under_both rest ys k m rests more))
+      subst (AreCountedUnder shown known count (place ∷ (rest ++ ys))) e (children_under place (rest ++ ys) children c (k + m) represents_node inner (under_both rest ys k m rests more))
 
   pub record UnderApart (xs ys : List PagePlace) (t : ℕ) : Type 0 where
     pub front : ℕ
@@ -35,7 +35,7 @@ module _ (shown : List (List ℕ)) (known : ℕ → Option (List ℕ)) (count : 
   pub under_apart : (zs : List PagePlace) (t : ℕ) → AreCountedUnder shown known count zs t → (xs ys : List PagePlace) → zs ≡ xs ++ ys → UnderApart xs ys t
   under_apart zs t c [] ys e = none_before ys zs t e c
   under_apart _ _ none_under (x ∷ xs) ys e = absurd (cc)
-  under_apart _ _ (column_under place rest parts start current versions c k level says leaf counted rests) (x ∷ xs) ys e =
+  under_apart _ _ (column_under place rest parts start current versions c k level represents_node leaf counted rests) (x ∷ xs) ys e =
       let same : place ≡ x = cc in
       let tail : rest ≡ xs ++ ys = cc in
       let apart = under_apart rest k rests xs ys tail in
@@ -43,18 +43,18 @@ module _ (shown : List (List ℕ)) (known : ℕ → Option (List ℕ)) (count : 
       record {
         front = n + apart.front;
         back = apart.back;
-        counts_front = subst (λ p. AreCountedUnder shown known count (p ∷ xs) (n + apart.front)) same (column_under place xs parts start current versions c apart.front level says leaf counted apart.counts_front);
+        counts_front = subst (λ p. AreCountedUnder shown known count (p ∷ xs) (n + apart.front)) same (column_under place xs parts start current versions c apart.front level represents_node leaf counted apart.counts_front);
         counts_back = apart.counts_back;
         is = omega (arith, apart.is);
       }
-  under_apart _ _ (children_under place rest children c k says inner rests) (x ∷ xs) ys e =
+  under_apart _ _ (children_under place rest children c k represents_node inner rests) (x ∷ xs) ys e =
       let same : place ≡ x = cc in
       let tail : rest ≡ xs ++ ys = cc in
       let apart = under_apart rest k rests xs ys tail in
       record {
         front = c + apart.front;
         back = apart.back;
-        counts_front = subst (λ p. AreCountedUnder shown known count (p ∷ xs) (c + apart.front)) same (children_under place xs children c apart.front says inner apart.counts_front);
+        counts_front = subst (λ p. AreCountedUnder shown known count (p ∷ xs) (c + apart.front)) same (children_under place xs children c apart.front represents_node inner apart.counts_front);
         counts_back = apart.counts_back;
         is = omega (arith, apart.is);
       }

@@ -33,7 +33,7 @@ AreLower block parts = AllByRecursion (λ part. part.block < block) parts
 abbrev pub IsSoundFor : Place → List ℕ → Type 0
 IsSoundFor place octets = ((versions : List Version) × IsLeafFor place octets versions) ⊎ ((parts : List Part) × IsColumnFor place octets parts × AreLower place.part.block parts)
 
--- Every block of some places says what its place asks for, and this many versions are counted: those that a leaf has of its place's keys
+-- Every block of some places represents what its place asks for, and this many versions are counted: those that a leaf has of its place's keys
 -- and stamps, so that copies from before the start don't count, and those of all parts of a column.
 pub data AreCounted (known : ℕ → Option (List ℕ)) (count : ℕ) : List Place → ℕ → Type 0 where
   none_counted : AreCounted known count [] 0

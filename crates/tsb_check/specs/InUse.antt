@@ -1,7 +1,7 @@
 -- Pages and blocks of a tree that are in use.
 use Rattle.std.specs.Prelude.{◌≡◌, ℕ, ◌<◌, ◌≤◌, List}
 use Rattle.tsb_walk.specs.declared.page_place.PagePlace.{PagePlace}
-use Rattle.tsb_walk.specs.Shown.{Says, keys_at}
+use Rattle.tsb_walk.specs.Shown.{RepresentsNode, keys_at}
 use Rattle.version_model.specs.declared.part.Part.{Part}
 use Rattle.version_model.specs.Pages.{ColumnNode, Store}
 use Rattle.tsb_check.specs.declared.in_use.InUse.{InUse}
@@ -26,7 +26,7 @@ pub data IsColumnUnused (in_use : InUse) (page : ℕ) (parts : List Part) (curre
 -- the page at a place is in use, and where it is a column, the column is
 pub record IsPlaceUsed (shown : List (List ℕ)) (in_use : InUse) (place : PagePlace) : Type 0 where
   pub page_used : place.page < in_use.pages
-  pub column_used : (parts : List Part) (start current : ℕ) → place.level ≡ 1 → Says shown place.page (ColumnNode (keys_at place) parts start current) → IsColumnUsed in_use place.page parts current
+  pub column_used : (parts : List Part) (start current : ℕ) → place.level ≡ 1 → RepresentsNode shown place.page (ColumnNode (keys_at place) parts start current) → IsColumnUsed in_use place.page parts current
 
 -- all that some places lead to is in use
 abbrev pub AreInUse : List (List ℕ) → InUse → List PagePlace → Type 0

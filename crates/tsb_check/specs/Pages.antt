@@ -1,7 +1,7 @@
 -- How versions are counted when every page of a tree and every block of its past is read.
 use Rattle.std.specs.Prelude.{◌≡◌, ℕ, ◌+◌, ◌-◌, List, [], ◌∷◌, Option, Some}
 use Rattle.tsb_walk.specs.declared.page_place.PagePlace.{PagePlace}
-use Rattle.tsb_walk.specs.Shown.{Says, keys_at}
+use Rattle.tsb_walk.specs.Shown.{RepresentsNode, keys_at}
 use Rattle.tsb_walk.specs.PageWays.{IsNoKeyNode, IsNoColumn, IsNoLeaf}
 use Rattle.version_model.specs.declared.part.Part.{Part}
 use Rattle.version_model.specs.declared.part.Place.{Place}
@@ -29,27 +29,27 @@ places_under place children = children_of (place.level - 1) place.high children
 abbrev pub past_of : PagePlace → List Part → ℕ → List Place
 past_of place parts start = places_of (record { low = place.low; high = place.high; start = 0; end = Some start }) parts
 
--- Every page at some places, and every one below them, says what its place asks for, and so do the blocks of the past. This many versions
+-- Every page at some places, and every one below them, represents what its place asks for, and so do the blocks of the past. This many versions
 -- are counted: those of the past of each column, and those of its keys that its current leaf has from its start on.
 pub data AreCountedUnder (shown : List (List ℕ)) (known : ℕ → Option (List ℕ)) (count : ℕ) : List PagePlace → ℕ → Type 0 where
   none_under : AreCountedUnder shown known count [] 0
-  column_under : (place : PagePlace) (rest : List PagePlace) (parts : List Part) (start current : ℕ) (versions : List Version) (n m : ℕ) → place.level ≡ 1 → Says shown place.page (ColumnNode (keys_at place) parts start current)
-      → Says shown current (CurrentLeaf (keys_at place) start versions) → AreCounted known count (past_of place parts start) n → AreCountedUnder shown known count rest m
+  column_under : (place : PagePlace) (rest : List PagePlace) (parts : List Part) (start current : ℕ) (versions : List Version) (n m : ℕ) → place.level ≡ 1 → RepresentsNode shown place.page (ColumnNode (keys_at place) parts start current)
+      → RepresentsNode shown current (CurrentLeaf (keys_at place) start versions) → AreCounted known count (past_of place parts start) n → AreCountedUnder shown known count rest m
       → AreCountedUnder shown known count (place ∷ rest) (n + count_in versions (current_range (keys_at place) start) + m)
-  children_under : (place : PagePlace) (rest : List PagePlace) (children : List Child) (n m : ℕ) → Says shown place.page (KeyNode place.level (keys_at place) children)
+  children_under : (place : PagePlace) (rest : List PagePlace) (children : List Child) (n m : ℕ) → RepresentsNode shown place.page (KeyNode place.level (keys_at place) children)
       → AreCountedUnder shown known count (places_under place children) n → AreCountedUnder shown known count rest m → AreCountedUnder shown known count (place ∷ rest) (n + m)
 
 -- the place is one of some places, or that of a child of a key node to which they lead
 pub data IsUnder (shown : List (List ℕ)) (places : List PagePlace) : PagePlace → Type 0 where
   at_top : (place : PagePlace) → IsOneOf places place → IsUnder shown places place
-  as_child : (place next : PagePlace) (children : List Child) → IsUnder shown places place → Says shown place.page (KeyNode place.level (keys_at place) children) → IsOneOf (places_under place children) next
+  as_child : (place next : PagePlace) (children : List Child) → IsUnder shown places place → RepresentsNode shown place.page (KeyNode place.level (keys_at place) children) → IsOneOf (places_under place children) next
       → IsUnder shown places next
 
 -- some places lead to this column, with its parts, and its current leaf from a start on in a page
 pub record IsColumnUnder (shown : List (List ℕ)) (places : List PagePlace) (column : PagePlace) (parts : List Part) (start current : ℕ) : Type 0 where
   pub under : IsUnder shown places column
   pub lowest : column.level ≡ 1
-  pub says : Says shown column.page (ColumnNode (keys_at column) parts start current)
+  pub represents_node : RepresentsNode shown column.page (ColumnNode (keys_at column) parts start current)
 
 -- Some places lead to this page, and it isn't what it is to be: a key node of its place's level and keys, a column of its keys, or the
 -- current leaf of its column.

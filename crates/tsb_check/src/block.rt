@@ -88,14 +88,14 @@ fn versions_reported(alloc: Global, block: &Block, place: &Place) -> Result<Repo
     ensures sound { IsSoundFor place.now block.now → result ≡ Err ReadFault.NotANode → ⊥ }
     ensures lower { IfOk result (GoesLower place.now) }
 {
-    let said = match leaf_of_block(alloc, block) {
-        Ok(said) => said,
+    let decoded = match leaf_of_block(alloc, block) {
+        Ok(decoded) => decoded,
         Err(fault) => return Err(fault),
     };
-    if !is_wider(&said.bounds, &place.bounds) {
+    if !is_wider(&decoded.bounds, &place.bounds) {
         return Err(ReadFault::NotANode);
     }
-    Ok(Reported::Versions(count_inside(&place.bounds, &said.entries)))
+    Ok(Reported::Versions(count_inside(&place.bounds, &decoded.entries)))
 }
 
 // The parts of the column in a block.
@@ -105,17 +105,17 @@ fn parts_reported(alloc: Global, block: &Block, place: &Place) -> Result<Reporte
     ensures sound { IsSoundFor place.now block.now → result ≡ Err ReadFault.NotANode → ⊥ }
     ensures lower { IfOk result (GoesLower place.now) }
 {
-    let said = match column_of_block(alloc, block) {
-        Ok(said) => said,
+    let decoded = match column_of_block(alloc, block) {
+        Ok(decoded) => decoded,
         Err(fault) => return Err(fault),
     };
-    if !is_wider(&said.bounds, &place.bounds) {
+    if !is_wider(&decoded.bounds, &place.bounds) {
         return Err(ReadFault::NotANode);
     }
-    if !are_lower(&said.parts, place.part.block) {
+    if !are_lower(&decoded.parts, place.part.block) {
         return Err(ReadFault::NotANode);
     }
-    Ok(Reported::Parts(said.parts))
+    Ok(Reported::Parts(decoded.parts))
 }
 
 /// What a block holds for a place. Fails with NotANode exactly if it isn't what the place asks for: a leaf or a column, by the place's

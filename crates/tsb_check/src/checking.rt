@@ -3,12 +3,12 @@
 ghost use Rattle.std.specs.Prelude.{◌≡◌, ◌↔◌, ◌⊎◌, ◌<◌, ◌+◌, ◌++◌, ◌∷◌, [], ℕ, List, IfOk, OnOk, IfErr, Err, IsErrOf, length, min};
 ghost use Rattle.once_store.specs.Readers.{capacity_of, reader_disk};
 ghost use Rattle.page_tx.specs.Start.{Start};
-ghost use Rattle.version_model.specs.Pages.{Store, TreeStands, all_keys};
+ghost use Rattle.version_model.specs.Pages.{Store, TreeRepresents, all_keys};
 ghost use Rattle.version_model.specs.Versions.{Version};
 ghost use Rattle.tsb_walk.specs.AllVersions.{VersionsRefusal};
 ghost use Rattle.tsb_walk.specs.Knowing.{ReadsWell, AreKnown};
 ghost use Rattle.tsb_walk.specs.Refusals.{OnlyReads};
-ghost use Rattle.tsb_walk.specs.Shown.{AreShown, StandsShown, keys_at};
+ghost use Rattle.tsb_walk.specs.Shown.{RepresentNodes, RepresentsShown, keys_at};
 ghost use Rattle.tsb_check.specs.Counted.{reported};
 ghost use Rattle.tsb_check.specs.inner.GoingUnder.{IsPlaceTaken, AreLeftBy, IsPlaceBad, IsTakenUsed, IsTakenUnused, IsPlaceDamaged, IsPlaceUnknown, page_weight};
 ghost use Rattle.tsb_check.specs.InUse.{AreInUse, IsUnusedUnder, IsWithin};
@@ -101,7 +101,7 @@ pub fn count_under<P: Pages, O: OnceDisk + Drop>(
     Ok(count)
 }
 
-/// Checks the tree with this root: every page and block that is reached from it says what the one above asks for, and the result is the
+/// Checks the tree with this root: every page and block that is reached from it represents what the one above asks for, and the result is the
 /// number of the tree's versions, each counted once. The pages that are reached, and the blocks that their columns name, are in use.
 ///
 /// The error names the first page or block that doesn't. If a column names a block that was never burnt, that is the column's page;
@@ -115,10 +115,10 @@ pub fn check<P: Pages, O: OnceDisk + Drop>(
     in_use: &InUse,
     root: &PagePlace,
 ) -> Result<u64, NodeError>
-    ensures counted { (start : Start) (shown : List (List ℕ)) → P.shows pages.old start shown → (s : Store) (all : List Version) → AreShown shown s.nodes → keys_at root.now ≡ all_keys → TreeStands s all root.now.page root.now.level
+    ensures counted { (start : Start) (shown : List (List ℕ)) → P.shows pages.old start shown → (s : Store) (all : List Version) → RepresentNodes shown s.nodes → keys_at root.now ≡ all_keys → TreeRepresents s all root.now.page root.now.level
         → ReadsWell O.OnceDisk reader.old seen.old → AreKnown (O.known seen.old) (O.block_count (reader_disk reader.old)) s.blocks → IfOk result (λ n. n ≡ reported (length all)) }
-    ensures blames { (start : Start) (shown : List (List ℕ)) → P.shows pages.old start shown → (s : Store) (all : List Version) → StandsShown shown s all root.now → IsWithin s in_use.now → (page : ℕ) → result ≡ Err (NodeError.BadNode page) → ⊥ }
-    ensures never { (start : Start) (shown : List (List ℕ)) → P.shows pages.old start shown → (s : Store) (all : List Version) → StandsShown shown s all root.now
+    ensures blames { (start : Start) (shown : List (List ℕ)) → P.shows pages.old start shown → (s : Store) (all : List Version) → RepresentsShown shown s all root.now → IsWithin s in_use.now → (page : ℕ) → result ≡ Err (NodeError.BadNode page) → ⊥ }
+    ensures never { (start : Start) (shown : List (List ℕ)) → P.shows pages.old start shown → (s : Store) (all : List Version) → RepresentsShown shown s all root.now
         → ReadsWell O.OnceDisk reader.old seen.old → AreKnown (O.known seen.old) (O.block_count (reader_disk reader.old)) s.blocks → (block : ℕ) → result ≡ Err (NodeError.Damaged block) → ⊥ }
     ensures checked { (start : Start) (shown : List (List ℕ)) → P.shows pages.old start shown → ReadsWell O.OnceDisk reader.old seen.old
         → IfOk result (λ n. ReportsTree shown (O.known seen.old) (O.block_count (reader_disk reader.old)) (root.now ∷ []) n ⊎ IsUnknownUnder shown (O.known seen.old) (O.block_count (reader_disk reader.old)) (root.now ∷ [])) }

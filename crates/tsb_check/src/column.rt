@@ -18,7 +18,7 @@ use disk_models::OnceDisk;
 use once_store::{BlockError, ShelfReader};
 use page_tx::Pages;
 use std::alloc::{AllocError, Global};
-use tsb_node::ColumnSaid;
+use tsb_node::DecodedColumn;
 use tsb_walk::{NodeError, PagePlace};
 use version_model::{Bounds, Place, Stamp};
 
@@ -27,28 +27,32 @@ fn current_of<P: Pages>(
     pages: &mut P,
     alloc: Global,
     place: &PagePlace,
-) -> Result<(ColumnSaid, u64), NodeError>
-    ensures says { (start : Start) (shown : List (List ℕ)) → P.shows pages.old start shown → IfOk result (λ read. HasCurrent shown place.now read.0 read.1) }
+) -> Result<(DecodedColumn, u64), NodeError>
+    ensures represents_node { (start : Start) (shown : List (List ℕ)) → P.shows pages.old start shown → IfOk result (λ read. HasCurrent shown place.now read.0 read.1) }
     ensures bad { (start : Start) (shown : List (List ℕ)) → P.shows pages.old start shown → (page : ℕ) → result ≡ Err (NodeError.BadNode page) → IsBadColumn shown place.now page }
     ensures refused { IfErr result (LookRefusal (P.down pages.old)) }
     ensures pages { OnlyReads P.Pages pages.old pages.new (result ≡ Err NodeError.Fault) }
 {
-    let said = column_at(pages, alloc, place)?;
-    let current = count_current(pages, alloc, place, &said.current)?;
-    Ok((said, current))
+    let decoded = column_at(pages, alloc, place)?;
+    let current = count_current(pages, alloc, place, &decoded.current)?;
+    Ok((decoded, current))
 }
 
 // The places of the past of a column.
-fn places_in(alloc: Global, place: &PagePlace, said: &ColumnSaid) -> Result<Vec<Place>, AllocError>
-    ensures { IfOk result (λ places. places.items ≡ past_of place.now said.now.parts.items said.now.current.start) }
+fn places_in(
+    alloc: Global,
+    place: &PagePlace,
+    decoded: &DecodedColumn,
+) -> Result<Vec<Place>, AllocError>
+    ensures { IfOk result (λ places. places.items ≡ past_of place.now decoded.now.parts.items decoded.now.current.start) }
 {
     let bounds = Bounds {
         low: place.low,
         high: place.high,
         start: Stamp::new(0, 0),
-        end: Some(said.current.start),
+        end: Some(decoded.current.start),
     };
-    let places = list_places(alloc, &bounds, &said.parts)?;
+    let places = list_places(alloc, &bounds, &decoded.parts)?;
     Ok(places)
 }
 
@@ -58,13 +62,13 @@ fn count_before<O: OnceDisk + Drop>(
     seen: &mut O::Seen,
     alloc: Global,
     place: &PagePlace,
-    said: &ColumnSaid,
+    decoded: &DecodedColumn,
 ) -> Result<u64, BlockError>
     ensures checked { ReadsWell O.OnceDisk reader.old seen.old
-        → IfOk result (λ n. ReportsPast (O.known seen.old) (O.block_count (reader_disk reader.old)) (past_of place.now said.now.parts.items said.now.current.start) n ⊎ MeetUnknown (O.known seen.old) (O.block_count (reader_disk reader.old)) (past_of place.now said.now.parts.items said.now.current.start)) }
+        → IfOk result (λ n. ReportsPast (O.known seen.old) (O.block_count (reader_disk reader.old)) (past_of place.now decoded.now.parts.items decoded.now.current.start) n ⊎ MeetUnknown (O.known seen.old) (O.block_count (reader_disk reader.old)) (past_of place.now decoded.now.parts.items decoded.now.current.start)) }
     ensures damaged { ReadsWell O.OnceDisk reader.old seen.old → (block : ℕ) → result ≡ Err (BlockError.Damaged block)
-        → MeetDamage (O.known seen.old) (O.block_count (reader_disk reader.old)) (past_of place.now said.now.parts.items said.now.current.start) block ⊎ MeetUnknown (O.known seen.old) (O.block_count (reader_disk reader.old)) (past_of place.now said.now.parts.items said.now.current.start) }
-    ensures reads { ReadsWell O.OnceDisk reader.old seen.old → ReadsWell O.OnceDisk reader.new seen.new ⊎ MeetUnknown (O.known seen.old) (O.block_count (reader_disk reader.old)) (past_of place.now said.now.parts.items said.now.current.start) }
+        → MeetDamage (O.known seen.old) (O.block_count (reader_disk reader.old)) (past_of place.now decoded.now.parts.items decoded.now.current.start) block ⊎ MeetUnknown (O.known seen.old) (O.block_count (reader_disk reader.old)) (past_of place.now decoded.now.parts.items decoded.now.current.start) }
+    ensures reads { ReadsWell O.OnceDisk reader.old seen.old → ReadsWell O.OnceDisk reader.new seen.new ⊎ MeetUnknown (O.known seen.old) (O.block_count (reader_disk reader.old)) (past_of place.now decoded.now.parts.items decoded.now.current.start) }
     ensures same { O.honest_seen (reader_disk reader.old) seen.old → O.known seen.new ≡ O.known seen.old }
     ensures disk { reader_disk reader.new ≡ reader_disk reader.old }
     ensures capacity { capacity_of reader.new ≡ capacity_of reader.old }
@@ -72,7 +76,7 @@ fn count_before<O: OnceDisk + Drop>(
     ensures quiet { (IsErrOf result BlockError.Fault → ⊥) → O.seen_fault_count seen.new ≡ O.seen_fault_count seen.old }
     ensures counted { IsErrOf result BlockError.Fault → O.seen_fault_count seen.new ≡ min (O.seen_fault_count seen.old + 1) 18446744073709551615 }
 {
-    let places = places_in(alloc, place, said)?;
+    let places = places_in(alloc, place, decoded)?;
     count_past(reader, seen, alloc, places)
 }
 
@@ -102,8 +106,8 @@ pub fn count_column<P: Pages, O: OnceDisk + Drop>(
     ensures quiet { (IsErrOf result NodeError.OnceFault → ⊥) → O.seen_fault_count seen.new ≡ O.seen_fault_count seen.old }
     ensures counted { IsErrOf result NodeError.OnceFault → O.seen_fault_count seen.new ≡ min (O.seen_fault_count seen.old + 1) 18446744073709551615 }
 {
-    let (said, current) = current_of(pages, alloc, place)?;
-    check_column(in_use, place.page, &said)?;
-    let past = count_before(reader, seen, alloc, place, &said)?;
+    let (decoded, current) = current_of(pages, alloc, place)?;
+    check_column(in_use, place.page, &decoded)?;
+    let past = count_before(reader, seen, alloc, place, &decoded)?;
     Ok(past.saturating_add(current))
 }

@@ -5,7 +5,7 @@ ghost use Rattle.tsb_walk.specs.Refusals.{IsDamage};
 ghost use Rattle.tsb_check.specs.InUse.{IsColumnUsed, IsColumnUnused};
 
 use crate::block::are_lower;
-use tsb_node::ColumnSaid;
+use tsb_node::DecodedColumn;
 use tsb_walk::NodeError;
 
 /// Which pages and blocks are in use.
@@ -34,18 +34,18 @@ pub fn check_page(in_use: &InUse, page: u64) -> Result<(), NodeError>
 
 /// Returns an error if something that the column on a page uses isn't in use. The page itself is bad if it names a block that was
 /// never burnt; else the page with the record.
-pub fn check_column(in_use: &InUse, page: u64, said: &ColumnSaid) -> Result<(), NodeError>
-    ensures used { OnOk result (IsColumnUsed in_use.now page said.now.parts.items said.now.current.page) }
-    ensures bad { (n : ℕ) → result ≡ Err (NodeError.BadNode n) → IsColumnUnused in_use.now page said.now.parts.items said.now.current.page n }
+pub fn check_column(in_use: &InUse, page: u64, decoded: &DecodedColumn) -> Result<(), NodeError>
+    ensures used { OnOk result (IsColumnUsed in_use.now page decoded.now.parts.items decoded.now.current.page) }
+    ensures bad { (n : ℕ) → result ≡ Err (NodeError.BadNode n) → IsColumnUnused in_use.now page decoded.now.parts.items decoded.now.current.page n }
     ensures damage { IfErr result IsDamage }
 {
-    if !are_lower(&said.parts, in_use.burnt) {
+    if !are_lower(&decoded.parts, in_use.burnt) {
         return Err(NodeError::BadNode(page));
     }
-    if !are_lower(&said.parts, in_use.blocks) {
+    if !are_lower(&decoded.parts, in_use.blocks) {
         return Err(NodeError::BadNode(in_use.recorded_on));
     }
     check_page(in_use, page)?;
-    check_page(in_use, said.current.page)?;
+    check_page(in_use, decoded.current.page)?;
     Ok(())
 }

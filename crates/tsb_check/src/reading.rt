@@ -7,13 +7,13 @@ ghost use Rattle.version_model.specs.Pages.{CurrentLeaf, ColumnNode, KeyNode, cu
 ghost use Rattle.version_model.specs.Versions.{Version};
 ghost use Rattle.tsb_walk.specs.PageWays.{IsNoKeyNode, IsNoColumn, IsNoLeaf};
 ghost use Rattle.tsb_walk.specs.Refusals.{OnlyReads, LookRefusal};
-ghost use Rattle.tsb_walk.specs.Shown.{Says, keys_at};
+ghost use Rattle.tsb_walk.specs.Shown.{RepresentsNode, keys_at};
 
 use crate::counting::count_inside;
 use crate::page::{children_in, column_in, leaf_in};
 use page_tx::Pages;
 use std::alloc::Global;
-use tsb_node::{ColumnSaid, Current, ReadFault};
+use tsb_node::{Current, DecodedColumn, ReadFault};
 use tsb_walk::{NodeError, PagePlace, bring};
 use version_model::{Bounds, Child};
 
@@ -35,7 +35,7 @@ pub fn children_at<P: Pages>(
     alloc: Global,
     place: &PagePlace,
 ) -> Result<Vec<Child>, NodeError>
-    ensures says { (start : Start) (shown : List (List ℕ)) → P.shows pages.old start shown → IfOk result (λ children. Says shown place.now.page (KeyNode place.now.level (keys_at place.now) children.items)) }
+    ensures represents_node { (start : Start) (shown : List (List ℕ)) → P.shows pages.old start shown → IfOk result (λ children. RepresentsNode shown place.now.page (KeyNode place.now.level (keys_at place.now) children.items)) }
     ensures bad { (start : Start) (shown : List (List ℕ)) → P.shows pages.old start shown → (page : ℕ) → result ≡ Err (NodeError.BadNode page) → (place.now.page ≡ page) × IsNoKeyNode shown place.now }
     ensures few { IfOk result (λ children. length children.items ≤ 338) }
     ensures above { IfOk result (λ _. 2 ≤ place.now.level) }
@@ -57,8 +57,8 @@ pub fn column_at<P: Pages>(
     pages: &mut P,
     alloc: Global,
     place: &PagePlace,
-) -> Result<ColumnSaid, NodeError>
-    ensures says { (start : Start) (shown : List (List ℕ)) → P.shows pages.old start shown → IfOk result (λ said. Says shown place.now.page (ColumnNode (keys_at place.now) said.parts.items said.current.start said.current.page)) }
+) -> Result<DecodedColumn, NodeError>
+    ensures represents_node { (start : Start) (shown : List (List ℕ)) → P.shows pages.old start shown → IfOk result (λ decoded. RepresentsNode shown place.now.page (ColumnNode (keys_at place.now) decoded.parts.items decoded.current.start decoded.current.page)) }
     ensures bad { (start : Start) (shown : List (List ℕ)) → P.shows pages.old start shown → (page : ℕ) → result ≡ Err (NodeError.BadNode page) → (place.now.page ≡ page) × IsNoColumn shown place.now }
     ensures refused { IfErr result (LookRefusal (P.down pages.old)) }
     ensures same { OnlyReads P.Pages pages.old pages.new (result ≡ Err NodeError.Fault) }
@@ -68,7 +68,7 @@ pub fn column_at<P: Pages>(
         unreachable!();
     };
     match column_in(alloc, page, place) {
-        Ok(said) => Ok(said),
+        Ok(decoded) => Ok(decoded),
         Err(fault) => Err(refusal_of(fault, place.page)),
     }
 }
@@ -81,7 +81,7 @@ pub fn count_current<P: Pages>(
     current: &Current,
 ) -> Result<u64, NodeError>
     ensures counts { (start : Start) (shown : List (List ℕ)) → P.shows pages.old start shown
-        → IfOk result (λ n. (versions : List Version) × Says shown current.now.page (CurrentLeaf (keys_at column.now) current.now.start versions) × (n ≡ count_in versions (current_range (keys_at column.now) current.now.start))) }
+        → IfOk result (λ n. (versions : List Version) × RepresentsNode shown current.now.page (CurrentLeaf (keys_at column.now) current.now.start versions) × (n ≡ count_in versions (current_range (keys_at column.now) current.now.start))) }
     ensures bad { (start : Start) (shown : List (List ℕ)) → P.shows pages.old start shown → (page : ℕ) → result ≡ Err (NodeError.BadNode page) → (current.now.page ≡ page) × IsNoLeaf shown column.now current.now.start page }
     ensures refused { IfErr result (LookRefusal (P.down pages.old)) }
     ensures same { OnlyReads P.Pages pages.old pages.new (result ≡ Err NodeError.Fault) }
@@ -90,8 +90,8 @@ pub fn count_current<P: Pages>(
     let Some(page) = pages.page(current.page) else {
         unreachable!();
     };
-    let said = match leaf_in(alloc, page, column, current.start) {
-        Ok(said) => said,
+    let decoded = match leaf_in(alloc, page, column, current.start) {
+        Ok(decoded) => decoded,
         Err(fault) => return Err(refusal_of(fault, current.page)),
     };
     let bounds = Bounds {
@@ -100,5 +100,5 @@ pub fn count_current<P: Pages>(
         start: current.start,
         end: None,
     };
-    Ok(count_inside(&bounds, &said.entries))
+    Ok(count_inside(&bounds, &decoded.entries))
 }

@@ -18,7 +18,7 @@ use Rattle.tsb_node.proofs.Entries.{entry_read, entry-size, entries_read, after-
 use Rattle.tsb_node.proofs.HeaderLaws.{are-drop, are-take, again_in, number_in-lt, take_on}
 use Rattle.version_model.proofs.api.Pushed.{IsRising-push}
 use Rattle.tsb_node.proofs.Laying.{entries-push, all_push}
-use Rattle.tsb_node.proofs.Scanning.{key_said, stamp_said, value_said, value_none, value_some}
+use Rattle.tsb_node.proofs.Scanning.{key_decoded, stamp_decoded, value_decoded, value_none, value_some}
 
 -- ---- one entry
 
@@ -63,12 +63,12 @@ encoded_here b bytes are whole small le end low high =
     record {
       whole = whole;
       valid = record {
-        short = record { low = rw (key_said bytes) low; high = rw (key_said bytes) high; size = rw (value_said bytes) (omega (arith, size)) };
-        key = rw (key_said bytes) (number_in-lt 40 0 bytes are (omega (arith, whole)));
-        stamp = rw (stamp_said bytes) (number_in-lt 16 40 bytes are (omega (arith, whole)));
-        octets = rw (value_said bytes, v.octets) (are-take n (drop 59 bytes) (are-drop 59 bytes are));
+        short = record { low = rw (key_decoded bytes) low; high = rw (key_decoded bytes) high; size = rw (value_decoded bytes) (omega (arith, size)) };
+        key = rw (key_decoded bytes) (number_in-lt 40 0 bytes are (omega (arith, whole)));
+        stamp = rw (stamp_decoded bytes) (number_in-lt 16 40 bytes are (omega (arith, whole)));
+        octets = rw (value_decoded bytes, v.octets) (are-take n (drop 59 bytes) (are-drop 59 bytes are));
       };
-      encoded = rw (key_said bytes, stamp_said bytes, value_said bytes)
+      encoded = rw (key_decoded bytes, stamp_decoded bytes, value_decoded bytes)
           (rw (take_on 59 n bytes, take_on 57 2 bytes, take_on 56 1 bytes, take_on 40 16 bytes, k, s, t, l, v.octets) refl);
     }
 
@@ -143,7 +143,7 @@ check_on b bytes rest n last c sp is =
     let next : suc n ≡ n + 1 = omega arith in
     let more : versions_in (n + 1) bytes ≡ vs ++ v ∷ [] =
     ap (λ (m : ℕ). versions_in m bytes) (sym next) ∙ versions_more n bytes ∙ ap (λ (t : List ℕ). vs ++ version_in t ∷ []) (sym c.at) in
-    let above : IsAbove vs v.stamp = rw (stamp_said rest) (above_last vs last s c.newest is) in
+    let above : IsAbove vs v.stamp = rw (stamp_decoded rest) (above_last vs last s c.newest is) in
     record {
       at = ap after_version c.at ∙ sym (after-next n bytes) ∙ ap (λ (m : ℕ). after m bytes) next;
       whole = c.whole ∙ ap (λ (t : List ℕ). entries vs ++ t) (is_front b rest sp) ∙ sym (append_assoc (entries vs) (entry v) (after_version rest))
@@ -152,10 +152,10 @@ check_on b bytes rest n last c sp is =
       rising = subst IsRising (sym more) (IsRising-push vs v c.rising above);
       newest = subst (λ (t : List Version). LastIs t (Some s)) (sym more) (
         λ w h. elim (get_cases vs v w h.place h.is) [
-          | inl old ↦ (let lt = above.above w (record { place = h.place; is = old }) in omega (arith, stamp_said rest))
-          | inr new ↦ omega (arith, ap (λ (x : Version). x.stamp) new, stamp_said rest)
+          | inl old ↦ (let lt = above.above w (record { place = h.place; is = old }) in omega (arith, stamp_decoded rest))
+          | inr new ↦ omega (arith, ap (λ (x : Version). x.stamp) new, stamp_decoded rest)
         ],
-        (v, record { place = length vs; is = get_last vs v }, stamp_said rest),
+        (v, record { place = length vs; is = get_last vs v }, stamp_decoded rest),
       );
     }
 
@@ -173,8 +173,8 @@ check_end b bytes rest count last c none = record {
     empty (x ∷ xs) e = absurd (omega (arith, e))
 
 -- what follows the first n entries
-stands_at : (b : Bounds) (count n : ℕ) (bytes : List ℕ) (are : AreEntries b count bytes) → n ≤ count → after n bytes ≡ entries (drop n are.versions)
-stands_at b count n bytes are le =
+represents_at : (b : Bounds) (count n : ℕ) (bytes : List ℕ) (are : AreEntries b count bytes) → n ≤ count → after n bytes ≡ entries (drop n are.versions)
+represents_at b count n bytes are le =
     ap (after n) (are.encoded ∙ sym (append-nil (entries are.versions))) ∙ after_encoded b n are.versions [] are.each (omega (arith, are.counted)) ∙ append-nil (entries (drop n are.versions))
 
 drop_cons : (n : ℕ) (vs : List Version) → n < length vs → (v : Version) × (more : List Version) × (drop n vs ≡ v ∷ more)
@@ -191,16 +191,16 @@ entries-cons : (v : Version) (vs : List Version) → entries (v ∷ vs) ≡ entr
 unfolding entries
 entries-cons v vs = refl
 
-pub entry_stands : (b : Bounds) (count n : ℕ) (bytes rest : List ℕ) → AreEntries b count bytes → n < count → rest ≡ after n bytes → IsEncoded b rest
-entry_stands b count n bytes rest are lt at =
+pub entry_represents : (b : Bounds) (count n : ℕ) (bytes rest : List ℕ) → AreEntries b count bytes → n < count → rest ≡ after n bytes → IsEncoded b rest
+entry_represents b count n bytes rest are lt at =
     let d = drop_cons n are.versions (omega (arith, are.counted)) in
-    let here : rest ≡ entry d.0 ++ entries d.1 = at ∙ stands_at b count n bytes are (omega arith) ∙ ap entries d.2 ∙ entries-cons d.0 d.1 in
+    let here : rest ≡ entry d.0 ++ entries d.1 = at ∙ represents_at b count n bytes are (omega arith) ∙ ap entries d.2 ∙ entries-cons d.0 d.1 in
     let all = subst (AllByRecursion (IsVersionOf b)) d.2 (all_drop (IsVersionOf b) n are.versions are.each) in
     subst (IsEncoded b) (sym here) (is_encoded b d.0 (entries d.1) all.0)
 
-pub stamp_stands : (b : Bounds) (count n : ℕ) (bytes rest : List ℕ) (last : Option ℕ) → AreEntries b count bytes → n < count → Checked b bytes rest n last → IsAfter (number_in 16 40 rest) last
-stamp_stands b count n bytes rest None are lt c = tt
-stamp_stands b count n bytes rest (Some l) are lt c =
+pub stamp_represents : (b : Bounds) (count n : ℕ) (bytes rest : List ℕ) (last : Option ℕ) → AreEntries b count bytes → n < count → Checked b bytes rest n last → IsAfter (number_in 16 40 rest) last
+stamp_represents b count n bytes rest None are lt c = tt
+stamp_represents b count n bytes rest (Some l) are lt c =
     let same : versions_in count bytes ≡ are.versions =
     ap (versions_in count) (are.encoded ∙ sym (append-nil (entries are.versions))) ∙ ap (λ (m : ℕ). versions_in m (entries are.versions ++ [])) (sym are.counted) ∙ entries_read b are.versions [] are.each in
     let rising : IsRising (versions_in count bytes) = subst IsRising (sym same) are.rising in
@@ -211,12 +211,12 @@ stamp_stands b count n bytes rest (Some l) are lt c =
     let first : slice_get (versions_in count bytes) has.place ≡ Some w = version_at count has.place bytes (omega arith) ∙ ap Some is in
     let second : slice_get (versions_in count bytes) n ≡ Some (version_in rest) = version_at count n bytes lt ∙ ap (λ (t : List ℕ). Some (version_in t)) (sym c.at) in
     let h : w.stamp < (version_in rest).stamp = rising.rises has.place n w (version_in rest) below first second in
-    omega (arith, h, stamp_said rest, c.newest.1.2)
+    omega (arith, h, stamp_decoded rest, c.newest.1.2)
 
 pub nothing_after : (b : Bounds) (count : ℕ) (bytes rest : List ℕ) → AreEntries b count bytes → rest ≡ after count bytes → length rest ≡ 0
 unfolding entries
 nothing_after b count bytes rest are at =
-    ap length (at ∙ stands_at b count count bytes are (omega arith)) ∙ ap (λ (t : List Version). length (flat_map entry t)) (drop_all count are.versions are.counted)
+    ap length (at ∙ represents_at b count count bytes are (omega arith)) ∙ ap (λ (t : List Version). length (flat_map entry t)) (drop_all count are.versions are.counted)
   where
     drop_all : (n : ℕ) (vs : List Version) → length vs ≡ n → drop n vs ≡ []
     drop_all zero [] e = refl

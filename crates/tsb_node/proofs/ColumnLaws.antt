@@ -18,7 +18,7 @@ use Rattle.version_model.specs.Blocks.{start_or}
 use Rattle.tsb_node.specs.inner.PartReading.{IsPlaceBefore, start_at}
 use Rattle.tsb_node.specs.inner.Reading.{area}
 use Rattle.tsb_node.proofs.NumberLaws.{octets_of-size, octets_of-number, field_in, drop_twice}
-use Rattle.tsb_node.proofs.Leaves.{body_says, body_area}
+use Rattle.tsb_node.proofs.Leaves.{body_represents, body_area}
 
 -- ---- the search
 
@@ -82,16 +82,16 @@ part-size p = place-size p.start (part_kind p.kind) p.block
 
 -- ---- many: the i-th part, and what follows all of them
 
-pub part_stands : (ps : List Part) (i : ℕ) (p : Part) (rest : List ℕ) → slice_get ps i ≡ Some p → (more : List ℕ) × (drop (25 * i) (flat_map part_octets ps ++ rest) ≡ part_octets p ++ more)
-part_stands [] i p rest e = absurd (none-some p e)
-part_stands (q ∷ ps) zero p rest e =
+pub part_represents : (ps : List Part) (i : ℕ) (p : Part) (rest : List ℕ) → slice_get ps i ≡ Some p → (more : List ℕ) × (drop (25 * i) (flat_map part_octets ps ++ rest) ≡ part_octets p ++ more)
+part_represents [] i p rest e = absurd (none-some p e)
+part_represents (q ∷ ps) zero p rest e =
     let same : q ≡ p = same_Some q p e in (
       flat_map part_octets ps ++ rest,
       ap (λ (k : ℕ). drop k (flat_map part_octets (q ∷ ps) ++ rest)) (let z : 25 * 0 ≡ 0 = omega arith in z) ∙ append_assoc (part_octets q) (flat_map part_octets ps) rest
           ∙ ap (λ (x : Part). part_octets x ++ (flat_map part_octets ps ++ rest)) same,
     )
-part_stands (q ∷ ps) (suc i) p rest e =
-    let t = part_stands ps i p rest e in
+part_represents (q ∷ ps) (suc i) p rest e =
+    let t = part_represents ps i p rest e in
     let split : 25 * suc i ≡ 25 + 25 * i = omega arith in (
       t.0,
       ap (λ (k : ℕ). drop k (flat_map part_octets (q ∷ ps) ++ rest)) split ∙ sym (drop_twice 25 (25 * i) (flat_map part_octets (q ∷ ps) ++ rest))
@@ -123,12 +123,12 @@ column-size : (c : ColumnInPage) → length (flat_map part_octets c.parts ++ cur
 unfolding current_octets
 column-size c = omega (arith, parts-size c.parts, place-size c.current.start 0 c.current.page, length-append (flat_map part_octets c.parts) (place_octets c.current.start 0 c.current.page))
 
-column_says : (c : ColumnInPage) (octets : List ℕ) → BeginsAsColumn c octets → number_in 2 4 octets ≡ length c.parts + 1
-column_says c octets is =
+column_represents : (c : ColumnInPage) (octets : List ℕ) → BeginsAsColumn c octets → number_in 2 4 octets ≡ length c.parts + 1
+column_represents c octets is =
     let es : List ℕ = flat_map part_octets c.parts ++ current_octets c.current in
     let fits : length es ≤ 16232 = omega (arith, column-size c, is.valid.follow.fits) in
-    let says = body_says 2 1 (length c.parts + 1) c.bounds es is.last (omega (arith, is.valid.follow.fits)) fits is.valid.bounds.low is.valid.bounds.start in
-    ap (number_in 2 4) is.encoded ∙ says.count_is
+    let represents_node = body_represents 2 1 (length c.parts + 1) c.bounds es is.last (omega (arith, is.valid.follow.fits)) fits is.valid.bounds.low is.valid.bounds.start in
+    ap (number_in 2 4) is.encoded ∙ represents_node.count_is
 
 -- what follows the parts
 after_parts : (c : ColumnInPage) (octets : List ℕ) → BeginsAsColumn c octets → (more : List ℕ) × (area octets ≡ flat_map part_octets c.parts ++ (current_octets c.current ++ more))
@@ -141,7 +141,7 @@ after_parts c octets is =
 
 start_of_part : (ps : List Part) (i : ℕ) (p : Part) (bytes rest : List ℕ) → AllByRecursion IsPartEntry ps → slice_get ps i ≡ Some p → bytes ≡ flat_map part_octets ps ++ rest → start_at i bytes ≡ p.start
 start_of_part ps i p bytes rest all at e =
-    let t = part_stands ps i p rest at in
+    let t = part_represents ps i p rest at in
     ap (λ (l : List ℕ). number_in 16 0 (drop (25 * i) l)) e ∙ ap (number_in 16 0) t.1 ∙ (part_read p t.0 (all_at ps i p all at)).start_is
 
 current_here : (c : ColumnInPage) (octets : List ℕ) → BeginsAsColumn c octets → PlaceReads c.current.start 0 c.current.page (drop (25 * length c.parts) (area octets))
@@ -151,7 +151,7 @@ current_here c octets is =
     subst (PlaceReads c.current.start 0 c.current.page) (sym here) (current_read c.current b.0 is.valid.current_start is.valid.current_page)
 
 pub column_count : (c : ColumnInPage) (octets : List ℕ) (count : ℕ) → BeginsAsColumn c octets → count ≡ number_in 2 4 octets → (0 < count) × (count ≤ 649)
-column_count c octets count is e = (omega (arith, e, column_says c octets is), omega (arith, e, column_says c octets is, is.valid.follow.fits))
+column_count c octets count is e = (omega (arith, e, column_represents c octets is), omega (arith, e, column_represents c octets is, is.valid.follow.fits))
 
 first_start : (ps : List Part) (start : ℕ) (p : Part) (rest : List ℕ) → BeginsAt start (starts_of ps ++ rest) → slice_get ps 0 ≡ Some p → p.start ≡ start
 first_start [] start p rest b e = absurd (none-some p e)
@@ -165,7 +165,7 @@ pub spot_page : (c : ColumnInPage) (octets : List ℕ) (count stamp at start pag
     → start ≡ number_in 16 at (area octets) → page ≡ number_in 8 (at + 17) (area octets) → ((record { start = start; page = page }) ≡ c.current) × (c.current.start ≤ stamp)
 spot_page c octets count stamp at start page is counted before end s p =
     let n : ℕ = length c.parts in
-    let last : before.place ≡ n = omega (arith, counted, column_says c octets is, before.at_place, end) in
+    let last : before.place ≡ n = omega (arith, counted, column_represents c octets is, before.at_place, end) in
     let here : at ≡ 25 * n = before.at_place ∙ ap (λ (k : ℕ). 25 * k) last in
     let r = current_here c octets is in
     let start_is : start ≡ c.current.start = s ∙ ap (λ (k : ℕ). number_in 16 k (area octets)) here ∙ r.start_is in
@@ -190,12 +190,12 @@ pub part_there : (c : ColumnInPage) (octets : List ℕ) (count stamp at : ℕ) �
     → (p : Part) × (rest : List ℕ) × IsPartEntry p × (slice_get c.parts before.place ≡ Some p) × (drop at (area octets) ≡ part_octets p ++ rest)
 part_there c octets count stamp at is counted before never =
     let lt : before.place < length c.parts = elim (cases_order before.place (length c.parts)) [
-      | inl same ↦ absurd (never (omega (arith, same, counted, column_says c octets is, before.at_place)))
-      | inr other ↦ omega (arith, other, before.below, counted, column_says c octets is)
+      | inl same ↦ absurd (never (omega (arith, same, counted, column_represents c octets is, before.at_place)))
+      | inr other ↦ omega (arith, other, before.below, counted, column_represents c octets is)
     ] in
     let g = get_within c.parts before.place lt in
     let b = after_parts c octets is in
-    let t = part_stands c.parts before.place g.0 (current_octets c.current ++ b.0) g.1 in
+    let t = part_represents c.parts before.place g.0 (current_octets c.current ++ b.0) g.1 in
     (g.0, t.0, all_at c.parts before.place g.0 is.valid.each g.1, g.1, ap (λ (k : ℕ). drop k (area octets)) before.at_place ∙ ap (drop (25 * before.place)) b.1 ∙ t.1)
 
 pub spot_block : (c : ColumnInPage) (octets : List ℕ) (count stamp at end : ℕ) (p : Part) → BeginsAsColumn c octets → count ≡ number_in 2 4 octets → (before : IsPlaceBefore count (area octets) stamp at)
@@ -214,7 +214,7 @@ spot_block c octets count stamp at end p is counted before here e =
         | inl le ↦ omega (arith, le, start)
         | inr first ↦ omega (arith, first_start c.parts c.bounds.start p (c.current.start ∷ []) is.valid.follow.first (ap (slice_get c.parts) (sym first) ∙ here), is.valid.follow.from_first)
       ];
-      before = omega (arith, next, before.next (omega (arith, lt, counted, column_says c octets is)));
+      before = omega (arith, next, before.next (omega (arith, lt, counted, column_represents c octets is)));
     }
 
 pub index_drop : (at i : ℕ) (xs : List ℕ) → slice_index (drop at xs) i ≡ slice_index xs (at + i)
@@ -238,12 +238,12 @@ ok_is a b e = cc e
 
 -- ---- the column of a block
 
-old_column_says : (c : ColumnInBlock) (octets : List ℕ) → BeginsAsOldColumn c octets → number_in 2 4 octets ≡ length c.parts
-old_column_says c octets is =
+old_column_represents : (c : ColumnInBlock) (octets : List ℕ) → BeginsAsOldColumn c octets → number_in 2 4 octets ≡ length c.parts
+old_column_represents c octets is =
     let es : List ℕ = flat_map part_octets c.parts in
     let fits : length es ≤ 16232 = omega (arith, parts-size c.parts, is.valid.follow.fits) in
-    let says = body_says 2 1 (length c.parts) c.bounds es is.last (omega (arith, is.valid.follow.fits)) fits is.valid.bounds.low is.valid.bounds.start in
-    ap (number_in 2 4) is.encoded ∙ says.count_is
+    let represents_node = body_represents 2 1 (length c.parts) c.bounds es is.last (omega (arith, is.valid.follow.fits)) fits is.valid.bounds.low is.valid.bounds.start in
+    ap (number_in 2 4) is.encoded ∙ represents_node.count_is
 
 old_area : (c : ColumnInBlock) (octets : List ℕ) → BeginsAsOldColumn c octets → (more : List ℕ) × (area octets ≡ flat_map part_octets c.parts ++ more)
 old_area c octets is =
@@ -260,14 +260,14 @@ first_of [] start p b e = absurd (none-some p e)
 first_of (q ∷ ps) start p b e = ap (λ (x : Part). x.start) (sym (same_Some q p e)) ∙ b
 
 pub old_count : (c : ColumnInBlock) (octets : List ℕ) (count : ℕ) → BeginsAsOldColumn c octets → count ≡ number_in 2 4 octets → (0 < count) × (count ≤ 649)
-old_count c octets count is e = (omega (arith, e, old_column_says c octets is, some_part c.parts c.bounds.start is.valid.follow.first), omega (arith, e, old_column_says c octets is, is.valid.follow.fits))
+old_count c octets count is e = (omega (arith, e, old_column_represents c octets is, some_part c.parts c.bounds.start is.valid.follow.first), omega (arith, e, old_column_represents c octets is, is.valid.follow.fits))
 
 pub old_there : (c : ColumnInBlock) (octets : List ℕ) (count stamp at : ℕ) → BeginsAsOldColumn c octets → count ≡ number_in 2 4 octets → (before : IsPlaceBefore count (area octets) stamp at)
     → (p : Part) × (rest : List ℕ) × IsPartEntry p × (slice_get c.parts before.place ≡ Some p) × (drop at (area octets) ≡ part_octets p ++ rest)
 old_there c octets count stamp at is counted before =
-    let g = get_within c.parts before.place (omega (arith, before.below, counted, old_column_says c octets is)) in
+    let g = get_within c.parts before.place (omega (arith, before.below, counted, old_column_represents c octets is)) in
     let b = old_area c octets is in
-    let t = part_stands c.parts before.place g.0 b.0 g.1 in
+    let t = part_represents c.parts before.place g.0 b.0 g.1 in
     (g.0, t.0, all_at c.parts before.place g.0 is.valid.each g.1, g.1, ap (λ (k : ℕ). drop k (area octets)) before.at_place ∙ ap (drop (25 * before.place)) b.1 ∙ t.1)
 
 old_start : (c : ColumnInBlock) (octets : List ℕ) (count stamp at : ℕ) (p : Part) → BeginsAsOldColumn c octets → (before : IsPlaceBefore count (area octets) stamp at) → c.bounds.start ≤ stamp
@@ -284,7 +284,7 @@ pub old_last : (c : ColumnInBlock) (octets : List ℕ) (count stamp at end : ℕ
 old_last c octets count stamp at end p is counted before done from upto here = record {
   place = before.place;
   at = here;
-  to_end = sym (ap (start_or end) (get_past c.parts (suc before.place) (omega (arith, done, before.at_place, counted, old_column_says c octets is))));
+  to_end = sym (ap (start_or end) (get_past c.parts (suc before.place) (omega (arith, done, before.at_place, counted, old_column_represents c octets is))));
   start = old_start c octets count stamp at p is before from here;
   before = upto;
 }
@@ -298,7 +298,7 @@ old_next c octets count stamp at end next p is counted before never from e here 
     ] in
     let there : at + 25 ≡ 25 * suc before.place = omega (arith, before.at_place) in
     let next_is : next ≡ start_at (suc before.place) (area octets) = e ∙ ap (λ (k : ℕ). number_in 16 k (area octets)) there in
-    let g = get_within c.parts (suc before.place) (omega (arith, more, counted, old_column_says c octets is)) in
+    let g = get_within c.parts (suc before.place) (omega (arith, more, counted, old_column_represents c octets is)) in
     let b = old_area c octets is in
     record {
       place = before.place;

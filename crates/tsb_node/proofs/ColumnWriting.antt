@@ -58,7 +58,7 @@ put_end ps n at old sheet done w h f = subst (λ (l : List Part). IsFilling h (f
 pub put_each : (ps : List Part) (n at : ℕ) (old sheet : List ℕ) → length ps ≤ n → HasPut ps n at old sheet → AllByRecursion IsPartEntry ps
 put_each ps n at old sheet done w = subst (AllByRecursion IsPartEntry) (take_all n ps done) w.each
 
--- what writers are asked, and what types say
+-- what writers are asked, and what types represent
 pub column_valid : (c : ColumnInPage) → CanBeColumn c → IsBounds c.bounds → AllByRecursion IsPartEntry c.parts → c.current.start < 256 ^ 16 → c.current.page < 256 ^ 8 → IsColumn c
 column_valid c can bounds each start page = record { bounds = bounds; each = each; current_start = start; current_page = page; follow = can.follow }
 

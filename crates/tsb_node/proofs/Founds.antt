@@ -1,4 +1,4 @@
--- What is found in octets, or that there is none, said of a node that they are.
+-- What is found in octets of a node, or that nothing is, holds of that node.
 use Rattle.std.proofs.Common.{Option, Some, None, IfSome, IfNone}
 
 pub some_along : {X Y : Type 0} (o : Option Y) (P Q : X → Type 0) (IsOf : X → Y → Type 0) → ((x : X) → P x → Q x) → IfSome o (λ y. (x : X) × P x × IsOf x y) → IfSome o (λ y. (x : X) × Q x × IsOf x y)

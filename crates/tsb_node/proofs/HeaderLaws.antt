@@ -15,7 +15,7 @@ use Rattle.tsb_node.specs.Headers.{HasHeader}
 use Rattle.tsb_node.specs.declared.header.Header.{Header}
 use Rattle.version_model.specs.declared.bounds.Bounds.{Bounds}
 use Rattle.tsb_node.proofs.NumberLaws.{octets_of-number, octets_of-again}
-use Rattle.tsb_node.proofs.Leaves.{HeaderSays, header_says}
+use Rattle.tsb_node.proofs.Leaves.{HasHeaderOf, header_represents}
 
 pub are-drop : (n : ℕ) (xs : List ℕ) → AreOctets xs → AreOctets (drop n xs)
 are-drop zero xs are = are
@@ -95,7 +95,7 @@ four (a ∷ b ∷ []) le = absurd (omega arith)
 four (a ∷ b ∷ c ∷ []) le = absurd (omega arith)
 four (a ∷ b ∷ c ∷ d ∷ xs) le = refl
 
--- what octets say as a header, with these bounds at its ends
+-- what octets represent as a header, with these bounds at its ends
 abbrev pub bounds_in : List ℕ → Option ℕ → Option ℕ → Bounds
 bounds_in octets high end = record { low = number_in 40 8 octets; high = high; start = number_in 16 88 octets; end = end }
 
@@ -114,10 +114,10 @@ header_encoded octets high end are le unit_zero zero_zero high_is end_is =
     rw (take_on 104 16 octets, take_on 88 16 octets, take_on 48 40 octets, take_on 8 40 octets, take_on 6 2 octets, take_on 4 2 octets, e0, f1, f2, f3, f5, high_is, end_is) refl
 
 -- an encoded header reads as its fields
-pub has_says : (h : Header) (octets : List ℕ) → HasHeader h octets → HeaderSays h.kind 0 h.level h.count h.used h.bounds octets
-has_says h octets has =
-    subst (HeaderSays h.kind 0 h.level h.count h.used h.bounds) (ap (λ (t : List ℕ). t ++ drop 120 octets) (sym has.encoded) ∙ take-append-drop 120 octets)
-    (header_says h.kind 0 h.level h.count h.used h.bounds (drop 120 octets) has.count has.used has.bounds.low has.bounds.start)
+pub has_represents : (h : Header) (octets : List ℕ) → HasHeader h octets → HasHeaderOf h.kind 0 h.level h.count h.used h.bounds octets
+has_represents h octets has =
+    subst (HasHeaderOf h.kind 0 h.level h.count h.used h.bounds) (ap (λ (t : List ℕ). t ++ drop 120 octets) (sym has.encoded) ∙ take-append-drop 120 octets)
+    (header_represents h.kind 0 h.level h.count h.used h.bounds (drop 120 octets) has.count has.used has.bounds.low has.bounds.start)
 
 pub both_some : (P Q : ℕ → Type 0) (o : Option ℕ) → IfSome o P → IfSome o Q → IfSome o (λ n. P n × Q n)
 both_some P Q None p q = tt
@@ -149,20 +149,20 @@ has_header octets kind level count used low start high end are le u z k l c s lo
 
 -- the bounds that are read are those of the header
 pub high_is : (h : Header) (octets : List ℕ) (high : Option ℕ) → HasHeader h octets → bound_octets 40 high ≡ take 40 (drop 48 octets) → IfSome high (λ n. n + 1 < 256 ^ 40) → high ≡ h.bounds.high
-high_is h octets high has e p = bound_one 40 high h.bounds.high p (first_some (λ n. n + 1 < 256 ^ 40) (λ n. h.bounds.low < n) h.bounds.high has.bounds.order.high) (e ∙ (has_says h octets has).high_is)
+high_is h octets high has e p = bound_one 40 high h.bounds.high p (first_some (λ n. n + 1 < 256 ^ 40) (λ n. h.bounds.low < n) h.bounds.high has.bounds.order.high) (e ∙ (has_represents h octets has).high_is)
 
 pub end_is : (h : Header) (octets : List ℕ) (end : Option ℕ) → HasHeader h octets → bound_octets 16 end ≡ take 16 (drop 104 octets) → IfSome end (λ n. n + 1 < 256 ^ 16) → end ≡ h.bounds.end
-end_is h octets end has e p = bound_one 16 end h.bounds.end p (first_some (λ n. n + 1 < 256 ^ 16) (λ n. h.bounds.start < n) h.bounds.end has.bounds.order.end) (e ∙ (has_says h octets has).end_is)
+end_is h octets end has e p = bound_one 16 end h.bounds.end p (first_some (λ n. n + 1 < 256 ^ 16) (λ n. h.bounds.start < n) h.bounds.end has.bounds.order.end) (e ∙ (has_represents h octets has).end_is)
 
 -- so they are in order
 pub high_fits : (h : Header) (octets : List ℕ) (low : ℕ) (high : Option ℕ) → HasHeader h octets → low ≡ number_in 40 8 octets → bound_octets 40 high ≡ take 40 (drop 48 octets) → IfSome high (λ n. n + 1 < 256 ^ 40) → IfSome high (λ n. low < n)
 high_fits h octets low high has lo e p =
-    let l : low ≡ h.bounds.low = lo ∙ (has_says h octets has).low_is in
+    let l : low ≡ h.bounds.low = lo ∙ (has_represents h octets has).low_is in
     rw (high_is h octets high has e p, l) (second_some (λ n. n + 1 < 256 ^ 40) (λ n. h.bounds.low < n) h.bounds.high has.bounds.order.high)
 
 pub end_fits : (h : Header) (octets : List ℕ) (start : ℕ) (end : Option ℕ) → HasHeader h octets → start ≡ number_in 16 88 octets → bound_octets 16 end ≡ take 16 (drop 104 octets) → IfSome end (λ n. n + 1 < 256 ^ 16) → IfSome end (λ n. start < n)
 end_fits h octets start end has st e p =
-    let s : start ≡ h.bounds.start = st ∙ (has_says h octets has).start_is in
+    let s : start ≡ h.bounds.start = st ∙ (has_represents h octets has).start_is in
     rw (end_is h octets end has e p, s) (second_some (λ n. n + 1 < 256 ^ 16) (λ n. h.bounds.start < n) h.bounds.end has.bounds.order.end)
 
 pub ones_stamp : number_of (replicate 16 255) ≡ 340282366920938463463374607431768211455

@@ -6,7 +6,7 @@ use Rattle.std.proofs.lemmas.Bool.{cases_lt}
 use Rattle.std.proofs.lemmas.List.{length-append, length-take, take-append-drop, take-append-le, drop-append-le, length-drop, drop_at}
 use Rattle.route_model.specs.Keys.{number_of}
 use Rattle.tsb_node.specs.Leaves.{LeafNode, BeginsAsLeaf}
-use Rattle.tsb_node.specs.Holding.{IsSomeEntry, BeginsWithEntries, HoldsItsEntries}
+use Rattle.tsb_node.specs.Holding.{IsSomeEntry, BeginsWithEntries, HasItsEntries}
 use Rattle.tsb_node.specs.inner.Fields.{number_in}
 use Rattle.tsb_node.specs.inner.Reading.{value_size, after, area, after_version}
 use Rattle.tsb_node.specs.inner.Scanning.{IsWholeVersion}
@@ -19,7 +19,7 @@ pub record AreWhole (n : ℕ) (bytes : List ℕ) : Type 0 where
 abbrev joined : List (List ℕ) → List ℕ
 joined pieces = flat_map (λ one. one) pieces
 
--- the length that an entry says stands in the entry
+-- the length that an entry represents stands in the entry
 size_in_front : (one rest : List ℕ) → 59 ≤ length one → value_size (one ++ rest) ≡ value_size one
 size_in_front one rest le =
     let long = length-drop 57 one in
@@ -73,11 +73,11 @@ whole_more n rest bytes at is are = record {
 }
 
 -- the octets of a leaf do
-pub leaf_holds : (leaf : LeafNode) (octets : List ℕ) → BeginsAsLeaf leaf octets → HoldsItsEntries octets
+pub leaf_holds : (leaf : LeafNode) (octets : List ℕ) → BeginsAsLeaf leaf octets → HasItsEntries octets
 leaf_holds leaf octets is = begins_of (number_in 2 4 octets) (area octets) (record { whole = λ k lt. leaf_whole leaf octets k is lt })
 
 -- what a node holds, its entries begin with
-pub held_by : (octets front : List ℕ) (count : ℕ) → count ≡ number_in 2 4 octets → front ≡ area octets → HoldsItsEntries octets → BeginsWithEntries count front
+pub held_by : (octets front : List ℕ) (count : ℕ) → count ≡ number_in 2 4 octets → front ≡ area octets → HasItsEntries octets → BeginsWithEntries count front
 held_by octets front count n there is = subst (λ (k : ℕ). BeginsWithEntries k front) (sym n) (subst (BeginsWithEntries (number_in 2 4 octets)) (sym there) is)
 
 pub whole_here : (octets front rest : List ℕ) (count i : ℕ) → front ≡ area octets → BeginsWithEntries count front → i < count → rest ≡ after i (area octets) → IsWholeVersion rest

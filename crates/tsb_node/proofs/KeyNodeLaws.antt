@@ -17,7 +17,7 @@ use Rattle.tsb_node.specs.inner.ChildReading.{child_in, children_in, IsChildBefo
 use Rattle.tsb_node.specs.inner.Reading.{area}
 use Rattle.tsb_node.proofs.NumberLaws.{octets_of-size, octets_of-number, field_in, drop_twice}
 use Rattle.tsb_node.proofs.HeaderLaws.{bound_one, first_some}
-use Rattle.tsb_node.proofs.Leaves.{HeaderSays, body_says, body_area}
+use Rattle.tsb_node.proofs.Leaves.{HasHeaderOf, body_represents, body_area}
 
 pub child-size : (c : Child) → length (child_octets c) ≡ 48
 unfolding child_octets
@@ -65,22 +65,22 @@ children-count (c ∷ cs) = omega (arith, children-count cs, child-size c, lengt
 few : (node : KeyNodeInPage) → IsKeyNode node → length (flat_map child_octets node.children) ≤ 16232
 few node valid = omega (arith, children-count node.children, valid.fits)
 
-pub key_node_says : (node : KeyNodeInPage) (octets : List ℕ) → BeginsAsKeyNode node octets → HeaderSays 3 0 node.level (length node.children) (length (flat_map child_octets node.children)) node.bounds octets
-key_node_says node octets is =
-    subst (HeaderSays 3 0 node.level (length node.children) (length (flat_map child_octets node.children)) node.bounds) (sym is.encoded)
-    (body_says 3 node.level (length node.children) node.bounds (flat_map child_octets node.children) is.last (omega (arith, is.valid.fits)) (few node is.valid) is.valid.bounds.low is.valid.bounds.start)
+pub key_node_represents : (node : KeyNodeInPage) (octets : List ℕ) → BeginsAsKeyNode node octets → HasHeaderOf 3 0 node.level (length node.children) (length (flat_map child_octets node.children)) node.bounds octets
+key_node_represents node octets is =
+    subst (HasHeaderOf 3 0 node.level (length node.children) (length (flat_map child_octets node.children)) node.bounds) (sym is.encoded)
+    (body_represents 3 node.level (length node.children) node.bounds (flat_map child_octets node.children) is.last (omega (arith, is.valid.fits)) (few node is.valid) is.valid.bounds.low is.valid.bounds.start)
 
 pub children_are : (node : KeyNodeInPage) (octets : List ℕ) (count : ℕ) → BeginsAsKeyNode node octets → count ≡ number_in 2 4 octets → children_in count (area octets) ≡ node.children
 children_are node octets count is e =
-    let says = key_node_says node octets is in
+    let represents_node = key_node_represents node octets is in
     let here = ap area is.encoded ∙ body_area 3 node.level (length node.children) node.bounds (flat_map child_octets node.children) is.last (few node is.valid) in
-    ap (λ (n : ℕ). children_in n (area octets)) (e ∙ says.count_is) ∙ ap (children_in (length node.children)) here ∙ children_read node.bounds node.children (replicate (16232 - length (flat_map child_octets node.children)) 0) is.valid.each
+    ap (λ (n : ℕ). children_in n (area octets)) (e ∙ represents_node.count_is) ∙ ap (children_in (length node.children)) here ∙ children_read node.bounds node.children (replicate (16232 - length (flat_map child_octets node.children)) 0) is.valid.each
 
 -- a key node has a child, and at most 338
 pub some_child : (node : KeyNodeInPage) (octets : List ℕ) (count : ℕ) → BeginsAsKeyNode node octets → count ≡ number_in 2 4 octets → (0 < count) × (count ≤ 338)
 some_child node octets count is e =
-    let says = key_node_says node octets is in
-    (omega (arith, e, says.count_is, first node.children node.bounds.low is.valid.first), omega (arith, e, says.count_is, is.valid.fits))
+    let represents_node = key_node_represents node octets is in
+    (omega (arith, e, represents_node.count_is, first node.children node.bounds.low is.valid.first), omega (arith, e, represents_node.count_is, is.valid.fits))
   where
     first : (cs : List Child) (low : ℕ) → BeginsAt low (lows_of cs) → 0 < length cs
     first [] low b = absurd b
@@ -93,9 +93,9 @@ pub record IsBetween (count key : ℕ) (bytes : List ℕ) (first end : ℕ) : Ty
   pub passed : (number_in 40 (48 * first) bytes ≤ key) ⊎ (first ≡ 0)
   pub above : end < count → key < number_in 40 (48 * end) bytes
 
-said : (i : ℕ) (bytes : List ℕ) (low page : ℕ) → low ≡ number_in 40 (48 * i) bytes → page ≡ number_in 8 (48 * i + 40) bytes → child_in (drop (48 * i) bytes) ≡ record { low = low; page = page }
+decoded : (i : ℕ) (bytes : List ℕ) (low page : ℕ) → low ≡ number_in 40 (48 * i) bytes → page ≡ number_in 8 (48 * i + 40) bytes → child_in (drop (48 * i) bytes) ≡ record { low = low; page = page }
 unfolding child_in
-said i bytes low page l p =
+decoded i bytes low page l p =
     let q : number_in 8 40 (drop (48 * i) bytes) ≡ page = ap (λ (t : List ℕ). number_of (take 8 t)) (drop_twice (48 * i) 40 bytes) ∙ sym p in
     λ j. record { low = sym l j; page = q j }
 
@@ -109,7 +109,7 @@ module _ (node : KeyNodeInPage) (octets : List ℕ) (count key place low page : 
   same = children_are node octets count is counted
 
   here : slice_get node.children place ≡ Some (record { low = low; page = page })
-  here = ap (λ (t : List Child). slice_get t place) (sym same) ∙ child_at count place (area octets) before.below ∙ ap Some (said place (area octets) low page l p)
+  here = ap (λ (t : List Child). slice_get t place) (sym same) ∙ child_at count place (area octets) before.below ∙ ap Some (decoded place (area octets) low page l p)
 
   low_le : low ≤ key
   low_le = elim before.passed [
@@ -134,7 +134,7 @@ module _ (node : KeyNodeInPage) (octets : List ℕ) (count key place low page : 
       let to : suc place ≡ count = omega (arith, done) in
       let past : slice_get node.children (suc place) ≡ None = ap (slice_get node.children) to ∙ ap (λ (t : List Child). slice_get t count) (sym same) ∙ child_past count (area octets) in
       let top : high ≡ node.bounds.high =
-      bound_one 40 high node.bounds.high apart (first_some (λ n. n + 1 < 256 ^ 40) (λ n. node.bounds.low < n) node.bounds.high is.valid.bounds.order.high) (encoded ∙ (key_node_says node octets is).high_is) in
+      bound_one 40 high node.bounds.high apart (first_some (λ n. n + 1 < 256 ^ 40) (λ n. node.bounds.low < n) node.bounds.high is.valid.bounds.order.high) (encoded ∙ (key_node_represents node octets is).high_is) in
       record {
         place = place;
         at = here;

@@ -40,8 +40,8 @@ header-size kind unit level count used b =
     let e5 : length p5 ≡ 104 = omega (arith, e4, s5, length-append p4 (octets_of 16 b.start)) in
     omega (arith, e5, s6, length-append p5 (bound_octets 16 b.end))
 
--- what a header says, with anything after it
-pub record HeaderSays (kind unit level count used : ℕ) (b : Bounds) (octets : List ℕ) : Type 0 where
+-- what a header represents, with anything after it
+pub record HasHeaderOf (kind unit level count used : ℕ) (b : Bounds) (octets : List ℕ) : Type 0 where
   pub kind_is : slice_index octets 0 ≡ kind
   pub unit_is : slice_index octets 1 ≡ unit
   pub level_is : slice_index octets 2 ≡ level
@@ -57,10 +57,10 @@ part : (size place : ℕ) (front field rest : List ℕ) → length front ≡ pla
 part size place front field rest at len =
     ap (take size) (drop_at front (field ++ rest) place at) ∙ take_at field rest size len
 
-pub header_says : (kind unit level count used : ℕ) (b : Bounds) (rest : List ℕ) → count < 256 ^ 2 → used < 256 ^ 2 → b.low < 256 ^ 40 → b.start < 256 ^ 16
-    → HeaderSays kind unit level count used b (header kind unit level count used b ++ rest)
+pub header_represents : (kind unit level count used : ℕ) (b : Bounds) (rest : List ℕ) → count < 256 ^ 2 → used < 256 ^ 2 → b.low < 256 ^ 40 → b.start < 256 ^ 16
+    → HasHeaderOf kind unit level count used b (header kind unit level count used b ++ rest)
 unfolding header
-header_says kind unit level count used b rest count_lt used_lt low_lt start_lt =
+header_represents kind unit level count used b rest count_lt used_lt low_lt start_lt =
     let f0 : List ℕ = kind ∷ unit ∷ level ∷ 0 ∷ [] in
     let f1 : List ℕ = octets_of 2 count in
     let f2 : List ℕ = octets_of 2 used in
@@ -119,15 +119,15 @@ body_area kind level count b es last fits =
     let pad : List ℕ = replicate (16232 - length es) 0 in
     ap (drop 120) (first ∙ append_assoc h es pad) ∙ drop_at h (es ++ pad) 120 (header-size kind seconds level count (length es) b)
 
-pub body_says : (kind level count : ℕ) (b : Bounds) (es last : List ℕ) → count < 256 ^ 2 → length es ≤ 16232 → b.low < 256 ^ 40 → b.start < 256 ^ 16
-    → HeaderSays kind seconds level count (length es) b (body kind level count b es ++ last)
+pub body_represents : (kind level count : ℕ) (b : Bounds) (es last : List ℕ) → count < 256 ^ 2 → length es ≤ 16232 → b.low < 256 ^ 40 → b.start < 256 ^ 16
+    → HasHeaderOf kind seconds level count (length es) b (body kind level count b es ++ last)
 unfolding body
-body_says kind level count b es last few fits low start =
+body_represents kind level count b es last few fits low start =
     let h : List ℕ = header kind seconds level count (length es) b in
     let pad : List ℕ = replicate (16232 - length es) 0 in
     let e : ((h ++ es) ++ pad) ++ last ≡ h ++ (es ++ (pad ++ last)) = append_assoc (h ++ es) pad last ∙ append_assoc h es (pad ++ last) in
-    subst (HeaderSays kind seconds level count (length es) b) (sym e)
-    (header_says kind seconds level count (length es) b (es ++ (pad ++ last)) few (omega arith) low start)
+    subst (HasHeaderOf kind seconds level count (length es) b) (sym e)
+    (header_represents kind seconds level count (length es) b (es ++ (pad ++ last)) few (omega arith) low start)
 
 -- ---- leaves
 
@@ -142,19 +142,19 @@ few_versions leaf valid = omega (arith, entries-count leaf.versions, valid.fits)
 abbrev pub pad_of : LeafNode → List ℕ
 pad_of leaf = replicate (16232 - length (entries leaf.versions)) 0
 
-pub leaf_says : (leaf : LeafNode) (octets : List ℕ) → BeginsAsLeaf leaf octets → HeaderSays 1 0 0 (length leaf.versions) (length (entries leaf.versions)) leaf.bounds octets
-leaf_says leaf octets is =
-    subst (HeaderSays 1 0 0 (length leaf.versions) (length (entries leaf.versions)) leaf.bounds) (sym is.encoded)
-    (body_says 1 0 (length leaf.versions) leaf.bounds (entries leaf.versions) is.last (few_versions leaf is.valid) is.valid.fits is.valid.bounds.low is.valid.bounds.start)
+pub leaf_represents : (leaf : LeafNode) (octets : List ℕ) → BeginsAsLeaf leaf octets → HasHeaderOf 1 0 0 (length leaf.versions) (length (entries leaf.versions)) leaf.bounds octets
+leaf_represents leaf octets is =
+    subst (HasHeaderOf 1 0 0 (length leaf.versions) (length (entries leaf.versions)) leaf.bounds) (sym is.encoded)
+    (body_represents 1 0 (length leaf.versions) leaf.bounds (entries leaf.versions) is.last (few_versions leaf is.valid) is.valid.fits is.valid.bounds.low is.valid.bounds.start)
 
 pub leaf_area : (leaf : LeafNode) (octets : List ℕ) → BeginsAsLeaf leaf octets → area octets ≡ entries leaf.versions ++ pad_of leaf
 leaf_area leaf octets is = ap area is.encoded ∙ body_area 1 0 (length leaf.versions) leaf.bounds (entries leaf.versions) is.last is.valid.fits
 
--- a leaf has the versions that its octets say
+-- a leaf has the versions that its octets represent
 pub leaf_versions : (leaf : LeafNode) (octets : List ℕ) → BeginsAsLeaf leaf octets → versions_in (number_in 2 4 octets) (area octets) ≡ leaf.versions
 leaf_versions leaf octets is =
-    let says = leaf_says leaf octets is in
-    ap (λ (n : ℕ). versions_in n (area octets)) says.count_is ∙ ap (versions_in (length leaf.versions)) (leaf_area leaf octets is)
+    let represents_node = leaf_represents leaf octets is in
+    ap (λ (n : ℕ). versions_in n (area octets)) represents_node.count_is ∙ ap (versions_in (length leaf.versions)) (leaf_area leaf octets is)
     ∙ entries_read leaf.bounds leaf.versions (pad_of leaf) is.valid.each
 
 pub begins_page : (leaf : LeafNode) (octets : List ℕ) → IsLeafPage leaf octets → BeginsAsLeaf leaf octets

@@ -14,7 +14,7 @@ use Rattle.tsb_node.specs.inner.Nexts.{IsLeastOf, ReportsLive}
 use Rattle.tsb_node.specs.inner.Fields.{number_in}
 use Rattle.tsb_node.proofs.SplittingLaws.{IsNext, all_at}
 use Rattle.tsb_node.proofs.Entries.{entry_read}
-use Rattle.tsb_node.proofs.Scanning.{key_said, stamp_said}
+use Rattle.tsb_node.proofs.Scanning.{key_decoded, stamp_decoded}
 
 -- what was found is a value, or an end
 pub live_found : (vs : List Version) (key s : ℕ) (found : FoundVersion) → IsRising vs → AsOf vs key s (version_found key found) → (b : Bool) → b ≡ is_some found.value → ReportsLive vs key s b
@@ -29,13 +29,13 @@ live_found vs key s found rising h false e = dead_of vs key s (version_found key
 pub key_next : (leaf : LeafNode) (n : ℕ) (rest : List ℕ) → (next : IsNext leaf n rest) → number_in 40 0 rest ≡ next.v.key
 key_next leaf n rest next =
     let r = entry_read leaf.bounds next.v next.more next.valid in
-    ap (number_in 40 0) next.encoded ∙ sym (key_said (entry next.v ++ next.more)) ∙ ap (λ (w : Version). w.key) r.is
+    ap (number_in 40 0) next.encoded ∙ sym (key_decoded (entry next.v ++ next.more)) ∙ ap (λ (w : Version). w.key) r.is
 
 -- and its stamp
 pub stamp_next : (leaf : LeafNode) (n : ℕ) (rest : List ℕ) → (next : IsNext leaf n rest) → number_in 16 40 rest ≡ next.v.stamp
 stamp_next leaf n rest next =
     let r = entry_read leaf.bounds next.v next.more next.valid in
-    ap (number_in 16 40) next.encoded ∙ sym (stamp_said (entry next.v ++ next.more)) ∙ ap (λ (w : Version). w.stamp) r.is
+    ap (number_in 16 40) next.encoded ∙ sym (stamp_decoded (entry next.v ++ next.more)) ∙ ap (λ (w : Version). w.stamp) r.is
 
 -- ---- the least key of which there is a version
 

@@ -1,4 +1,4 @@
--- Octets are one node at most, whatever its entries say.
+-- Octets are one node at most, whatever its entries represent.
 use Rattle.std.proofs.Common.{◌≡◌, ℕ, ◌≤◌, List, ◌++◌, length, take, drop, replicate, None, IsSome, refl, sym, ap, subst, ◌∙◌, arith}
 use Rattle.std.specs.List.{All}
 use Rattle.std.proofs.lemmas.List.{length-take, length-drop}
@@ -22,7 +22,7 @@ begun_header h es octets is = record {
   encoded = (begun_parts h es octets is).front ∙ ap (λ (n : ℕ). header h.kind seconds h.level h.count n h.bounds) (sym is.valid.used);
 }
 
--- what a header that is read says of the node
+-- what a header that is read represents of the node
 pub begun_same : (h g : Header) (es octets : List ℕ) → BeginsAsNode h es octets → HasHeader g octets → SameHeader g h
 begun_same h g es octets is has = header_one g h octets has (begun_header h es octets is)
 

@@ -1,4 +1,4 @@
--- Octets are one column at most, and one key node; a page says one thing at most, and so does a block.
+-- Octets are one column at most, and one key node; a page represents one thing at most, and so does a block.
 use Rattle.std.proofs.Common.{◌≡◌, ◌+◌, ℕ, length, List, [], ◌∷◌, None, refl, sym, ap, subst, ◌∙◌, arith}
 use Rattle.std.specs.List.{flat_map, AllByRecursion}
 use Rattle.version_model.specs.declared.bounds.Bounds.{Bounds}
@@ -13,7 +13,7 @@ use Rattle.tsb_node.specs.Columns.{ColumnInPage, ColumnInBlock, IsColumnPage, Is
 use Rattle.tsb_node.specs.KeyNodes.{KeyNodeInPage, IsKeyNodePage, IsChildEntry, child_octets}
 use Rattle.tsb_node.specs.Children.{BeginsAsKeyNode}
 use Rattle.tsb_node.specs.Parts.{BeginsAsColumn, BeginsAsOldColumn}
-use Rattle.tsb_node.specs.Views.{PageSays, says_leaf, says_column, says_key_node, BlockSays, says_old_leaf, says_old_column, keys_between}
+use Rattle.tsb_node.specs.Views.{PageRepresents, represents_leaf, represents_column, represents_key_node, BlockRepresents, represents_old_leaf, represents_old_column, keys_between}
 use Rattle.tsb_node.specs.inner.NodeReading.{BeginsAsNode}
 use Rattle.tsb_node.specs.inner.PartReading.{IsPartBefore}
 use Rattle.tsb_node.proofs.Leaves.{leaf_versions, begins_page, begins_block}
@@ -86,22 +86,22 @@ old_block c octets is = record { valid = is.valid; last = _; encoded = is.block.
 kinds : (h g : Header) (es fs octets : List ℕ) → BeginsAsNode h es octets → BeginsAsNode g fs octets → h.kind ≡ g.kind
 kinds h g es fs octets p q = (nodes_same h g es fs octets p q).kind
 
-pub page_one : (octets : List ℕ) (a b : PageNode) → PageSays octets a → PageSays octets b → a ≡ b
-page_one octets _ _ (says_leaf l p) (says_leaf m q) = ap (λ (x : LeafNode). CurrentLeaf (keys_between x.bounds) x.bounds.start x.versions) (leaf_one l m octets (begins_page l octets p) (begins_page m octets q))
-page_one octets _ _ (says_leaf l p) (says_column c q) = absurd (omega (arith, kinds _ _ _ _ octets (leaf_begun l octets (begins_page l octets p)) (column_begun c octets (column_page c octets q))))
-page_one octets _ _ (says_leaf l p) (says_key_node k q) = absurd (omega (arith, kinds _ _ _ _ octets (leaf_begun l octets (begins_page l octets p)) (key_node_begun k octets (key_page k octets q))))
-page_one octets _ _ (says_column c p) (says_leaf l q) = absurd (omega (arith, kinds _ _ _ _ octets (column_begun c octets (column_page c octets p)) (leaf_begun l octets (begins_page l octets q))))
-page_one octets _ _ (says_column c p) (says_column d q) = ap (λ (x : ColumnInPage). ColumnNode (keys_between x.bounds) x.parts x.current.start x.current.page) (column_one c d octets (column_page c octets p) (column_page d octets q))
-page_one octets _ _ (says_column c p) (says_key_node k q) = absurd (omega (arith, kinds _ _ _ _ octets (column_begun c octets (column_page c octets p)) (key_node_begun k octets (key_page k octets q))))
-page_one octets _ _ (says_key_node k p) (says_leaf l q) = absurd (omega (arith, kinds _ _ _ _ octets (key_node_begun k octets (key_page k octets p)) (leaf_begun l octets (begins_page l octets q))))
-page_one octets _ _ (says_key_node k p) (says_column c q) = absurd (omega (arith, kinds _ _ _ _ octets (key_node_begun k octets (key_page k octets p)) (column_begun c octets (column_page c octets q))))
-page_one octets _ _ (says_key_node k p) (says_key_node l q) = ap (λ (x : KeyNodeInPage). KeyNode x.level (keys_between x.bounds) x.children) (key_node_one k l octets (key_page k octets p) (key_page l octets q))
+pub page_one : (octets : List ℕ) (a b : PageNode) → PageRepresents octets a → PageRepresents octets b → a ≡ b
+page_one octets _ _ (represents_leaf l p) (represents_leaf m q) = ap (λ (x : LeafNode). CurrentLeaf (keys_between x.bounds) x.bounds.start x.versions) (leaf_one l m octets (begins_page l octets p) (begins_page m octets q))
+page_one octets _ _ (represents_leaf l p) (represents_column c q) = absurd (omega (arith, kinds _ _ _ _ octets (leaf_begun l octets (begins_page l octets p)) (column_begun c octets (column_page c octets q))))
+page_one octets _ _ (represents_leaf l p) (represents_key_node k q) = absurd (omega (arith, kinds _ _ _ _ octets (leaf_begun l octets (begins_page l octets p)) (key_node_begun k octets (key_page k octets q))))
+page_one octets _ _ (represents_column c p) (represents_leaf l q) = absurd (omega (arith, kinds _ _ _ _ octets (column_begun c octets (column_page c octets p)) (leaf_begun l octets (begins_page l octets q))))
+page_one octets _ _ (represents_column c p) (represents_column d q) = ap (λ (x : ColumnInPage). ColumnNode (keys_between x.bounds) x.parts x.current.start x.current.page) (column_one c d octets (column_page c octets p) (column_page d octets q))
+page_one octets _ _ (represents_column c p) (represents_key_node k q) = absurd (omega (arith, kinds _ _ _ _ octets (column_begun c octets (column_page c octets p)) (key_node_begun k octets (key_page k octets q))))
+page_one octets _ _ (represents_key_node k p) (represents_leaf l q) = absurd (omega (arith, kinds _ _ _ _ octets (key_node_begun k octets (key_page k octets p)) (leaf_begun l octets (begins_page l octets q))))
+page_one octets _ _ (represents_key_node k p) (represents_column c q) = absurd (omega (arith, kinds _ _ _ _ octets (key_node_begun k octets (key_page k octets p)) (column_begun c octets (column_page c octets q))))
+page_one octets _ _ (represents_key_node k p) (represents_key_node l q) = ap (λ (x : KeyNodeInPage). KeyNode x.level (keys_between x.bounds) x.children) (key_node_one k l octets (key_page k octets p) (key_page l octets q))
 
-pub block_one : (octets : List ℕ) (a b : BlockNode) → BlockSays octets a → BlockSays octets b → a ≡ b
-block_one octets _ _ (says_old_leaf l p) (says_old_leaf m q) = ap (λ (x : LeafNode). OldLeaf (range_of x.bounds) x.versions) (leaf_one l m octets (begins_block l octets p) (begins_block m octets q))
-block_one octets _ _ (says_old_leaf l p) (says_old_column c q) = absurd (omega (arith, kinds _ _ _ _ octets (leaf_begun l octets (begins_block l octets p)) (old_begun c octets (old_block c octets q))))
-block_one octets _ _ (says_old_column c p) (says_old_leaf l q) = absurd (omega (arith, kinds _ _ _ _ octets (old_begun c octets (old_block c octets p)) (leaf_begun l octets (begins_block l octets q))))
-block_one octets _ _ (says_old_column c p) (says_old_column d q) = ap (λ (x : ColumnInBlock). OldColumn (range_of x.bounds) x.parts) (old_column_one c d octets (old_block c octets p) (old_block d octets q))
+pub block_one : (octets : List ℕ) (a b : BlockNode) → BlockRepresents octets a → BlockRepresents octets b → a ≡ b
+block_one octets _ _ (represents_old_leaf l p) (represents_old_leaf m q) = ap (λ (x : LeafNode). OldLeaf (range_of x.bounds) x.versions) (leaf_one l m octets (begins_block l octets p) (begins_block m octets q))
+block_one octets _ _ (represents_old_leaf l p) (represents_old_column c q) = absurd (omega (arith, kinds _ _ _ _ octets (leaf_begun l octets (begins_block l octets p)) (old_begun c octets (old_block c octets q))))
+block_one octets _ _ (represents_old_column c p) (represents_old_leaf l q) = absurd (omega (arith, kinds _ _ _ _ octets (old_begun c octets (old_block c octets p)) (leaf_begun l octets (begins_block l octets q))))
+block_one octets _ _ (represents_old_column c p) (represents_old_column d q) = ap (λ (x : ColumnInBlock). OldColumn (range_of x.bounds) x.parts) (old_column_one c d octets (old_block c octets p) (old_block d octets q))
 
 -- the header that is read is the node's
 as_its_own : (h g : Header) → SameHeader h g → IsHeaderOf g.kind g.level g.count g.bounds h

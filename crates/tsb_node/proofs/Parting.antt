@@ -8,10 +8,10 @@ use Rattle.std.proofs.lemmas.List.{map-append, append-nil}
 use Rattle.std.proofs.lemmas.Option.{same_Some, none-some}
 use Rattle.version_model.specs.declared.entry.Entry.{Entry}
 use Rattle.version_model.specs.Entries.{version_of, versions_of}
-use Rattle.tsb_node.specs.declared.leaf_said.LeafSaid.{LeafSaid}
-use Rattle.tsb_node.specs.Saying.{leaf_said}
+use Rattle.tsb_node.specs.declared.decoded_leaf.DecodedLeaf.{DecodedLeaf}
+use Rattle.tsb_node.specs.Decoded.{decoded_leaf}
 use Rattle.tsb_node.specs.inner.Fields.{number_in}
-use Rattle.tsb_node.proofs.Scanning.{key_said, stamp_said}
+use Rattle.tsb_node.proofs.Scanning.{key_decoded, stamp_decoded}
 use Rattle.tsb_node.proofs.Entries.{entry_read}
 
 -- versions of the same parts are one
@@ -26,12 +26,12 @@ version_next leaf n rest next = ap version_in next.encoded ∙ (entry_read leaf.
 pub versions_more : (kept new : List Entry) (e : Entry) (v : Version) → new ≡ kept ++ e ∷ [] → version_of e ≡ v → versions_of new ≡ versions_of kept ++ v ∷ []
 versions_more kept new e v items same = ap versions_of items ∙ map-append version_of kept (e ∷ []) ∙ ap (λ x. versions_of kept ++ x ∷ []) same
 
--- what the fields of the entry at the front say of the version
+-- what the fields of the entry at the front represent of the version
 pub key_there : (bytes : List ℕ) (v : Version) → version_in bytes ≡ v → number_in 40 0 bytes ≡ v.key
-key_there bytes v is = sym (key_said bytes) ∙ ap (λ (w : Version). w.key) is
+key_there bytes v is = sym (key_decoded bytes) ∙ ap (λ (w : Version). w.key) is
 
 pub stamp_there : (bytes : List ℕ) (v : Version) → version_in bytes ≡ v → number_in 16 40 bytes ≡ v.stamp
-stamp_there bytes v is = sym (stamp_said bytes) ∙ ap (λ (w : Version). w.stamp) is
+stamp_there bytes v is = sym (stamp_decoded bytes) ∙ ap (λ (w : Version). w.stamp) is
 
 drop_here : (vs : List Version) (i : ℕ) (v : Version) → slice_get vs i ≡ Some v → drop i vs ≡ v ∷ drop (i + 1) vs
 drop_here [] i v at = absurd (none-some v at)
@@ -52,5 +52,5 @@ pub all_kept : (vs kept : List Version) (i : ℕ) → length vs ≤ i → kept +
 all_kept vs kept i done so = sym (append-nil kept) ∙ ap (λ (t : List Version). kept ++ t) (sym (drop_none vs i done)) ∙ so
 
 -- a leaf of the same bounds and versions is the leaf
-pub said_is : (said : LeafSaid) (leaf : LeafNode) → leaf.bounds ≡ said.bounds → versions_of said.entries.items ≡ leaf.versions → leaf ≡ leaf_said said
-said_is said leaf b v = λ i. record { bounds = b i; versions = sym v i }
+pub decoded_is : (decoded : DecodedLeaf) (leaf : LeafNode) → leaf.bounds ≡ decoded.bounds → versions_of decoded.entries.items ≡ leaf.versions → leaf ≡ decoded_leaf decoded
+decoded_is decoded leaf b v = λ i. record { bounds = b i; versions = sym v i }

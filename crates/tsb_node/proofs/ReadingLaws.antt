@@ -11,7 +11,7 @@ use Rattle.tsb_node.specs.Headers.{HasHeader}
 use Rattle.std.proofs.Common.{IsSome}
 use Rattle.tsb_node.specs.inner.Reading.{area}
 use Rattle.tsb_node.proofs.Leaves.{header-size, body-size, body_area}
-use Rattle.tsb_node.proofs.HeaderLaws.{has_says, first_some, high_is, end_is}
+use Rattle.tsb_node.proofs.HeaderLaws.{has_represents, first_some, high_is, end_is}
 
 pub all_zeros : (xs : List ℕ) → All (λ octet. octet ≡ 0) xs → xs ≡ replicate (length xs) 0
 all_zeros [] all = refl
@@ -30,8 +30,8 @@ pub record SameHeader (h g : Header) : Type 0 where
 
 pub header_one : (h g : Header) (octets : List ℕ) → HasHeader h octets → HasHeader g octets → SameHeader h g
 header_one h g octets a b =
-    let s = has_says h octets a in
-    let t = has_says g octets b in
+    let s = has_represents h octets a in
+    let t = has_represents g octets b in
     let low : h.bounds.low ≡ g.bounds.low = sym s.low_is ∙ t.low_is in
     let start : h.bounds.start ≡ g.bounds.start = sym s.start_is ∙ t.start_is in
     let high : h.bounds.high ≡ g.bounds.high = high_is g octets h.bounds.high b (sym s.high_is) (first_some (λ n. n + 1 < 256 ^ 40) (λ n. h.bounds.low < n) h.bounds.high a.bounds.order.high) in

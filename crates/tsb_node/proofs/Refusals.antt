@@ -5,7 +5,7 @@ use Rattle.std.specs.declared.result.Result.TheVariants.{Ok, Err}
 use Rattle.std.specs.Result.{MatchResult, IfOk}
 use Rattle.tsb_node.specs.declared.leaf_part.ReadFault.{ReadFault}
 use Rattle.tsb_node.specs.declared.leaf_part.ReadFault.TheVariants.{NotANode, Memory}
-use Rattle.tsb_node.specs.Saying.{IsRefusal}
+use Rattle.tsb_node.specs.Decoded.{IsRefusal}
 
 -- there is one, and what is answered is it
 pub refusal_match : {X Y : Type 0} (view : X → Y) (Reads : Y → Type 0) (y : Y) → Reads y → (r : Result X ReadFault) → IfOk r (λ x. view x ≡ y) → (r ≡ Err NotANode → ⊥) → MatchResult r (λ x. Reads (view x)) (IsRefusal Reads)

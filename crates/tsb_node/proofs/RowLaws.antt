@@ -134,9 +134,9 @@ module _ {X : Type 0} (encode : X → List ℕ) (valid : X → Type 0) (number :
       empty (x ∷ xs) e = absurd (omega (arith, e))
 
   -- where the octets are entries, one stands at the front and may come next
-  pub row_stands : (n count : ℕ) (last : Option ℕ) (bytes rest : List ℕ) (xs : List X) → HasRead encode valid number first n last bytes rest → AreRows encode valid number first count bytes xs → n < count
+  pub row_represents : (n count : ℕ) (last : Option ℕ) (bytes rest : List ℕ) (xs : List X) → HasRead encode valid number first n last bytes rest → AreRows encode valid number first count bytes xs → n < count
       → (x : X) × IsFront encode valid size rest x × IsNextNumber first last (number x)
-  row_stands n count last bytes rest xs r are lt =
+  row_represents n count last bytes rest xs r are lt =
       let t = rows_after encode valid number size is r.rows xs rest r.each are.each (sym r.whole ∙ are.encoded) in
       head t.0 t.1 t.2
     where

@@ -16,19 +16,19 @@ use Rattle.tsb_node.specs.Finding.{version_found}
 use Rattle.tsb_node.specs.inner.Scanning.{Counts, NoneFrom, IsLast, IsWholeVersion, IsBroken}
 use Rattle.tsb_node.proofs.Entries.{entry-size, entry_read, after-next, version_at, versions_in-size}
 use Rattle.tsb_node.proofs.Places.{NoneFrom-more, holds_last}
-use Rattle.tsb_node.proofs.Leaves.{pad_of, leaf_says, leaf_area, leaf_versions}
+use Rattle.tsb_node.proofs.Leaves.{pad_of, leaf_represents, leaf_area, leaf_versions}
 
-pub key_said : (bytes : List ℕ) → (version_in bytes).key ≡ number_in 40 0 bytes
+pub key_decoded : (bytes : List ℕ) → (version_in bytes).key ≡ number_in 40 0 bytes
 unfolding version_in
-key_said bytes = refl
+key_decoded bytes = refl
 
-pub stamp_said : (bytes : List ℕ) → (version_in bytes).stamp ≡ number_in 16 40 bytes
+pub stamp_decoded : (bytes : List ℕ) → (version_in bytes).stamp ≡ number_in 16 40 bytes
 unfolding version_in
-stamp_said bytes = refl
+stamp_decoded bytes = refl
 
-pub value_said : (bytes : List ℕ) → (version_in bytes).value ≡ value_in bytes
+pub value_decoded : (bytes : List ℕ) → (version_in bytes).value ≡ value_in bytes
 unfolding version_in
-value_said bytes = refl
+value_decoded bytes = refl
 
 pub is_le_to : (a b : ℕ) → a ≤ b → is_le (nat_cmp a b) ≡ true
 is_le_to a b le = elim (cases_order a b) [
@@ -53,10 +53,10 @@ found_is vs key s rest found bytes e stamp value holds =
     subst (λ (v : Version). AsOf vs key s v) (sym same) holds
 
 pub counts : (key s : ℕ) (bytes : List ℕ) → number_in 40 0 bytes ≡ key → number_in 16 40 bytes ≤ s → Counts key s (version_in bytes)
-counts key s bytes k le = record { of_key = key_said bytes ∙ k; not_after = omega (arith, stamp_said bytes) }
+counts key s bytes k le = record { of_key = key_decoded bytes ∙ k; not_after = omega (arith, stamp_decoded bytes) }
 
 pub counted : (key s : ℕ) (bytes : List ℕ) → Counts key s (version_in bytes) → (number_in 40 0 bytes ≡ key) × (number_in 16 40 bytes ≤ s)
-counted key s bytes c = (sym (key_said bytes) ∙ c.of_key, omega (arith, stamp_said bytes, c.not_after))
+counted key s bytes c = (sym (key_decoded bytes) ∙ c.of_key, omega (arith, stamp_decoded bytes, c.not_after))
 
 pub scan_start : (count key s : ℕ) (bytes : List ℕ) → (bytes ≡ after 0 bytes) × IsLast (versions_in count bytes) bytes key s 0 None
 unfolding after
@@ -136,8 +136,8 @@ whole_encoded b (suc n) (v ∷ vs) rest all lt =
 
 pub leaf_whole : (leaf : LeafNode) (octets : List ℕ) (k : ℕ) → BeginsAsLeaf leaf octets → k < number_in 2 4 octets → IsWholeVersion (after k (area octets))
 leaf_whole leaf octets k is lt =
-    let says = leaf_says leaf octets is in
-    subst (λ (t : List ℕ). IsWholeVersion (after k t)) (sym (leaf_area leaf octets is)) (whole_encoded leaf.bounds k leaf.versions (pad_of leaf) is.valid.each (omega (arith, lt, says.count_is)))
+    let represents_node = leaf_represents leaf octets is in
+    subst (λ (t : List ℕ). IsWholeVersion (after k t)) (sym (leaf_area leaf octets is)) (whole_encoded leaf.bounds k leaf.versions (pad_of leaf) is.valid.each (omega (arith, lt, represents_node.count_is)))
 
 -- so what has one that isn't whole is no leaf
 pub broken_none : (leaf : LeafNode) (octets : List ℕ) → IsBroken (area octets) (number_in 2 4 octets) → BeginsAsLeaf leaf octets → ⊥

@@ -15,7 +15,7 @@ use Rattle.tsb_node.specs.inner.Reading.{value_size, after, area}
 use Rattle.tsb_node.specs.inner.Laying.{laid, IsFilling}
 use Rattle.tsb_node.specs.inner.Sides.{is_below, located_within, side_of}
 use Rattle.std.proofs.lemmas.List.Elements.{filter-append}
-use Rattle.tsb_node.proofs.Scanning.{key_said}
+use Rattle.tsb_node.proofs.Scanning.{key_decoded}
 use Rattle.version_model.proofs.api.Pushed.{get-push, IsRising-push}
 use Rattle.tsb_node.proofs.Entries.{entry_read, entry-size, after_encoded}
 use Rattle.tsb_node.proofs.Leaves.{leaf_area, pad_of, header-size}
@@ -100,7 +100,7 @@ next_version leaf octets rest n is lt at =
 pub key_of_entry : (b : Bounds) (v : Version) (bytes : List ℕ) → IsVersionOf b v → bytes ≡ entry v → number_in 40 0 bytes ≡ v.key
 key_of_entry b v bytes is e =
     let r = entry_read b v [] is in
-    ap (number_in 40 0) (e ∙ sym (append-nil (entry v))) ∙ sym (key_said (entry v ++ [])) ∙ ap (λ (w : Version). w.key) r.is
+    ap (number_in 40 0) (e ∙ sym (append-nil (entry v))) ∙ sym (key_decoded (entry v ++ [])) ∙ ap (λ (w : Version). w.key) r.is
 
 pub take_version : (vs : List Version) (n : ℕ) (v : Version) → slice_get vs n ≡ Some v → take (n + 1) vs ≡ take n vs ++ v ∷ []
 take_version [] n v e = absurd (none-some v e)

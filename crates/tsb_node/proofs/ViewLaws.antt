@@ -1,4 +1,4 @@
--- What nodes say is what the tree asks of them.
+-- What nodes represent is what the tree asks of them.
 use Rattle.std.proofs.Common.{◌≡◌, ℕ, zero, suc, ◌^◌, ◌<◌, ◌≤◌, ◌⊎◌, inl, inr, List, [], ◌∷◌, ◌++◌, length, map, slice_get, Option, Some, None, Bool, true, not, nat_lt, refl, sym, ap, subst, ◌∙◌, arith}
 use Rattle.std.specs.List.{AllByRecursion}
 use Rattle.std.specs.Option.{IfSome}
@@ -11,7 +11,7 @@ use Rattle.version_model.specs.declared.child.Child.{Child}
 use Rattle.version_model.specs.Versions.{Version, Has}
 use Rattle.version_model.specs.Ranges.{Range, high_or, end_or, range_of}
 use Rattle.version_model.specs.Sizes.{octets, value_octets}
-use Rattle.version_model.specs.Shows.{IsBelow, IsFromKey}
+use Rattle.version_model.specs.LeafVersions.{IsBelow, IsFromKey}
 use Rattle.version_model.specs.Blocks.{AreParts, IsPartOf, start_or}
 use Rattle.version_model.specs.Pages.{Keys, AreChildren, IsChildOf, low_or, past_range}
 use Rattle.version_model.proofs.api.LooksShown.{filter_has, has_filter}

@@ -13,7 +13,7 @@ use Rattle.tsb_node.specs.Children.{IsKeyWithin}
 use Rattle.tsb_node.proofs.Laying.{entries-push}
 use Rattle.tsb_node.proofs.SplittingLaws.{take_version}
 
--- the entry at a place says the version there
+-- the entry at a place represents the version there
 pub version_read : (es : List Entry) (i : ℕ) (e : Entry) → i < length es → e ≡ get_or es i e → slice_get (versions_of es) i ≡ Some (version_of e)
 version_read es i e lt is = slice_get-map version_of es i ∙ ap (option_map version_of) (slice_get_read es (length es) i e refl lt is)
 

@@ -16,5 +16,5 @@ pub record BeginsWithEntries (count : ℕ) (octets : List ℕ) : Type 0 where
   pub encoded : octets ≡ flat_map (λ one. one) some ++ rest
 
 -- between its header and its last 32 octets a node begins with as many entries as the header counts
-abbrev pub HoldsItsEntries : List ℕ → Type 0
-HoldsItsEntries node = BeginsWithEntries (number_of (take 2 (drop 4 node))) (drop 120 (take 16352 node))
+abbrev pub HasItsEntries : List ℕ → Type 0
+HasItsEntries node = BeginsWithEntries (number_of (take 2 (drop 4 node))) (drop 120 (take 16352 node))

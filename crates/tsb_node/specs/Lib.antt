@@ -11,6 +11,6 @@ pub mod Children
 pub mod Parts
 pub mod Splitting
 pub mod Holding
-pub mod Saying
+pub mod Decoded
 pub mod Views
 pub mod inner

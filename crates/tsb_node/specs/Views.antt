@@ -13,12 +13,12 @@ abbrev pub keys_between : Bounds → Keys
 keys_between b = record { low = b.low; high = high_or b.high }
 
 -- what a page represents: a current leaf with its start, a column, or a key node
-pub data PageSays (octets : List ℕ) : PageNode → Type 0 where
-  says_leaf : (leaf : LeafNode) → IsLeafPage leaf octets → PageSays octets (CurrentLeaf (keys_between leaf.bounds) leaf.bounds.start leaf.versions)
-  says_column : (column : ColumnInPage) → IsColumnPage column octets → PageSays octets (ColumnNode (keys_between column.bounds) column.parts column.current.start column.current.page)
-  says_key_node : (node : KeyNodeInPage) → IsKeyNodePage node octets → PageSays octets (KeyNode node.level (keys_between node.bounds) node.children)
+pub data PageRepresents (octets : List ℕ) : PageNode → Type 0 where
+  represents_leaf : (leaf : LeafNode) → IsLeafPage leaf octets → PageRepresents octets (CurrentLeaf (keys_between leaf.bounds) leaf.bounds.start leaf.versions)
+  represents_column : (column : ColumnInPage) → IsColumnPage column octets → PageRepresents octets (ColumnNode (keys_between column.bounds) column.parts column.current.start column.current.page)
+  represents_key_node : (node : KeyNodeInPage) → IsKeyNodePage node octets → PageRepresents octets (KeyNode node.level (keys_between node.bounds) node.children)
 
 -- what a block represents: a leaf or a column, each with its keys and stamps
-pub data BlockSays (octets : List ℕ) : BlockNode → Type 0 where
-  says_old_leaf : (leaf : LeafNode) → IsLeafBlock leaf octets → BlockSays octets (OldLeaf (range_of leaf.bounds) leaf.versions)
-  says_old_column : (column : ColumnInBlock) → IsColumnBlock column octets → BlockSays octets (OldColumn (range_of column.bounds) column.parts)
+pub data BlockRepresents (octets : List ℕ) : BlockNode → Type 0 where
+  represents_old_leaf : (leaf : LeafNode) → IsLeafBlock leaf octets → BlockRepresents octets (OldLeaf (range_of leaf.bounds) leaf.versions)
+  represents_old_column : (column : ColumnInBlock) → IsColumnBlock column octets → BlockRepresents octets (OldColumn (range_of column.bounds) column.parts)

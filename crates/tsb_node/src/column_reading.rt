@@ -4,7 +4,7 @@ ghost use Rattle.std.specs.Prelude.{List, ℕ, Option, ◌≡◌, ◌↔◌, ◌
 ghost use Rattle.std.specs.Result.{MatchResult};
 ghost use Rattle.version_model.specs.declared.part.Part.{Part as PartValue};
 ghost use Rattle.tsb_node.specs.Columns.{part_octets, current_octets};
-ghost use Rattle.tsb_node.specs.Saying.{IsRefusal};
+ghost use Rattle.tsb_node.specs.Decoded.{IsRefusal};
 ghost use Rattle.tsb_node.specs.inner.Rows.{IsFront, IsNextNumber};
 ghost use Rattle.tsb_node.specs.inner.PartReading.{IsPartBefore, AreParts, IsCurrentEntry, IsCurrentOf};
 

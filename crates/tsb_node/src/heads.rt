@@ -10,8 +10,8 @@ ghost use Rattle.tsb_node.specs.Children.{BeginsAsKeyNode};
 ghost use Rattle.tsb_node.specs.Headers.{HasHeader};
 ghost use Rattle.tsb_node.specs.declared.header.Header.{Header as HeaderValue};
 
+use crate::decoded_key_node::is_of_key_nodes;
 use crate::header::{is_of_kind, read_header};
-use crate::key_node_said::is_of_key_nodes;
 use crate::leaf::NotANode;
 use version_model::Bounds;
 

@@ -4,7 +4,7 @@ ghost use Rattle.std.specs.Prelude.{List, ℕ, ◌≡◌, ◌↔◌, IfSome, IfN
 ghost use Rattle.std.specs.Result.{MatchResult};
 ghost use Rattle.version_model.specs.declared.child.Child.{Child as ChildValue};
 ghost use Rattle.tsb_node.specs.KeyNodes.{IsChildEntry, child_octets};
-ghost use Rattle.tsb_node.specs.Saying.{IsRefusal};
+ghost use Rattle.tsb_node.specs.Decoded.{IsRefusal};
 ghost use Rattle.tsb_node.specs.inner.Rows.{IsFront, IsNextNumber};
 ghost use Rattle.tsb_node.specs.inner.ChildReading.{AreChildrenOf};
 

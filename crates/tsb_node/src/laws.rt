@@ -7,7 +7,7 @@ ghost use Rattle.version_model.specs.declared.part.Part.{Part};
 ghost use Rattle.version_model.specs.Versions.{Version};
 ghost use Rattle.version_model.specs.Ranges.{high_or, range_of};
 ghost use Rattle.version_model.specs.Sizes.{octets};
-ghost use Rattle.version_model.specs.Shows.{IsBelow, IsFromKey};
+ghost use Rattle.version_model.specs.LeafVersions.{IsBelow, IsFromKey};
 ghost use Rattle.version_model.specs.Blocks.{BlockNode, AreParts, IsPartOf};
 ghost use Rattle.version_model.specs.Pages.{PageNode, AreChildren, IsChildOf, past_range};
 ghost use Rattle.tsb_node.specs.declared.header.Header.{Header};
@@ -21,15 +21,15 @@ ghost use Rattle.tsb_node.specs.KeyNodes.{KeyNodeInPage, IsKeyNode};
 ghost use Rattle.tsb_node.specs.Children.{IsUnder, BeginsAsKeyNode};
 ghost use Rattle.tsb_node.specs.Parts.{BeginsAsColumn, BeginsAsOldColumn, IsSpot, IsPartAt};
 ghost use Rattle.tsb_node.specs.Splitting.{IsSide};
-ghost use Rattle.tsb_node.specs.Views.{keys_between, PageSays, BlockSays};
+ghost use Rattle.tsb_node.specs.Views.{keys_between, PageRepresents, BlockRepresents};
 
 /// Octets are the page, or the block, of one column at most, and of one key node; a page represents one node at most, and so does a block.
 pub fn nodes_are_one()
     ensures columns { (a b : ColumnInPage) (octets : List ℕ) → BeginsAsColumn a octets → BeginsAsColumn b octets → a ≡ b }
     ensures old_columns { (a b : ColumnInBlock) (octets : List ℕ) → BeginsAsOldColumn a octets → BeginsAsOldColumn b octets → a ≡ b }
     ensures key_nodes { (a b : KeyNodeInPage) (octets : List ℕ) → BeginsAsKeyNode a octets → BeginsAsKeyNode b octets → a ≡ b }
-    ensures pages { (a b : PageNode) (octets : List ℕ) → PageSays octets a → PageSays octets b → a ≡ b }
-    ensures blocks { (a b : BlockNode) (octets : List ℕ) → BlockSays octets a → BlockSays octets b → a ≡ b }
+    ensures pages { (a b : PageNode) (octets : List ℕ) → PageRepresents octets a → PageRepresents octets b → a ≡ b }
+    ensures blocks { (a b : BlockNode) (octets : List ℕ) → BlockRepresents octets a → BlockRepresents octets b → a ≡ b }
 {}
 
 /// The header with which the octets of a node begin is the node's.

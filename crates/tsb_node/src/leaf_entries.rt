@@ -3,7 +3,7 @@
 ghost use Rattle.std.specs.Prelude.{◌≡◌, ◌↔◌, ◌++◌, ◌∷◌, ◌+◌, [], length, IfOk, OnOk, IsTrue, Err};
 ghost use Rattle.version_model.specs.Entries.{version_of, versions_of};
 ghost use Rattle.tsb_node.specs.Leaves.{LeafNode, BeginsAsLeaf};
-ghost use Rattle.tsb_node.specs.Holding.{BeginsWithEntries, HoldsItsEntries};
+ghost use Rattle.tsb_node.specs.Holding.{BeginsWithEntries, HasItsEntries};
 ghost use Rattle.tsb_node.specs.inner.Reading.{value_size, version_in};
 ghost use Rattle.tsb_node.specs.inner.Scanning.{IsWholeVersion};
 
@@ -67,8 +67,8 @@ pub fn entries_in(alloc: Global, octets: &[u8]) -> Result<Vec<Entry>, ReadFault>
     requires size { length octets.now ≡ 16384 }
     ensures entries { IfOk result (λ all. (leaf : LeafNode) → BeginsAsLeaf leaf octets.now → versions_of all.items ≡ leaf.versions) }
     ensures refused { (leaf : LeafNode) → BeginsAsLeaf leaf octets.now → result ≡ Err ReadFault.NotANode → ⊥ }
-    ensures not_a_node { result ≡ Err ReadFault.NotANode ↔ (HoldsItsEntries octets.now → ⊥) }
-    ensures memory { result ≡ Err ReadFault.Memory → HoldsItsEntries octets.now }
+    ensures not_a_node { result ≡ Err ReadFault.NotANode ↔ (HasItsEntries octets.now → ⊥) }
+    ensures memory { result ≡ Err ReadFault.Memory → HasItsEntries octets.now }
 {
     let count = number2(octets, 4);
     let area = octets.split_at(LAST).0.split_at(FIRST).1;

@@ -5,7 +5,7 @@ ghost use Rattle.version_model.specs.Ranges.{end_or};
 ghost use Rattle.version_model.specs.Looks.{is_of};
 ghost use Rattle.version_model.specs.Entries.{versions_of};
 ghost use Rattle.tsb_node.specs.Leaves.{LeafNode, BeginsAsLeaf};
-ghost use Rattle.tsb_node.specs.Holding.{HoldsItsEntries};
+ghost use Rattle.tsb_node.specs.Holding.{HasItsEntries};
 ghost use Rattle.tsb_node.specs.inner.Fields.{number_in};
 ghost use Rattle.tsb_node.specs.inner.Scanning.{IsWholeVersion};
 
@@ -68,8 +68,8 @@ pub fn part(
     requires size { length octets.now ≡ 16384 }
     ensures part { IfOk result (λ part. (leaf : LeafNode) → BeginsAsLeaf leaf octets.now → versions_of part.items ≡ filter (is_of key from (end_or end)) leaf.versions) }
     ensures refused { (leaf : LeafNode) → BeginsAsLeaf leaf octets.now → result ≡ Err ReadFault.NotANode → ⊥ }
-    ensures not_a_node { result ≡ Err ReadFault.NotANode ↔ (HoldsItsEntries octets.now → ⊥) }
-    ensures memory { result ≡ Err ReadFault.Memory → HoldsItsEntries octets.now }
+    ensures not_a_node { result ≡ Err ReadFault.NotANode ↔ (HasItsEntries octets.now → ⊥) }
+    ensures memory { result ≡ Err ReadFault.Memory → HasItsEntries octets.now }
 {
     let count = number2(octets, 4);
     let area = octets.split_at(LAST).0.split_at(FIRST).1;

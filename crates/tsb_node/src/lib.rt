@@ -7,7 +7,7 @@
 //!     column entry     start 16, kind 1 (1 leaf block, 2 column block; in a page last of all 0, the current leaf's page), number 8
 //!     key node entry   low key 40, page 8
 //!
-//! All nodes are read through this one frame, and entries of one size by one set of laws. A column's page says from when on its
+//! All nodes are read through this one frame, and entries of one size by one set of laws. A column's page has the stamp from which its
 //! current leaf is, so a lookup in the past reads one page less. Lookups work on the octets themselves (`find`, `next`, `push`,
 //! `part_for`, ..) and take no memory; `next` looks each candidate key up, and scans all entries for each only if keys fall as
 //! stamps rise (at most 275 entries, of 59 octets at least).
@@ -21,13 +21,14 @@
 
 mod column;
 mod column_reading;
-mod column_said;
 mod column_writing;
+mod decoded_column;
+mod decoded_key_node;
+mod decoded_leaf;
 mod header;
 mod heads;
 mod key_node;
 mod key_node_reading;
-mod key_node_said;
 mod key_node_writing;
 mod laws;
 mod leaf;
@@ -35,7 +36,6 @@ mod leaf_entries;
 mod leaf_next;
 mod leaf_part;
 mod leaf_reading;
-mod leaf_said;
 mod leaf_sealing;
 mod leaf_splitting;
 mod leaf_writing;
@@ -44,12 +44,13 @@ mod numbers;
 mod writing;
 
 pub use column::{Current, PartAt, Spot, part_for, spot_for};
-pub use column_said::{ColumnSaid, OldColumnSaid, column_of_block, column_of_page};
 pub use column_writing::{write_column, write_old_column};
+pub use decoded_column::{DecodedColumn, DecodedOldColumn, column_of_block, column_of_page};
+pub use decoded_key_node::{DecodedKeyNode, key_node_of_page};
+pub use decoded_leaf::{DecodedLeaf, leaf_of_block, leaf_of_page};
 pub use header::{Header, read_header};
 pub use heads::{KeyNodeHead, column_head, key_node_head, leaf_head};
 pub use key_node::{Under, child_for};
-pub use key_node_said::{KeyNodeSaid, key_node_of_page};
 pub use key_node_writing::write_key_node;
 pub use laws::{
     blocks_begin_as_their_nodes, entries_have_their_octets, headers_are_of_their_nodes,
@@ -60,7 +61,6 @@ pub use leaf_entries::entries_in;
 pub use leaf_next::next;
 pub use leaf_part::{ReadFault, part};
 pub use leaf_reading::{leaves_are_one, read_leaf, read_leaf_block};
-pub use leaf_said::{LeafSaid, leaf_of_block, leaf_of_page};
 pub use leaf_sealing::seal_leaf;
 pub use leaf_splitting::copy_side;
 pub use leaf_writing::write_leaf;

@@ -15,7 +15,7 @@ use Rattle.version_model.proofs.api.LooksShown.{Has-tail, Has-head, rising_tail,
 use Rattle.version_model.proofs.api.Pushed.{Has-nil, Has-push_cases, Has-push_old, Has-push_new}
 use Rattle.tsb_runs.specs.inner.Latest.{IsLatest, AreLatest}
 
--- ---- what the map says
+-- ---- what the map represents
 
 no_gt : (a b : ℕ) → is_gt (nat_cmp a b) ≡ false → a ≤ b
 no_gt a b is = grind (arith, nat_tests)
@@ -50,8 +50,8 @@ module _ (vs : List Version) (s at : ℕ) (m n : BTreeMap ℕ Entry) (key : ℕ)
   first_has = subst (IsLatest vs s key) here (latest.each key first_above)
 
   -- the others go on saying what their keys have
-  pub others_say : AreLatest vs s (suc key) n
-  others_say = record {
+  pub others_represent : AreLatest vs s (suc key) n
+  others_represent = record {
     above = λ k some. elim (cases_eq key k) [
       | inl e ↦ absurd (no_some (get nat_cmp n k) (updates.0 k ∙ ap (λ (b : Bool). cond b None (get nat_cmp m k)) (same key k e)) some)
       | inr ne ↦ (let le : key ≤ k = no_gt key k (least k (subst (λ (o : Option Entry). IsSome o) (updates.2 k (other key k ne)) some)) in omega (arith, le, ne))
@@ -100,7 +100,7 @@ none_so_far s from m empty = record {
     none : (key : ℕ) → get nat_cmp m key ≡ None
     none key = rw empty refl
 
--- a version that says nothing of the key
+-- a version that represents nothing of the key
 passes : (done : List Version) (s key : ℕ) (v : Version) (o : Option Entry) → (v.key ≡ key → v.stamp ≤ s → ⊥) → IsSoFar done s key o → IsSoFar (done ++ v ∷ []) s key o
 passes done s key v None never so = λ u h. elim (Has-push_cases done v u h.has) [
   | inl old ↦ so u (record { has = old; of_key = h.of_key; not_after = h.not_after; greatest = λ w has same upto. h.greatest w (Has-push_old done v w has) same upto })

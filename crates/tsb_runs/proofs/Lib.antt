@@ -1,4 +1,4 @@
 pub mod LiveKeys
 pub mod Latest
-pub mod Standing
+pub mod Representing
 pub mod Steps

@@ -3,7 +3,7 @@ use Rattle.std.proofs.Common.{ℕ, suc, ◌<◌, ◌≤◌, List, [], ◌∷◌,
 use Rattle.std.proofs.lemmas.Bool.{cases_lt}
 use Rattle.version_model.specs.Versions.{Version, Answers, found_at}
 use Rattle.version_model.specs.Ranges.{Range}
-use Rattle.version_model.specs.Shows.{Shows}
+use Rattle.version_model.specs.LeafVersions.{LeafRepresents}
 use Rattle.version_model.specs.Looks.{NoneWithin}
 use Rattle.version_model.proofs.api.Shown.{answers_shown}
 use Rattle.version_model.proofs.api.LooksShown.{none_shown}
@@ -27,7 +27,7 @@ pub live_push : (vs : List Version) (s from at : ℕ) (rows : List LiveKey) (row
 live_push vs s from at [] row low above live none is = (omega (arith, low, above), omega arith, is, none_join vs s from at row.key live none, λ key a b. absurd (omega (arith, a, b)))
 live_push vs s from at (r ∷ rows) row low above live none is = (live.0, omega (arith, live.1, above), live.2, live.3, live_push vs s (suc r.key) at rows row (omega (arith, live.1)) above live.4 none is)
 
-module _ (all : List Version) (r : Range) (leaf : List Version) (shows : Shows all r leaf) (s : ℕ) (start : r.start ≤ s) (end : s < r.end) where
+module _ (all : List Version) (r : Range) (leaf : List Version) (shows : LeafRepresents all r leaf) (s : ℕ) (start : r.start ≤ s) (end : s < r.end) where
   -- the keys of a leaf that have a value are those of all versions within its keys
   pub live_shown : (from to : ℕ) (rows : List LiveKey) → r.low ≤ from → to ≤ r.high → AreLive leaf s from to rows → AreLive all s from to rows
   live_shown from to [] low high live = none_shown all r leaf shows s from to low high start end live

@@ -9,9 +9,9 @@ use Rattle.tsb_runs.specs.declared.live.LiveKey.{LiveKey}
 use Rattle.tsb_runs.specs.Runs.{AreLive}
 use Rattle.tsb_runs.specs.inner.Latest.{AreLatest}
 use Rattle.tsb_runs.proofs.LiveKeys.{live_more, live_push}
-use Rattle.tsb_runs.proofs.Latest.{first_above, first_after, first_has, others_say}
+use Rattle.tsb_runs.proofs.Latest.{first_above, first_after, first_has, others_represent}
 
--- what has a value up to a key is listed, and the map says what the keys from there on have
+-- what has a value up to a key is listed, and the map represents what the keys from there on have
 pub record AreTaken (vs : List Version) (s from high : ℕ) (rows : List LiveKey) (m : BTreeMap ℕ Entry) : Type 0 where
   pub at : ℕ
   pub low : from ≤ at
@@ -39,7 +39,7 @@ module _ (vs : List Version) (s from high : ℕ) (rows : List LiveKey) (m n : BT
         low = omega (arith, so.low, up, same);
         within = elim (cases_lt row.key high) [ inl lt ↦ lt | inr ge ↦ absurd (never (omega (arith, ge, same))) ];
         live = live_push vs s from so.at rows row so.low (omega (arith, up, same)) so.live (λ k low below. none k low (omega (arith, below, same))) has';
-        rest = subst (λ (k : ℕ). AreLatest vs s (suc k) n) (sym same) (others_say vs s so.at m n key entry so.rest here least updates);
+        rest = subst (λ (k : ℕ). AreLatest vs s (suc k) n) (sym same) (others_represent vs s so.at m n key entry so.rest here least updates);
       }
 
   -- it has ended
@@ -54,5 +54,5 @@ module _ (vs : List Version) (s from high : ℕ) (rows : List LiveKey) (m n : BT
         within = elim (cases_lt key high) [ inl lt ↦ lt | inr ge ↦ absurd (never ge) ];
         live = live_more vs s from so.at (suc key) rows (omega (arith, up)) so.live
             (λ k low upto. elim (cases_lt k key) [ inl lt ↦ none k low lt | inr ge ↦ subst (λ (j : ℕ). Answers vs j s None) (let e : key ≡ k = omega (arith, ge, upto) in e) ended ]);
-        rest = others_say vs s so.at m n key entry so.rest here least updates;
+        rest = others_represent vs s so.at m n key entry so.rest here least updates;
       }

@@ -4,10 +4,10 @@ ghost use Rattle.std.specs.Prelude.{◌≡◌, ◌≤◌, ℕ, Bool, List, IfOk,
 ghost use Rattle.page_tx.specs.Start.{Start};
 ghost use Rattle.version_model.specs.Pages.{CurrentLeaf, Store};
 ghost use Rattle.version_model.specs.Versions.{Version};
-ghost use Rattle.tsb_node.specs.Views.{PageSays};
+ghost use Rattle.tsb_node.specs.Views.{PageRepresents};
 ghost use Rattle.tsb_walk.specs.Refusals.{LookRefusal, OnlyReads};
 ghost use Rattle.tsb_walk.specs.PageWays.{IsNoLeaf};
-ghost use Rattle.tsb_walk.specs.Shown.{HasKey, Says, StandsShown, keys_at};
+ghost use Rattle.tsb_walk.specs.Shown.{HasKey, RepresentsNode, RepresentsShown, keys_at};
 ghost use Rattle.tsb_runs.specs.Runs.{IsRun};
 
 use crate::leaves::{LeafAt, leaf_at};
@@ -31,9 +31,9 @@ fn run_on(
     stamp: Stamp,
 ) -> Result<Run, ReadFault>
     requires has { HasKey column.now from }
-    ensures run { (versions : List Version) → PageSays page.now (CurrentLeaf (keys_at column.now) start versions) → IfOk result (IsRun versions stamp from) }
+    ensures run { (versions : List Version) → PageRepresents page.now (CurrentLeaf (keys_at column.now) start versions) → IfOk result (IsRun versions stamp from) }
     ensures high { IfOk result (λ run. run.high ≡ column.now.high) }
-    ensures none { result ≡ Err ReadFault.NotANode → (versions : List Version) → PageSays page.now (CurrentLeaf (keys_at column.now) start versions) → ⊥ }
+    ensures none { result ≡ Err ReadFault.NotANode → (versions : List Version) → PageRepresents page.now (CurrentLeaf (keys_at column.now) start versions) → ⊥ }
 {
     stamp_fits(stamp);
     if !is_current_leaf(page, column, start) {
@@ -63,7 +63,7 @@ fn run_here<P: Pages>(
     stamp: Stamp,
 ) -> Result<Run, NodeError>
     requires has { HasKey at.now.column from }
-    ensures run { (start : Start) (shown : List (List ℕ)) → P.shows pages.old start shown → (versions : List Version) → Says shown at.now.leaf.page (CurrentLeaf (keys_at at.now.column) at.now.leaf.start versions) → IfOk result (IsRun versions stamp from) }
+    ensures run { (start : Start) (shown : List (List ℕ)) → P.shows pages.old start shown → (versions : List Version) → RepresentsNode shown at.now.leaf.page (CurrentLeaf (keys_at at.now.column) at.now.leaf.start versions) → IfOk result (IsRun versions stamp from) }
     ensures high { IfOk result (λ run. run.high ≡ at.now.column.high) }
     ensures bad { (start : Start) (shown : List (List ℕ)) → P.shows pages.old start shown → (page : ℕ) → result ≡ Err (NodeError.BadNode page) → IsNoLeaf shown at.now.column at.now.leaf.start at.now.leaf.page }
     ensures refused { IfErr result (LookRefusal (P.down pages.old)) }
@@ -94,8 +94,8 @@ pub fn next_run<P: Pages>(
 ) -> Result<Run, NodeError>
     requires has { HasKey root.now from }
     requires level { 1 ≤ root.now.level }
-    ensures run { (start : Start) (shown : List (List ℕ)) → P.shows pages.old start shown → (s : Store) (all : List Version) → StandsShown shown s all root.now → IfOk result (IsRun all stamp from) }
-    ensures blames { (start : Start) (shown : List (List ℕ)) → P.shows pages.old start shown → (s : Store) (all : List Version) → StandsShown shown s all root.now → (page : ℕ) → result ≡ Err (NodeError.BadNode page) → ⊥ }
+    ensures run { (start : Start) (shown : List (List ℕ)) → P.shows pages.old start shown → (s : Store) (all : List Version) → RepresentsShown shown s all root.now → IfOk result (IsRun all stamp from) }
+    ensures blames { (start : Start) (shown : List (List ℕ)) → P.shows pages.old start shown → (s : Store) (all : List Version) → RepresentsShown shown s all root.now → (page : ℕ) → result ≡ Err (NodeError.BadNode page) → ⊥ }
     ensures refused { IfErr result (LookRefusal (P.down pages.old)) }
     ensures same { OnlyReads P.Pages pages.old pages.new (result ≡ Err NodeError.Fault) }
 {

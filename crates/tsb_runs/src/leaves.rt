@@ -6,7 +6,7 @@ ghost use Rattle.version_model.specs.Pages.{Store};
 ghost use Rattle.version_model.specs.Versions.{Version};
 ghost use Rattle.tsb_walk.specs.Refusals.{OnlyReads, WalkRefusal};
 ghost use Rattle.tsb_walk.specs.PageWays.{IsNoColumn};
-ghost use Rattle.tsb_walk.specs.Shown.{HasKey, StandsShown};
+ghost use Rattle.tsb_walk.specs.Shown.{HasKey, RepresentsShown};
 ghost use Rattle.tsb_walk.specs.inner.ColumnSpots.{IsSpotAt};
 ghost use Rattle.tsb_runs.specs.inner.LeavesAt.{IsLeafAt};
 
@@ -57,9 +57,9 @@ pub fn leaf_at<P: Pages>(
 ) -> Result<Option<LeafAt>, NodeError>
     requires has { HasKey root.now key }
     requires level { 1 ≤ root.now.level }
-    ensures leaf { (start : Start) (shown : List (List ℕ)) → P.shows pages.old start shown → (s : Store) (all : List Version) → StandsShown shown s all root.now → IfOk result (λ o. IfSome o (IsLeafAt shown all key stamp)) }
+    ensures leaf { (start : Start) (shown : List (List ℕ)) → P.shows pages.old start shown → (s : Store) (all : List Version) → RepresentsShown shown s all root.now → IfOk result (λ o. IfSome o (IsLeafAt shown all key stamp)) }
     ensures has { IfOk result (λ o. IfSome o (λ at. HasKey at.column key)) }
-    ensures blames { (start : Start) (shown : List (List ℕ)) → P.shows pages.old start shown → (s : Store) (all : List Version) → StandsShown shown s all root.now → (page : ℕ) → result ≡ Err (NodeError.BadNode page) → ⊥ }
+    ensures blames { (start : Start) (shown : List (List ℕ)) → P.shows pages.old start shown → (s : Store) (all : List Version) → RepresentsShown shown s all root.now → (page : ℕ) → result ≡ Err (NodeError.BadNode page) → ⊥ }
     ensures refused { IfErr result (WalkRefusal (P.down pages.old)) }
     ensures same { OnlyReads P.Pages pages.old pages.new (result ≡ Err NodeError.Fault) }
 {

@@ -5,7 +5,7 @@ ghost use Rattle.std.specs.BTreeMap.{Updates};
 ghost use Rattle.std.specs.Ordering.{nat_cmp};
 ghost use Rattle.version_model.specs.Versions.{Version, IsRising};
 ghost use Rattle.version_model.specs.Ranges.{Range, IsPoint, high_or};
-ghost use Rattle.version_model.specs.Shows.{Shows};
+ghost use Rattle.version_model.specs.LeafVersions.{LeafRepresents};
 ghost use Rattle.version_model.specs.Entries.{versions_of};
 ghost use Rattle.tsb_node.specs.Leaves.{LeafNode, BeginsAsLeaf};
 ghost use Rattle.tsb_runs.specs.Runs.{AreLive, IsRun};
@@ -114,7 +114,7 @@ pub fn run_in(
     stamp: Stamp,
 ) -> Result<Run, ReadFault>
     requires size { length octets.now ≡ 16384 }
-    ensures run { IfOk result (λ run. (all : List Version) (r : Range) (leaf : LeafNode) → BeginsAsLeaf leaf octets.now → Shows all r leaf.versions → r.high ≡ high_or high.now → IsPoint r from stamp
+    ensures run { IfOk result (λ run. (all : List Version) (r : Range) (leaf : LeafNode) → BeginsAsLeaf leaf octets.now → LeafRepresents all r leaf.versions → r.high ≡ high_or high.now → IsPoint r from stamp
         → IsRun all stamp from run) }
     ensures high { IfOk result (λ run. run.high ≡ high.now) }
     ensures leaf { (leaf : LeafNode) → BeginsAsLeaf leaf octets.now → result ≡ Err ReadFault.NotANode → ⊥ }

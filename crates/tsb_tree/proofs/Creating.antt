@@ -11,7 +11,7 @@ use Rattle.page_tx.proofs.Laying.{length_pages_of}
 use Rattle.page_journal.specs.Layout.{Image, pages_of}
 use Rattle.version_model.specs.Pages.{ColumnNode, CurrentLeaf, all_keys}
 use Rattle.version_model.specs.Ranges.{high_or}
-use Rattle.tsb_node.specs.Views.{PageSays}
+use Rattle.tsb_node.specs.Views.{PageRepresents}
 use Rattle.tsb_tree.specs.declared.whole.Whole.{Whole}
 use Rattle.tsb_tree.specs.Refusals.{CreateRefusal, of_page}
 use Rattle.tsb_tree.specs.Wholes.{keys, column_node, leaf_node, keys_of_whole}
@@ -32,14 +32,14 @@ lay_refused PagesFull homes next named images few fits is = absurd (omega (arith
 lay_refused OutOfMemory homes next named images few fits is = fits
 
 -- an empty column, and its leaf
-pub first_column : (w : Whole) (current : ℕ) (octets : List ℕ) → w.low ≡ 0 → w.high ≡ None → w.parts.items ≡ [] → w.start ≡ 0 → PageSays octets (column_node w current) → PageSays octets (ColumnNode all_keys [] 0 current)
-first_column w current octets low high parts start says =
+pub first_column : (w : Whole) (current : ℕ) (octets : List ℕ) → w.low ≡ 0 → w.high ≡ None → w.parts.items ≡ [] → w.start ≡ 0 → PageRepresents octets (column_node w current) → PageRepresents octets (ColumnNode all_keys [] 0 current)
+first_column w current octets low high parts start represents_node =
     let k : keys_of_whole w ≡ all_keys = ap (λ x. keys x (high_or w.high)) low ∙ ap (λ x. keys 0 (high_or x)) high in
     let same : column_node w current ≡ ColumnNode all_keys [] 0 current = ap (λ x. ColumnNode x w.parts.items w.start current) k ∙ ap (λ x. ColumnNode all_keys x w.start current) parts ∙ ap (λ x. ColumnNode all_keys [] x current) start in
-    subst (PageSays octets) same says
+    subst (PageRepresents octets) same represents_node
 
-pub first_leaf : (w : Whole) (octets : List ℕ) → w.low ≡ 0 → w.high ≡ None → w.start ≡ 0 → w.leaf ≡ [] → PageSays octets (leaf_node w) → PageSays octets (CurrentLeaf all_keys 0 [])
-first_leaf w octets low high start leaf says =
+pub first_leaf : (w : Whole) (octets : List ℕ) → w.low ≡ 0 → w.high ≡ None → w.start ≡ 0 → w.leaf ≡ [] → PageRepresents octets (leaf_node w) → PageRepresents octets (CurrentLeaf all_keys 0 [])
+first_leaf w octets low high start leaf represents_node =
     let k : keys_of_whole w ≡ all_keys = ap (λ x. keys x (high_or w.high)) low ∙ ap (λ x. keys 0 (high_or x)) high in
     let same : leaf_node w ≡ CurrentLeaf all_keys 0 [] = ap (λ x. CurrentLeaf x w.start w.leaf) k ∙ ap (λ x. CurrentLeaf all_keys x w.leaf) start ∙ ap (λ x. CurrentLeaf all_keys 0 x) leaf in
-    subst (PageSays octets) same says
+    subst (PageRepresents octets) same represents_node

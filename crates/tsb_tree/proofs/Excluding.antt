@@ -4,7 +4,7 @@ use Rattle.std.proofs.lemmas.Bool.{cases_lt, cases_order}
 use Rattle.std.proofs.lemmas.Option.{same_Some}
 use Rattle.version_model.specs.declared.child.Child.{Child}
 use Rattle.version_model.specs.Pages.{Keys, ColumnNode, CurrentLeaf, KeyNode, AreChildren, IsChildOf, child_keys}
-use Rattle.version_model.specs.Shows.{IsFrom}
+use Rattle.version_model.specs.LeafVersions.{IsFrom}
 use Rattle.version_model.specs.Sizes.{octets}
 use Rattle.version_model.specs.Versions.{Version, Has}
 use Rattle.version_model.proofs.api.Children.{disjoint}
@@ -13,13 +13,13 @@ use Rattle.tsb_node.specs.Views.{keys_between}
 use Rattle.tsb_node.proofs.ViewLaws.{children_are}
 use Rattle.tsb_walk.specs.declared.page_place.PagePlace.{PagePlace}
 use Rattle.tsb_walk.specs.PageWays.{IsLower}
-use Rattle.tsb_walk.specs.Shown.{Says, keys_at}
+use Rattle.tsb_walk.specs.Shown.{RepresentsNode, keys_at}
 use Rattle.tsb_tree.specs.Needs.{HasLeaf, IsWhatStays, BecomesTwo, split_by_key, split_key_node, StaysOne, leaf_with_room, split_by_time, above_one, takes_half, NeedsLevel}
 use Rattle.tsb_tree.specs.NoRoom.{AtRoot}
 use Rattle.tsb_tree.specs.inner.Uses.{UsesPages}
-use Rattle.tsb_tree.proofs.Columns.{says_one}
+use Rattle.tsb_tree.proofs.Columns.{represents_one}
 use Rattle.tsb_tree.proofs.Needing.{one_needed}
-use Rattle.tsb_tree.proofs.Saying.{KeyNodeOf, key_node_of_page}
+use Rattle.tsb_tree.proofs.Representing.{KeyNodeOf, key_node_of_page}
 
 -- one list stays of a leaf that is split by time at a stamp
 stays_in : (leaf : List Version) (at : ℕ) (stays other : List Version) → IsFrom leaf at stays → IsFrom leaf at other → (v : Version) → Has stays v → Has other v
@@ -34,7 +34,7 @@ one_stays leaf at stays other is is' = rising_one stays other is.rising is'.risi
 -- the children of a key node that is shown follow one another
 children_shown : (shown : List (List ℕ)) (key : ℕ) (place next : PagePlace) (lower : IsLower shown key place next) → AreChildren (keys_at place) lower.children
 children_shown shown key place next lower =
-    let of : KeyNodeOf lower.says.octets place.level (keys_at place) lower.children = key_node_of_page lower.says.octets _ place.level (keys_at place) lower.children refl lower.says.says in
+    let of : KeyNodeOf lower.represents_node.octets place.level (keys_at place) lower.children = key_node_of_page lower.represents_node.octets _ place.level (keys_at place) lower.children refl lower.represents_node.represents_node in
     let is = of.is in
     let keys : keys_between of.node.bounds ≡ keys_at place = cc in
     let children : of.node.children ≡ lower.children = cc in
@@ -46,26 +46,26 @@ module _ (shown : List (List ℕ)) (key : ℕ) (a b : PagePlace) (page : a.page 
   one_leaf : (leaf other : List Version) → HasLeaf shown a leaf → HasLeaf shown b other → leaf ≡ other
   one_leaf leaf other has has' =
       let column : ColumnNode (keys_at a) has.parts has.start has.page ≡ ColumnNode (keys_at b) has'.parts has'.start has'.page
-      = says_one shown b.page _ _ (subst (λ (p : ℕ). Says shown p (ColumnNode (keys_at a) has.parts has.start has.page)) page has.column) has'.column in
+      = represents_one shown b.page _ _ (subst (λ (p : ℕ). RepresentsNode shown p (ColumnNode (keys_at a) has.parts has.start has.page)) page has.column) has'.column in
       let at : has.page ≡ has'.page = cc in
       let current : CurrentLeaf (keys_at a) has.start leaf ≡ CurrentLeaf (keys_at b) has'.start other
-      = says_one shown has'.page _ _ (subst (λ (p : ℕ). Says shown p (CurrentLeaf (keys_at a) has.start leaf)) at has.current) has'.current in
+      = represents_one shown has'.page _ _ (subst (λ (p : ℕ). RepresentsNode shown p (CurrentLeaf (keys_at a) has.start leaf)) at has.current) has'.current in
       cc
 
   -- and are no column and key node
   no_column_above : (leaf : List Version) (next : PagePlace) → HasLeaf shown a leaf → IsLower shown key b next → ⊥
   no_column_above leaf next has lower =
-      let said : ColumnNode (keys_at a) has.parts has.start has.page ≡ KeyNode b.level (keys_at b) lower.children
-      = says_one shown b.page _ _ (subst (λ (p : ℕ). Says shown p (ColumnNode (keys_at a) has.parts has.start has.page)) page has.column) lower.says in
+      let decoded : ColumnNode (keys_at a) has.parts has.start has.page ≡ KeyNode b.level (keys_at b) lower.children
+      = represents_one shown b.page _ _ (subst (λ (p : ℕ). RepresentsNode shown p (ColumnNode (keys_at a) has.parts has.start has.page)) page has.column) lower.represents_node in
       absurd (cc)
 
   -- and the children of one key node, one of which has the key
   module _ (next other : PagePlace) (lower : IsLower shown key a next) (lower' : IsLower shown key b other) where
     one_node : KeyNode a.level (keys_at a) lower.children ≡ KeyNode b.level (keys_at b) lower'.children
-    one_node = says_one shown b.page _ _ (subst (λ (p : ℕ). Says shown p (KeyNode a.level (keys_at a) lower.children)) page lower.says) lower'.says
+    one_node = represents_one shown b.page _ _ (subst (λ (p : ℕ). RepresentsNode shown p (KeyNode a.level (keys_at a) lower.children)) page lower.represents_node) lower'.represents_node
 
     one_list : lower.children ≡ lower'.children
-    one_list = let said = one_node in cc
+    one_list = let decoded = one_node in cc
 
     abbrev child : Child
     child = record { low = next.low; page = next.page }
@@ -75,7 +75,7 @@ module _ (shown : List (List ℕ)) (key : ℕ) (a b : PagePlace) (page : a.page 
 
     under : IsChildOf (keys_at a) lower.children (keys_at other) second
     under =
-        let said = one_node in
+        let decoded = one_node in
         let keys : keys_at b ≡ keys_at a = cc in
         let children : lower'.children ≡ lower.children = cc in
         subst (λ (k : Keys). IsChildOf k lower.children (keys_at other) second) keys (subst (λ (cs : List Child). IsChildOf (keys_at b) cs (keys_at other) second) children lower'.child)

@@ -4,25 +4,25 @@ use Rattle.std.proofs.lemmas.Option.{none-some}
 use Rattle.version_model.specs.declared.child.Child.{Child}
 use Rattle.version_model.specs.Versions.{Version, Has, IsAbove}
 use Rattle.version_model.specs.Ranges.{Range, key_end, stamp_end}
-use Rattle.version_model.specs.Shows.{Shows}
+use Rattle.version_model.specs.LeafVersions.{LeafRepresents}
 use Rattle.version_model.specs.Blocks.{BlockNode, Grows}
-use Rattle.version_model.specs.Pages.{PageNode, CurrentLeaf, ColumnNode, KeyNode, column, Store, StandsIn, all_keys, current_range}
+use Rattle.version_model.specs.Pages.{PageNode, CurrentLeaf, ColumnNode, KeyNode, column, Store, RepresentsIn, all_keys, current_range}
 use Rattle.version_model.specs.Inserts.{Splits, Became}
 use Rattle.version_model.proofs.api.Pushed.{Has-push_cases, Has-push_new, IsRising-push, Adds-push}
-use Rattle.version_model.proofs.api.Grown.{Stands-grows}
+use Rattle.version_model.proofs.api.Grown.{Represents-grows}
 use Rattle.tsb_tree.specs.Trees.{TreeHas}
 use Rattle.tsb_tree.proofs.Laying.{put, put_same, put_other}
-use Rattle.tsb_tree.proofs.KeySplit.{root_stands}
+use Rattle.tsb_tree.proofs.KeySplit.{root_represents}
 
 -- the store with a new root, in the next fresh page
 abbrev pub with_root : Store → ℕ → ℕ → Child → Store
 with_root t level root new = record { nodes = put t.limit (KeyNode (suc level) all_keys (record { low = 0; page = root } ∷ new ∷ [])) t.nodes; limit = t.limit + 1; blocks = t.blocks; next = t.next }
 
 -- a root that became two has a new one above it
-pub grown_root : (t : Store) (all : List Version) (level root : ℕ) (new : Child) → Became t all level all_keys root (Some new) → StandsIn (with_root t level root new) all (suc level) all_keys t.limit
+pub grown_root : (t : Store) (all : List Version) (level root : ℕ) (new : Child) → Became t all level all_keys root (Some new) → RepresentsIn (with_root t level root new) all (suc level) all_keys t.limit
 grown_root t all level root new became =
     let n : PageNode = KeyNode (suc level) all_keys (record { low = 0; page = root } ∷ new ∷ []) in
-    root_stands t (with_root t level root new) all level root all_keys new became
+    root_represents t (with_root t level root new) all level root all_keys new became
     (put_same t.limit n t.nodes)
     (λ p in_limit. put_other t.limit n t.nodes p (λ e. omega (arith, e, in_limit)))
     (omega arith) refl refl
@@ -30,13 +30,13 @@ grown_root t all level root new became =
 -- a refused insert leaves the tree as it was, with more blocks
 pub TreeHas-grown : (s t : Store) (all : List Version) (root level least : ℕ) → t.nodes ≡ s.nodes → t.limit ≡ s.limit → Grows s.blocks t.blocks → s.next ≤ t.next → TreeHas s all root level least → TreeHas t all root level least
 TreeHas-grown s t all root level least same_nodes same_limit grows next_grows has = record {
-  stands = record {
-    some_level = has.stands.some_level;
-    few_levels = has.stands.few_levels;
-    stands = rw (same_nodes, same_limit) (Stands-grows s.blocks t.blocks s.next t.next all grows next_grows s.nodes s.limit level all_keys root has.stands.stands);
-    rising = has.stands.rising;
-    in_keys = has.stands.in_keys;
-    in_time = has.stands.in_time;
+  represents_all = record {
+    some_level = has.represents_all.some_level;
+    few_levels = has.represents_all.few_levels;
+    represents_all = rw (same_nodes, same_limit) (Represents-grows s.blocks t.blocks s.next t.next all grows next_grows s.nodes s.limit level all_keys root has.represents_all.represents_all);
+    rising = has.represents_all.rising;
+    in_keys = has.represents_all.in_keys;
+    in_time = has.represents_all.in_time;
   };
   bounded = has.bounded;
   next_stamp = has.next_stamp;
@@ -51,21 +51,21 @@ module _ (s t : Store) (v : Version) (root level least : ℕ) (new : Option Chil
 
   -- the root took the version
   pub took : Became t (all ++ v ∷ []) level all_keys root new
-  took = splits.stands all (all ++ v ∷ []) all_keys (record { low = omega arith; high = omega arith }) above_all (Adds-push all v) has.stands.stands
+  took = splits.represents_all all (all ++ v ∷ []) all_keys (record { low = omega arith; high = omega arith }) above_all (Adds-push all v) has.represents_all.represents_all
 
-  pub TreeHas-with : (u : Store) (root' level' : ℕ) → 1 ≤ level' → level' ≤ 7 → StandsIn u (all ++ v ∷ []) level' all_keys root' → TreeHas u (all ++ v ∷ []) root' level' (v.stamp + 1)
-  TreeHas-with u root' level' low high stands = record {
-    stands = record {
+  pub TreeHas-with : (u : Store) (root' level' : ℕ) → 1 ≤ level' → level' ≤ 7 → RepresentsIn u (all ++ v ∷ []) level' all_keys root' → TreeHas u (all ++ v ∷ []) root' level' (v.stamp + 1)
+  TreeHas-with u root' level' low high represents_all = record {
+    represents_all = record {
       some_level = low;
       few_levels = high;
-      stands = stands;
-      rising = IsRising-push all v has.stands.rising above_all;
+      represents_all = represents_all;
+      rising = IsRising-push all v has.represents_all.rising above_all;
       in_keys = λ w h. elim (Has-push_cases all v w h) [
-        | inl old ↦ has.stands.in_keys w old
+        | inl old ↦ has.represents_all.in_keys w old
         | inr is ↦ omega (arith, ap (λ (x : Version). x.key) is)
       ];
       in_time = λ w h. elim (Has-push_cases all v w h) [
-        | inl old ↦ has.stands.in_time w old
+        | inl old ↦ has.represents_all.in_time w old
         | inr is ↦ omega (arith, ap (λ (x : Version). x.stamp) is)
       ];
     };
@@ -94,7 +94,7 @@ not_back s all root level least stamp has le = above_of all least stamp has.next
 no_version : (v : Version) → Has [] v → ⊥
 no_version v h = none-some v h.is
 
-no_shows : (r : Range) → Shows [] r []
+no_shows : (r : Range) → LeafRepresents [] r []
 no_shows r = record {
   whole = λ v h _ _ _. absurd (no_version v h);
   true_ones = λ v h _ _. absurd (no_version v h);
@@ -113,10 +113,10 @@ created blocks next fresh limit is =
     let leaf : PageNode = CurrentLeaf all_keys 0 [] in
     let none : ℕ → Option PageNode = λ _. None in
     record {
-      stands = record {
+      represents_all = record {
         some_level = omega arith;
         few_levels = omega arith;
-        stands = column all_keys fresh (record {
+        represents_all = column all_keys fresh (record {
           parts = [];
           current = fresh + 1;
           start = 0;

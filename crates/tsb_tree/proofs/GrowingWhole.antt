@@ -5,13 +5,13 @@ use Rattle.once_store.specs.declared.shelf.Shelf.{Shelf}
 use Rattle.once_store.specs.Shelves.{next_of}
 use Rattle.version_model.specs.Blocks.{BlockNode}
 use Rattle.version_model.specs.Ranges.{high_or}
-use Rattle.version_model.specs.Shows.{IsFrom}
+use Rattle.version_model.specs.LeafVersions.{IsFrom}
 use Rattle.version_model.specs.Sizes.{octets, entry_octets, value_octets}
 use Rattle.version_model.specs.Versions.{Version, Has, IsAbove}
 use Rattle.version_model.proofs.api.Pushed.{Has-push_cases}
 use Rattle.tsb_node.specs.Leaves.{IsLeafPage, IsShortOf, value_encoded}
 use Rattle.tsb_node.proofs.ViewLaws.{entries-octets}
-use Rattle.worm_migration.specs.Settled.{ShelfSays}
+use Rattle.worm_migration.specs.Settled.{ShelfRepresents}
 use Rattle.tsb_tree.specs.declared.whole.Whole.{Whole}
 use Rattle.tsb_tree.specs.Needs.{IsWhatStays}
 use Rattle.tsb_tree.specs.Outlived.{HasOutlived}
@@ -54,9 +54,9 @@ module _ (w w' : Whole) (v : Version) (taken : w' ≡ record w { leaf = w.leaf +
   pub taken_none : IsAbove w.leaf v.stamp → IsWhatStays w'.leaf v.stamp w'.leaf → HasOutlived w.leaf v → ⊥
   taken_none above what = none_outlived w.leaf v above (subst (λ (l : List Version). IsFrom l v.stamp l) leaf_is what.from)
 
-  pub taken_on : {O Pen Seen : Type 0} (device : Ghosts O Pen Seen) (shelf : Shelf O Pen Seen) (blocks : ℕ → Option BlockNode) → ShelfSays device shelf blocks → TakesOn device shelf blocks blocks (next_of shelf) v w w'
-  taken_on device shelf blocks says = record {
-    says = says;
+  pub taken_on : {O Pen Seen : Type 0} (device : Ghosts O Pen Seen) (shelf : Shelf O Pen Seen) (blocks : ℕ → Option BlockNode) → ShelfRepresents device shelf blocks → TakesOn device shelf blocks blocks (next_of shelf) v w w'
+  taken_on device shelf blocks represents_node = record {
+    represents_node = represents_node;
     grows = λ n node h. h;
     takes = subst (λ (x : Whole). Takes blocks (next_of shelf) blocks (next_of shelf) v w x) (sym taken) (takes_in_leaf blocks (next_of shelf) w (w.leaf ++ v ∷ []) v refl);
   }

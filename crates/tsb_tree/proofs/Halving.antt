@@ -3,7 +3,7 @@ use Rattle.std.proofs.Common.{◌≡◌, ℕ, zero, suc, ◌+◌, ◌-◌, ◌<�
 use Rattle.std.proofs.lemmas.Option.{none-some, same_Some}
 use Rattle.version_model.specs.Versions.{Version, Has}
 use Rattle.version_model.specs.Ranges.{high_or, key_end}
-use Rattle.version_model.specs.Shows.{IsBelow, IsFromKey}
+use Rattle.version_model.specs.LeafVersions.{IsBelow, IsFromKey}
 use Rattle.version_model.specs.Sizes.{octets, octets_below, IsSplitPoint}
 use Rattle.version_model.proofs.api.Fits.{point_is_there, left_fits, right_fits, left_some}
 use Rattle.tsb_tree.specs.declared.whole.Whole.{Whole}

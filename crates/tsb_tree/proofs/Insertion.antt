@@ -19,7 +19,7 @@ use Rattle.page_tx.proofs.Laying.{length_pages_of}
 use Rattle.version_model.specs.declared.child.Child.{Child}
 use Rattle.version_model.specs.Versions.{Version}
 use Rattle.version_model.specs.Ranges.{key_end, stamp_end}
-use Rattle.version_model.specs.Pages.{Keys, PageNode, KeyNode, Store, StandsIn, all_keys}
+use Rattle.version_model.specs.Pages.{Keys, PageNode, KeyNode, Store, RepresentsIn, all_keys}
 use Rattle.version_model.specs.Inserts.{Became}
 use Rattle.tsb_walk.specs.Refusals.{OnlyReads}
 use Rattle.tsb_walk.specs.declared.page_place.PagePlace.{PagePlace}
@@ -35,13 +35,13 @@ use Rattle.tsb_tree.specs.Raises.{GrowsRoot, RootRefusal, TreeCanBeLaid}
 use Rattle.tsb_tree.specs.Refusals.{PlanRefusal, InsertRefusal, of_page}
 use Rattle.tsb_tree.specs.Shelves.{LeavesShelf}
 use Rattle.tsb_tree.specs.Stores.{IsStore}
-use Rattle.tsb_tree.specs.Trees.{TreeHas, TreeShown}
+use Rattle.tsb_tree.specs.Trees.{TreeHas, TreeRepresented}
 use Rattle.tsb_tree.specs.Takers.{CanTake}
 use Rattle.tsb_tree.proofs.Creating.{without_few}
 use Rattle.tsb_tree.proofs.Growing.{TreeHas-grown, TreeHas-with, took, grown_root, not_back}
 use Rattle.tsb_tree.proofs.Laying.{put, put_other}
-use Rattle.tsb_tree.proofs.Saying.{reads_then}
-use Rattle.tsb_tree.proofs.Shelving.{says_on, honest_on}
+use Rattle.tsb_tree.proofs.Representing.{reads_then}
+use Rattle.tsb_tree.proofs.Shelving.{represents_on, honest_on}
 use Rattle.tsb_tree.proofs.Reporting.{shown-set, get-set_other}
 
 module _ {O Pen Seen : Type 0} (device : OnceGhosts O Pen Seen) (shelf : Shelf O Pen Seen) (homes : ℕ) (s : Store) (all : List Version) (v : Version) (root level least : ℕ) (has : TreeHas s all root level least)
@@ -53,15 +53,15 @@ module _ {O Pen Seen : Type 0} (device : OnceGhosts O Pen Seen) (shelf : Shelf O
   pub tree_same : change.new ≡ None → (now : TreePlace) → now.root ≡ root → now.level ≡ level → now.least ≡ v.stamp + 1 → PlansTree device shelf homes s (all ++ v ∷ []) change now
   tree_same none now root_is level_is least_is =
       let splits = rw none at plans.splits in
-      let stands : StandsIn between (all ++ v ∷ []) level all_keys root = took s between v root level least None later key in_time splits all has in
+      let represents_all : RepresentsIn between (all ++ v ∷ []) level all_keys root = took s between v root level least None later key in_time splits all has in
       record {
         nodes = plans.nodes;
         blocks = plans.blocks;
         lays = plans.lays;
-        says = plans.says;
-        has = rw (root_is, level_is, least_is) (TreeHas-with s between v root level least None later key in_time splits all has between root level has.stands.some_level has.stands.few_levels stands);
+        represents_node = plans.represents_node;
+        has = rw (root_is, level_is, least_is) (TreeHas-with s between v root level least None later key in_time splits all has between root level has.represents_all.some_level has.represents_all.few_levels represents_all);
         silent = plans.silent;
-        own = plans.own all all_keys has.stands.stands;
+        own = plans.own all all_keys has.represents_all.represents_all;
       }
 
   module _ (new : Child) (some : change.new ≡ Some new) where
@@ -79,7 +79,7 @@ module _ {O Pen Seen : Type 0} (device : OnceGhosts O Pen Seen) (shelf : Shelf O
         let node : PageNode = KeyNode (suc level) all_keys (record { low = 0; page = root } ∷ new ∷ []) in
         let nodes : ℕ → Option PageNode = put change.unused node plans.nodes in
         let u : Store = record { nodes = nodes; limit = change.unused + 1; blocks = plans.blocks; next = next_of shelf } in
-        let stands : StandsIn u (all ++ v ∷ []) (suc level) all_keys change.unused = grown_root between (all ++ v ∷ []) level root new became in
+        let represents_all : RepresentsIn u (all ++ v ∷ []) (suc level) all_keys change.unused = grown_root between (all ++ v ∷ []) level root new became in
         let up : level + 1 ≡ suc level = omega arith in
         let apart : (p : ℕ) → p < s.limit → p ≡ change.unused → ⊥ = λ p in_limit e. omega (arith, e, in_limit, plans.splits.limit_grows) in
         record {
@@ -88,12 +88,12 @@ module _ {O Pen Seen : Type 0} (device : OnceGhosts O Pen Seen) (shelf : Shelf O
           lays = λ shown long are.
               (let below : List (List ℕ) = laid change.images.items shown in
               let inside : change.unused < length below = (let l = length_laid change.images.items shown in omega (arith, l, long, room)) in
-              rw (grows.images shown) (shown-set below plans.nodes change.unused grows.octets node inside grows.says (plans.lays shown long are)));
-          says = plans.says;
-          has = rw (root_is, level_is, up, least_is, grows.unused) (TreeHas-with s between v root level least (Some new) later key in_time (rw some at plans.splits) all has u change.unused (suc level) (omega arith) (omega (arith, low)) stands);
+              rw (grows.images shown) (shown-set below plans.nodes change.unused grows.octets node inside grows.represents_node (plans.lays shown long are)));
+          represents_node = plans.represents_node;
+          has = rw (root_is, level_is, up, least_is, grows.unused) (TreeHas-with s between v root level least (Some new) later key in_time (rw some at plans.splits) all has u change.unused (suc level) (omega arith) (omega (arith, low)) represents_all);
           silent = λ p in_limit none. put_other change.unused node plans.nodes p (apart p in_limit) ∙ plans.silent p in_limit none;
           own = λ p in_limit none shown.
-              ap (λ (l : List (List ℕ)). slice_get l p) (grows.images shown) ∙ get-set_other (laid change.images.items shown) change.unused p grows.octets (apart p in_limit) ∙ plans.own all all_keys has.stands.stands p in_limit none shown;
+              ap (λ (l : List (List ℕ)). slice_get l p) (grows.images shown) ∙ get-set_other (laid change.images.items shown) change.unused p grows.octets (apart p in_limit) ∙ plans.own all all_keys has.represents_all.represents_all p in_limit none shown;
         }
 
 -- what is planned is taken in where it is laid
@@ -105,7 +105,7 @@ taken_in pages old new device shelf shelf' start shown s all change now is long 
   after = laid change.images.items shown;
   tree = record {
     store = record { nodes = plan.nodes; limit = change.unused; blocks = plan.blocks; next = next_of shelf' };
-    is = record { shows = shows; reports = plan.lays shown long is.reports; limit = sym next; honest = honest; says = plan.says; next = refl };
+    is = record { shows = shows; reports = plan.lays shown long is.reports; limit = sym next; honest = honest; represents_node = plan.represents_node; next = refl };
     has = plan.has;
   };
   others = λ page in_limit none. plan.own page in_limit none shown;
@@ -114,7 +114,7 @@ taken_in pages old new device shelf shelf' start shown s all change now is long 
 
 -- the tree is as it was where pages were read alone, and blocks were spent
 pub as_it_was : {P O Pen Seen : Type 0} (pages : Ghosts P) (old new : P) (E : Type 0) (device : OnceGhosts O Pen Seen) (most : ℕ) (shelf shelf' : Shelf O Pen Seen) (F G : Type 0) (start : Start) (shown : List (List ℕ)) (all : List Version) (root level least : ℕ)
-    → OnlyReads pages old new E → LeavesShelf device most shelf shelf' F G → TreeShown pages old device shelf start shown all root level least → TreeShown pages new device shelf' start shown all root level least
+    → OnlyReads pages old new E → LeavesShelf device most shelf shelf' F G → TreeRepresented pages old device shelf start shown all root level least → TreeRepresented pages new device shelf' start shown all root level least
 as_it_was pages old new E device most shelf shelf' F G start shown all root level least reads leaves tree =
     let s : Store = tree.store in
     let t : Store = record { nodes = s.nodes; limit = s.limit; blocks = s.blocks; next = next_of shelf' } in
@@ -125,7 +125,7 @@ as_it_was pages old new E device most shelf shelf' F G start shown all root leve
         reports = tree.is.reports;
         limit = tree.is.limit ∙ sym reads.next;
         honest = honest_on device most shelf shelf' F G leaves tree.is.honest;
-        says = says_on device most shelf shelf' F G s.blocks leaves tree.is.honest tree.is.says;
+        represents_node = represents_on device most shelf shelf' F G s.blocks leaves tree.is.honest tree.is.represents_node;
         next = refl;
       };
       has = TreeHas-grown s t all root level least refl refl (λ n node h. h) (omega (arith, tree.is.next, leaves.forward)) tree.has;
@@ -171,13 +171,13 @@ lay_insert refusals.OutOfMemory homes next named level down least stamp change c
 
 -- the root of a tree can take a version that isn't before the least stamp
 pub root_can : {P O Pen Seen : Type 0} (pages : Ghosts P) (held : P) (device : OnceGhosts O Pen Seen) (shelf : Shelf O Pen Seen) (start : Start) (shown : List (List ℕ)) (all : List Version) (place : PagePlace) (root level least : ℕ) (v : Version)
-    → place.page ≡ root → place.level ≡ level → keys_at place ≡ all_keys → (tree : TreeShown pages held device shelf start shown all root level least) → least ≤ v.stamp → v.key + 1 < key_end → CanTake pages held device shelf tree.store all place v
+    → place.page ≡ root → place.level ≡ level → keys_at place ≡ all_keys → (tree : TreeRepresented pages held device shelf start shown all root level least) → least ≤ v.stamp → v.key + 1 < key_end → CanTake pages held device shelf tree.store all place v
 root_can pages held device shelf start shown all place root level least v page_is level_is keys_are tree later key = record {
   start = start;
   shown = shown;
   is = tree.is;
-  stands = subst (λ (p : ℕ). StandsIn tree.store all place.level (keys_at place) p) (sym page_is)
-      (subst (λ (k : Keys). StandsIn tree.store all place.level k root) (sym keys_are) (subst (λ (l : ℕ). StandsIn tree.store all l all_keys root) (sym level_is) tree.has.stands.stands));
+  represents_all = subst (λ (p : ℕ). RepresentsIn tree.store all place.level (keys_at place) p) (sym page_is)
+      (subst (λ (k : Keys). RepresentsIn tree.store all place.level k root) (sym keys_are) (subst (λ (l : ℕ). RepresentsIn tree.store all l all_keys root) (sym level_is) tree.has.represents_all.represents_all));
   above = not_back tree.store all root level least v.stamp tree.has later;
   bounded = tree.has.bounded;
   inside = key;
@@ -185,7 +185,7 @@ root_can pages held device shelf start shown all place root level least v page_i
 
 -- what is so on the way down from that root
 pub root_so : {P O Pen Seen : Type 0} (pages : Ghosts P) (held : P) (device : OnceGhosts O Pen Seen) (shelf : Shelf O Pen Seen) (start : Start) (shown : List (List ℕ)) (all : List Version) (place : PagePlace) (root level least : ℕ) (v : Version) (fact : List (List ℕ) → PagePlace → Type 0)
-    (page_is : place.page ≡ root) (level_is : place.level ≡ level) (keys_are : keys_at place ≡ all_keys) (tree : TreeShown pages held device shelf start shown all root level least) (later : least ≤ v.stamp) (key : v.key + 1 < key_end)
+    (page_is : place.page ≡ root) (level_is : place.level ≡ level) (keys_are : keys_at place ≡ all_keys) (tree : TreeRepresented pages held device shelf start shown all root level least) (later : least ≤ v.stamp) (key : v.key + 1 < key_end)
     → fact (root_can pages held device shelf start shown all place root level least v page_is level_is keys_are tree later key).shown place → AtRoot (fact shown) root level
 unfolding root_can
 root_so pages held device shelf start shown all place root level least v fact page_is level_is keys_are tree later key is = (place, page_is, level_is, keys_are, is)

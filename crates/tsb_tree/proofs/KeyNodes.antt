@@ -5,36 +5,36 @@ use Rattle.std.specs.Option.{IfSome}
 use Rattle.version_model.specs.declared.bounds.Bounds.{Bounds}
 use Rattle.version_model.specs.declared.child.Child.{Child}
 use Rattle.version_model.specs.Pages.{KeyNode}
-use Rattle.tsb_node.specs.declared.key_node_said.KeyNodeSaid.{KeyNodeSaid}
+use Rattle.tsb_node.specs.declared.decoded_key_node.DecodedKeyNode.{DecodedKeyNode}
 use Rattle.tsb_node.specs.KeyNodes.{IsKeyNode, IsKeyNodePage, lows_of}
 use Rattle.tsb_node.specs.Columns.{AreAscending}
-use Rattle.tsb_node.specs.Saying.{key_node_said}
-use Rattle.tsb_node.specs.Views.{PageSays, says_key_node, keys_between}
+use Rattle.tsb_node.specs.Decoded.{decoded_key_node}
+use Rattle.tsb_node.specs.Views.{PageRepresents, represents_key_node, keys_between}
 use Rattle.tsb_node.proofs.api.Writing.{key_node_can}
 use Rattle.tsb_tree.specs.KeyNodes.{BeginsAfter, IsWide, AreKeyHalves}
-use Rattle.tsb_tree.proofs.Saying.{each_get}
+use Rattle.tsb_tree.proofs.Representing.{each_get}
 use Rattle.tsb_tree.proofs.KeyLists.{insert_each, insert_first, insert_rises, drop_each, take_rises, drop_rises, take_below, take_first, drop_first, first_below, rises_next}
 
 -- what is read from a page
-pub wide_of : (said : KeyNodeSaid) → IsKeyNode (key_node_said said) → IsWide said
-wide_of said is =
-    let can = key_node_can (key_node_said said) is in
+pub wide_of : (decoded : DecodedKeyNode) → IsKeyNode (decoded_key_node decoded) → IsWide decoded
+wide_of decoded is =
+    let can = key_node_can (decoded_key_node decoded) is in
     record { lowest = can.lowest; highest = can.highest; high = can.bounds.high; each = can.each; first = can.first; rising = can.rising }
 
 -- bounds of a key node's keys, at all stamps
-pub record AreBoundsOf (node : KeyNodeSaid) (b : Bounds) : Type 0 where
+pub record AreBoundsOf (node : DecodedKeyNode) (b : Bounds) : Type 0 where
   pub low : b.low ≡ node.bounds.low
   pub high : b.high ≡ node.bounds.high
   pub start : b.start ≡ 0
   pub current : b.end ≡ None
 
-pub key_node_says : (node : KeyNodeSaid) (b : Bounds) (children : List Child) (octets : List ℕ) → AreBoundsOf node b → children ≡ node.children.items → IsKeyNodePage (record { level = node.level; bounds = b; children = children }) octets → PageSays octets (KeyNode node.level (keys_between node.bounds) node.children.items)
-key_node_says node b children octets are same is =
-    let says : PageSays octets (KeyNode node.level (keys_between b) children) = says_key_node (record { level = node.level; bounds = b; children = children }) is in
-    rw (← same, ← are.low, ← are.high) says
+pub key_node_represents : (node : DecodedKeyNode) (b : Bounds) (children : List Child) (octets : List ℕ) → AreBoundsOf node b → children ≡ node.children.items → IsKeyNodePage (record { level = node.level; bounds = b; children = children }) octets → PageRepresents octets (KeyNode node.level (keys_between node.bounds) node.children.items)
+key_node_represents node b children octets are same is =
+    let represents_node : PageRepresents octets (KeyNode node.level (keys_between b) children) = represents_key_node (record { level = node.level; bounds = b; children = children }) is in
+    rw (← same, ← are.low, ← are.high) represents_node
 
 -- a node with a child more
-pub wide_put : (node put : KeyNodeSaid) (i : ℕ) (new : Child) → IsWide node → BeginsAfter node.children.items i new.low → IfSome node.bounds.high (λ n. new.low < n) → put.level ≡ node.level → put.bounds.low ≡ node.bounds.low → put.bounds.high ≡ node.bounds.high
+pub wide_put : (node put : DecodedKeyNode) (i : ℕ) (new : Child) → IsWide node → BeginsAfter node.children.items i new.low → IfSome node.bounds.high (λ n. new.low < n) → put.level ≡ node.level → put.bounds.low ≡ node.bounds.low → put.bounds.high ≡ node.bounds.high
     → put.children.items ≡ insert node.children.items (suc i) new → IsWide put
 wide_put node put i new wide beyond lt level low high same = record {
   lowest = rw level wide.lowest;
@@ -45,7 +45,7 @@ wide_put node put i new wide beyond lt level low high same = record {
   rising = rw same (insert_rises node.children.items i new wide.rising beyond);
 }
 
-module _ (node front back : KeyNodeSaid) (wide : IsWide node) (halves : AreKeyHalves node front back) where
+module _ (node front back : DecodedKeyNode) (wide : IsWide node) (halves : AreKeyHalves node front back) where
   -- the first half of a node
   pub wide_front : halves.mid.low + 1 < 256 ^ 40 → IsWide front
   wide_front fits = record {

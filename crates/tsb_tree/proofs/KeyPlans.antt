@@ -11,14 +11,14 @@ use Rattle.page_tx.specs.inner.Laid.{length_laid}
 use Rattle.version_model.specs.declared.child.Child.{Child}
 use Rattle.version_model.specs.Versions.{Version}
 use Rattle.version_model.specs.Ranges.{high_or}
-use Rattle.version_model.specs.Pages.{Keys, PageNode, KeyNode, Store, StandsIn, IsChildOf, child_keys, low_or}
-use Rattle.version_model.proofs.api.Children.{key_stands}
+use Rattle.version_model.specs.Pages.{Keys, PageNode, KeyNode, Store, RepresentsIn, IsChildOf, child_keys, low_or}
+use Rattle.version_model.proofs.api.Children.{key_represents}
 use Rattle.version_model.proofs.api.Put.{Splits-child}
-use Rattle.version_model.proofs.api.Standing.{key_node_of}
-use Rattle.tsb_node.proofs.api.Pages.{one_said}
-use Rattle.tsb_node.specs.Views.{PageSays}
+use Rattle.version_model.proofs.api.Representing.{key_node_of}
+use Rattle.tsb_node.proofs.api.Pages.{one_decoded}
+use Rattle.tsb_node.specs.Views.{PageRepresents}
 use Rattle.tsb_walk.specs.declared.page_place.PagePlace.{PagePlace}
-use Rattle.tsb_walk.specs.Shown.{AreShown, keys_at}
+use Rattle.tsb_walk.specs.Shown.{RepresentNodes, keys_at}
 use Rattle.tsb_walk.specs.PageWays.{IsLower}
 use Rattle.tsb_tree.specs.declared.change.Change.{Change}
 use Rattle.tsb_tree.specs.KeyNodes.{BeginsAfter}
@@ -35,9 +35,9 @@ module _ {O Pen Seen : Type 0} (device : Ghosts O Pen Seen) (shelf : Shelf O Pen
   between : Store
   between = record { nodes = plans.nodes; limit = change.unused; blocks = plans.blocks; next = next_of shelf }
 
-  own_child : (all : List Version) (k : Keys) → StandsIn s all (suc level) k page → KeepsOwn s change
-  own_child all k stands =
-      let ks = (key_stands s.nodes s.limit s.blocks s.next all (suc level) k page level wide children at stands).1 in
+  own_child : (all : List Version) (k : Keys) → RepresentsIn s all (suc level) k page → KeepsOwn s change
+  own_child all k represents_all =
+      let ks = (key_represents s.nodes s.limit s.blocks s.next all (suc level) k page level wide children at represents_all).1 in
       plans.own all (child_keys k children i child) (ks.stand (child_keys k children i child) child (record { place = i; at = at_child; range = refl }))
 
   -- a child that stayed one
@@ -46,7 +46,7 @@ module _ {O Pen Seen : Type 0} (device : Ghosts O Pen Seen) (shelf : Shelf O Pen
     nodes = plans.nodes;
     blocks = plans.blocks;
     lays = plans.lays;
-    says = plans.says;
+    represents_node = plans.represents_node;
     splits = rw none (Splits-child s (record { nodes = plans.nodes; limit = change.unused; blocks = plans.blocks; next = next_of shelf }) v level page wide children i child at at_child from up_to (rw none at plans.splits));
     silent = plans.silent;
     own = own_child;
@@ -70,12 +70,12 @@ module _ {O Pen Seen : Type 0} (device : Ghosts O Pen Seen) (shelf : Shelf O Pen
           lays = λ shown long are.
               (let below : List (List ℕ) = laid change.images.items shown in
               let room : page < length below = (let l = length_laid change.images.items shown in omega (arith, l, long, inside)) in
-              rw (one.images shown) (shown-set below plans.nodes page one.octets node room one.says (plans.lays shown long are)));
-          says = plans.says;
+              rw (one.images shown) (shown-set below plans.nodes page one.octets node room one.represents_node (plans.lays shown long are)));
+          represents_node = plans.represents_node;
           splits = rw (one.unused, one.new) (puts_one s t v level page wide children (insert children (suc i) new) i child new at at_child from up_to refl (rw some at plans.splits));
           silent = λ p in_limit none. put_other page node plans.nodes p (not_page p none) ∙ plans.silent p in_limit none;
-          own = λ all k stands p in_limit none shown.
-              ap (λ (l : List (List ℕ)). slice_get l p) (one.images shown) ∙ get-set_other (laid change.images.items shown) page p one.octets (not_page p none) ∙ own_child all k stands p in_limit none shown;
+          own = λ all k represents_all p in_limit none shown.
+              ap (λ (l : List (List ℕ)). slice_get l p) (one.images shown) ∙ get-set_other (laid change.images.items shown) page p one.octets (not_page p none) ∙ own_child all k represents_all p in_limit none shown;
         }
 
     -- its page and one that was never used
@@ -91,40 +91,40 @@ module _ {O Pen Seen : Type 0} (device : Ghosts O Pen Seen) (shelf : Shelf O Pen
           lays = λ shown long are.
               (let below : List (List ℕ) = laid change.images.items shown in
               let long' : length below ≡ homes = length_laid change.images.items shown ∙ long in
-              let first : AreShown (set below page two.front) (put page front plans.nodes) = shown-set below plans.nodes page two.front front (let h : page < length below = omega (arith, long', inside) in h) two.says_front (plans.lays shown long are) in
+              let first : RepresentNodes (set below page two.front) (put page front plans.nodes) = shown-set below plans.nodes page two.front front (let h : page < length below = omega (arith, long', inside) in h) two.represents_front (plans.lays shown long are) in
               let more : length (set below page two.front) ≡ homes = length-set below page two.front ∙ long' in
-              rw (two.images shown) (shown-set (set below page two.front) (put page front plans.nodes) change.unused two.back back (let h : change.unused < length (set below page two.front) = omega (arith, more, room) in h) two.says_back first));
-          says = plans.says;
+              rw (two.images shown) (shown-set (set below page two.front) (put page front plans.nodes) change.unused two.back back (let h : change.unused < length (set below page two.front) = omega (arith, more, room) in h) two.represents_back first));
+          represents_node = plans.represents_node;
           splits = rw (two.unused, two.new) (puts_two s t v level page wide children (insert children (suc i) new) i child new at at_child from up_to refl (rw some at plans.splits) two.place two.mid two.at two.some);
           silent = λ p in_limit none.
               put_other change.unused back (put page front plans.nodes) p (λ e. omega (arith, e, in_limit, plans.splits.limit_grows)) ∙ put_other page front plans.nodes p (not_page p none) ∙ plans.silent p in_limit none;
-          own = λ all k stands p in_limit none shown.
+          own = λ all k represents_all p in_limit none shown.
               (let apart : p ≡ change.unused → ⊥ = λ e. omega (arith, e, in_limit, plans.splits.limit_grows) in
               ap (λ (l : List (List ℕ)). slice_get l p) (two.images shown) ∙ get-set_other (set (laid change.images.items shown) page two.front) change.unused p two.back apart
-              ∙ get-set_other (laid change.images.items shown) page p two.front (not_page p none) ∙ own_child all k stands p in_limit none shown);
+              ∙ get-set_other (laid change.images.items shown) page p two.front (not_page p none) ∙ own_child all k represents_all p in_limit none shown);
         }
 
 -- ---- what the descent found
 
--- the page says its key node in the store, and the child stands
+-- the page represents its key node in the store, and the child stands
 pub record IsFound (s : Store) (all : List Version) (place next : PagePlace) (children : List Child) : Type 0 where
   pub at : s.nodes place.page ≡ Some (KeyNode (suc next.level) (keys_at place) children)
-  pub stands : StandsIn s all next.level (keys_at next) next.page
+  pub represents_all : RepresentsIn s all next.level (keys_at next) next.page
   pub high : high_or next.high ≤ high_or place.high
 
-pub found_lower : (shown : List (List ℕ)) (s : Store) (all : List Version) (key : ℕ) (place next : PagePlace) → AreShown shown s.nodes → (lower : IsLower shown key place next) → 1 < place.level → StandsIn s all place.level (keys_at place) place.page → IsFound s all place next lower.children
-found_lower shown s all key place next are lower above stands =
-    let k = key_node_of s.nodes s.limit s.blocks s.next all place.level (keys_at place) place.page above stands in
-    let said = are place.page _ k.at in
+pub found_lower : (shown : List (List ℕ)) (s : Store) (all : List Version) (key : ℕ) (place next : PagePlace) → RepresentNodes shown s.nodes → (lower : IsLower shown key place next) → 1 < place.level → RepresentsIn s all place.level (keys_at place) place.page → IsFound s all place next lower.children
+found_lower shown s all key place next are lower above represents_all =
+    let k = key_node_of s.nodes s.limit s.blocks s.next all place.level (keys_at place) place.page above represents_all in
+    let decoded = are place.page _ k.at in
     let same : KeyNode (suc k.level) (keys_at place) k.children ≡ KeyNode place.level (keys_at place) lower.children
-    = one_said lower.says.octets _ _ (subst (λ (o : List ℕ). PageSays o (KeyNode (suc k.level) (keys_at place) k.children)) (same_Some _ _ (sym said.at ∙ lower.says.at)) said.says) lower.says.says in
+    = one_decoded lower.represents_node.octets _ _ (subst (λ (o : List ℕ). PageRepresents o (KeyNode (suc k.level) (keys_at place) k.children)) (same_Some _ _ (sym decoded.at ∙ lower.represents_node.at)) decoded.represents_node) lower.represents_node.represents_node in
     let children : k.children ≡ lower.children = cc in
     let level : k.level ≡ next.level = omega (arith, k.is, lower.level) in
     let child : IsChildOf (keys_at place) k.children (keys_at next) (record { low = next.low; page = next.page }) =
     subst (λ (cs : List Child). IsChildOf (keys_at place) cs (keys_at next) (record { low = next.low; page = next.page })) (sym children) lower.child in
     record {
       at = k.at ∙ ap (λ (m : ℕ). Some (KeyNode (suc m) (keys_at place) k.children)) level ∙ ap (λ (cs : List Child). Some (KeyNode (suc next.level) (keys_at place) cs)) children;
-      stands = subst (λ (m : ℕ). StandsIn s all m (keys_at next) next.page) level (k.stand (keys_at next) (record { low = next.low; page = next.page }) child);
+      represents_all = subst (λ (m : ℕ). RepresentsIn s all m (keys_at next) next.page) level (k.stand (keys_at next) (record { low = next.low; page = next.page }) child);
       high = (k.are.inside (keys_at next) (record { low = next.low; page = next.page }) child).2;
     }
 

@@ -4,9 +4,9 @@ use Rattle.std.proofs.lemmas.Option.{same_Some, none-some}
 use Rattle.std.proofs.lemmas.Bool.{cases_eq}
 use Rattle.version_model.specs.declared.child.Child.{Child}
 use Rattle.version_model.specs.Versions.{Version}
-use Rattle.version_model.specs.Pages.{Keys, PageNode, KeyNode, Store, StandsIn, IsChildOf, AreChildren, child_keys, low_or}
+use Rattle.version_model.specs.Pages.{Keys, PageNode, KeyNode, Store, RepresentsIn, IsChildOf, AreChildren, child_keys, low_or}
 use Rattle.version_model.specs.Inserts.{LocatedUnder, Splits, Became}
-use Rattle.version_model.proofs.api.Children.{key_stands, KeyStands, disjoint}
+use Rattle.version_model.proofs.api.Children.{key_represents, KeyRepresents, disjoint}
 use Rattle.version_model.proofs.api.ChildrenTwo.{front_child, key_node_written, get-take}
 
 pub get-drop : {X : Type 0} (xs : List X) (n i : ℕ) → slice_get (drop n xs) i ≡ slice_get xs (n + i)
@@ -79,9 +79,9 @@ module _ (s t : Store) (level page : ℕ) (wide : Keys) (children : List Child) 
     (at_back : t.nodes s.limit ≡ Some (KeyNode (suc level) (record { low = mid.low; high = wide.high }) (drop n children)))
     (others : (p : ℕ) → p < s.limit → (p ≡ page → ⊥) → t.nodes p ≡ s.nodes p)
     (limit : t.limit ≡ suc s.limit) (blocks : t.blocks ≡ s.blocks) (next : t.next ≡ s.next) where
-  pub key_node_two : (all : List Version) (k : Keys) → StandsIn s all (suc level) k page → Became t all (suc level) k page (Some (record { low = mid.low; page = s.limit }))
-  key_node_two all k stands =
-      let ks : KeyStands s.nodes s.limit s.blocks s.next all level k page children = (key_stands s.nodes s.limit s.blocks s.next all (suc level) k page level wide children at stands).1 in
+  pub key_node_two : (all : List Version) (k : Keys) → RepresentsIn s all (suc level) k page → Became t all (suc level) k page (Some (record { low = mid.low; page = s.limit }))
+  key_node_two all k represents_all =
+      let ks : KeyRepresents s.nodes s.limit s.blocks s.next all level k page children = (key_represents s.nodes s.limit s.blocks s.next all (suc level) k page level wide children at represents_all).1 in
       let node : KeyNode (suc level) wide children ≡ KeyNode (suc level) k children = same_Some _ _ (sym at ∙ ks.at) in
       let same_keys : wide ≡ k = cc in
       let grows : s.limit ≤ t.limit = omega (arith, limit) in
@@ -106,7 +106,7 @@ module _ (s t : Store) (level page : ℕ) (wide : Keys) (children : List Child) 
 module _ (s m t : Store) (v : Version) (level page : ℕ) (wide : Keys) (old : List Child) (new : Child)
     (at : s.nodes page ≡ Some (KeyNode (suc level) wide old))
     (one : Splits s m v (suc level) page None)
-    (two : (all : List Version) (k : Keys) → StandsIn m all (suc level) k page → Became t all (suc level) k page (Some new))
+    (two : (all : List Version) (k : Keys) → RepresentsIn m all (suc level) k page → Became t all (suc level) k page (Some new))
     (others : (p : ℕ) → p < m.limit → (p ≡ page → ⊥) → t.nodes p ≡ m.nodes p)
     (limit : m.limit ≤ t.limit) (blocks : t.blocks ≡ m.blocks) (next : t.next ≡ m.next) where
   pub Splits-two : Splits s t v (suc level) page (Some new)
@@ -114,12 +114,12 @@ module _ (s m t : Store) (v : Version) (level page : ℕ) (wide : Keys) (old : L
     grows = rw blocks one.grows;
     next_grows = omega (arith, next, one.next_grows);
     limit_grows = omega (arith, limit, one.limit_grows);
-    stands = λ all after k of_key above adds stands. two after k (one.stands all after k of_key above adds stands);
-    others = λ all k stands p node in_limit at_node never.
-        (let ks : KeyStands s.nodes s.limit s.blocks s.next all level k page old = (key_stands s.nodes s.limit s.blocks s.next all (suc level) k page level wide old at stands).1 in
+    represents_all = λ all after k of_key above adds represents_all. two after k (one.represents_all all after k of_key above adds represents_all);
+    others = λ all k represents_all p node in_limit at_node never.
+        (let ks : KeyRepresents s.nodes s.limit s.blocks s.next all level k page old = (key_represents s.nodes s.limit s.blocks s.next all (suc level) k page level wide old at represents_all).1 in
         let h = ks.are.inside (child_keys k old 0 ks.are.first) ks.are.first (record { place = 0; at = ks.are.at_first; range = refl }) in
         let not_page : p ≡ page → ⊥ = λ e. never (subst (LocatedUnder (suc level) k) (same_Some (KeyNode (suc level) k old) node (sym ks.at ∙ ap s.nodes (sym e) ∙ at_node)) (record { no_higher = omega arith; low = omega arith; nonempty = omega (arith, h.0, h.1, h.2); high = omega arith })) in
-        others p (omega (arith, one.limit_grows, in_limit)) not_page ∙ one.others all k stands p node in_limit at_node never);
+        others p (omega (arith, one.limit_grows, in_limit)) not_page ∙ one.others all k represents_all p node in_limit at_node never);
   }
 
 -- a root above two nodes
@@ -135,8 +135,8 @@ module _ (s t : Store) (all : List Version) (level page : ℕ) (k : Keys) (new :
     by_place (suc zero) at_i range = inr (sym range ∙ ap (λ (x : Child). record { low = x.low; high = k.high }) (sym (same_Some _ c at_i)), sym (same_Some _ c at_i))
     by_place (suc (suc i)) at_i range = absurd (none-some c at_i)
 
-  pub root_stands : StandsIn t all (suc level) k s.limit
-  root_stands = rw (blocks, next) (key_node_written s.nodes t.nodes s.limit t.limit s.blocks s.next all (let h : s.limit ≤ t.limit = omega (arith, limit) in h) level k s.limit (record { low = k.low; page = page } ∷ new ∷ [])
+  pub root_represents : RepresentsIn t all (suc level) k s.limit
+  root_represents = rw (blocks, next) (key_node_written s.nodes t.nodes s.limit t.limit s.blocks s.next all (let h : s.limit ≤ t.limit = omega (arith, limit) in h) level k s.limit (record { low = k.low; page = page } ∷ new ∷ [])
       (let h : s.limit < t.limit = omega (arith, limit) in h)
       (record {
         first = record { low = k.low; page = page };

@@ -1,4 +1,4 @@
--- Pages that say something else.
+-- Pages that represent something else.
 use Rattle.std.proofs.Common.{◌≡◌, ℕ, Option, Some, sym, ◌∙◌, ap, arith, cond}
 use Rattle.std.specs.Prelude.{nat_eq}
 use Rattle.std.proofs.lemmas.Bool.Decides.{nat_tests}
@@ -7,7 +7,7 @@ use Rattle.version_model.specs.Pages.{PageNode}
 use Rattle.tsb_tree.specs.declared.whole.Whole.{Whole}
 use Rattle.tsb_tree.specs.Wholes.{IsAt, column_node, leaf_node}
 
--- one of them says something else
+-- one of them represents something else
 abbrev pub put : {X : Type 0} → ℕ → X → (ℕ → Option X) → ℕ → Option X
 put page node nodes n = cond (nat_eq n page) (Some node) (nodes n)
 

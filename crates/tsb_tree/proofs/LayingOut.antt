@@ -19,7 +19,7 @@ use Rattle.tsb_tree.specs.Refusals.{ReadRefusal, PlanRefusal}
 use Rattle.tsb_tree.specs.Shelves.{TakesOn, KeepsShelf}
 use Rattle.tsb_tree.specs.Wholes.{IsAt}
 use Rattle.tsb_tree.proofs.Planning.{plans_out}
-use Rattle.tsb_tree.proofs.Saying.{same_Err}
+use Rattle.tsb_tree.proofs.Representing.{same_Err}
 use Rattle.tsb_tree.proofs.Shelving.{leaves_none}
 
 pub can_be_laid : (homes next page current : ℕ) (w : Whole) (change : Change) (new : Option Child) → page < homes → current < homes → change.unused ≤ homes → LaysOut page current next w change.images.items change.unused new → CanBeLaid homes next 1 change

@@ -4,7 +4,7 @@ pub mod Splitting
 pub mod KeySplit
 pub mod Puts
 pub mod Growing
-pub mod Saying
+pub mod Representing
 pub mod Shaping
 pub mod Shelving
 pub mod Reporting

@@ -7,11 +7,11 @@ use Rattle.page_journal.specs.Layout.{Image}
 use Rattle.page_tx.specs.declared.error.PageError.{PageError}
 use Rattle.page_tx.specs.declared.error.PageError.TheVariants as pages
 use Rattle.tsb_node.specs.Leaves.{IsLeafPage}
-use Rattle.tsb_node.specs.Views.{PageSays, says_leaf}
-use Rattle.tsb_node.proofs.api.Pages.{one_said}
+use Rattle.tsb_node.specs.Views.{PageRepresents, represents_leaf}
+use Rattle.tsb_node.proofs.api.Pages.{one_decoded}
 use Rattle.tsb_walk.specs.declared.page_place.PagePlace.{PagePlace}
 use Rattle.tsb_walk.specs.PageWays.{IsLower}
-use Rattle.tsb_walk.specs.Shown.{Says, keys_at}
+use Rattle.tsb_walk.specs.Shown.{RepresentsNode, keys_at}
 use Rattle.version_model.specs.declared.child.Child.{Child}
 use Rattle.version_model.specs.Pages.{Keys, ColumnNode, CurrentLeaf}
 use Rattle.version_model.specs.Sizes.{octets, entry_octets}
@@ -30,7 +30,7 @@ use Rattle.tsb_tree.specs.Refusals.{ReadRefusal, LayoutRefusal, of_page}
 use Rattle.tsb_tree.specs.Shapes.{leaf_in_page}
 use Rattle.tsb_tree.specs.Wholes.{column_node, keys_of_whole, leaf_node}
 use Rattle.tsb_tree.specs.inner.Uses.{UsesForLeaf, UsesForHalf, UsesPages, LacksPages}
-use Rattle.tsb_tree.proofs.Saying.{KeyNodeOf, key_node_of_page}
+use Rattle.tsb_tree.proofs.Representing.{KeyNodeOf, key_node_of_page}
 
 -- what a column laid as one, or as two, uses
 pub uses_one : (size next unused : ℕ) (o : Option Child) → o ≡ None → unused ≡ next → size ≤ 10821 → UsesForLeaf size next unused o
@@ -50,39 +50,39 @@ pub half_two : (children next unused : ℕ) (new : Child) (o : Option Child) →
 half_two children next unused new None some more many = absurd (cc)
 half_two children next unused new (Some half) some more many = (many, more)
 
--- the column that the pages say
+-- the column that the pages represent
 pub leaf_shown : (shown : List (List ℕ)) (place : PagePlace) (page : ℕ) (image : List ℕ) (of : IsLeafOf shown place page image) → HasLeaf shown place of.versions
-leaf_shown shown place page image of = record { parts = of.parts; start = of.start; page = page; column = of.column; current = record { octets = image; at = of.at; says = of.says } }
+leaf_shown shown place page image of = record { parts = of.parts; start = of.start; page = page; column = of.column; current = record { octets = image; at = of.at; represents_node = of.represents_node } }
 
-pub column_read : (shown : List (List ℕ)) (place : PagePlace) (w : Whole) (current : ℕ) → Says shown place.page (column_node w current) → keys_of_whole w ≡ keys_at place → Says shown place.page (ColumnNode (keys_at place) w.parts.items w.start current)
-column_read shown place w current says keys = subst (λ (k : Keys). Says shown place.page (ColumnNode k w.parts.items w.start current)) keys says
+pub column_read : (shown : List (List ℕ)) (place : PagePlace) (w : Whole) (current : ℕ) → RepresentsNode shown place.page (column_node w current) → keys_of_whole w ≡ keys_at place → RepresentsNode shown place.page (ColumnNode (keys_at place) w.parts.items w.start current)
+column_read shown place w current represents_node keys = subst (λ (k : Keys). RepresentsNode shown place.page (ColumnNode k w.parts.items w.start current)) keys represents_node
 
-pub leaf_read : (shown : List (List ℕ)) (place : PagePlace) (w : Whole) (current : ℕ) (image : List ℕ) → Says shown place.page (column_node w current) → slice_get shown current ≡ Some image → IsLeafPage (leaf_in_page w) image → keys_of_whole w ≡ keys_at place
+pub leaf_read : (shown : List (List ℕ)) (place : PagePlace) (w : Whole) (current : ℕ) (image : List ℕ) → RepresentsNode shown place.page (column_node w current) → slice_get shown current ≡ Some image → IsLeafPage (leaf_in_page w) image → keys_of_whole w ≡ keys_at place
     → HasLeaf shown place w.leaf
-leaf_read shown place w current image says at_leaf leaf keys =
-    let said : PageSays image (CurrentLeaf (keys_of_whole w) w.start w.leaf) = says_leaf (leaf_in_page w) leaf in
+leaf_read shown place w current image represents_node at_leaf leaf keys =
+    let decoded : PageRepresents image (CurrentLeaf (keys_of_whole w) w.start w.leaf) = represents_leaf (leaf_in_page w) leaf in
     record {
       parts = w.parts.items;
       start = w.start;
       page = current;
-      column = column_read shown place w current says keys;
-      current = record { octets = image; at = at_leaf; says = subst (λ (k : Keys). PageSays image (CurrentLeaf k w.start w.leaf)) keys said };
+      column = column_read shown place w current represents_node keys;
+      current = record { octets = image; at = at_leaf; represents_node = subst (λ (k : Keys). PageRepresents image (CurrentLeaf k w.start w.leaf)) keys decoded };
     }
 
 pub filled_read : (place : PagePlace) (image : List ℕ) (v : Version) (w : Whole) → IsFilled place image v → IsLeafPage (leaf_in_page w) image → 16232 < octets w.leaf + entry_octets v
 filled_read place image v w filled leaf =
-    let said : CurrentLeaf (keys_at place) filled.start filled.versions ≡ leaf_node w = one_said image _ _ filled.says (says_leaf (leaf_in_page w) leaf) in
+    let decoded : CurrentLeaf (keys_at place) filled.start filled.versions ≡ leaf_node w = one_decoded image _ _ filled.represents_node (represents_leaf (leaf_in_page w) leaf) in
     let same : filled.versions ≡ w.leaf = cc in
     omega (arith, ap octets same, filled.filled)
 
 pub outdated_read : (place : PagePlace) (image : List ℕ) (v : Version) (w : Whole) → keys_of_whole w ≡ keys_at place → IsLeafPage (leaf_in_page w) image → HasOutlived w.leaf v → IsOutdated place image v
 outdated_read place image v w keys leaf out =
-    let said : PageSays image (CurrentLeaf (keys_of_whole w) w.start w.leaf) = says_leaf (leaf_in_page w) leaf in
-    record { start = w.start; versions = w.leaf; says = subst (λ (k : Keys). PageSays image (CurrentLeaf k w.start w.leaf)) keys said; outlived = out }
+    let decoded : PageRepresents image (CurrentLeaf (keys_of_whole w) w.start w.leaf) = represents_leaf (leaf_in_page w) leaf in
+    record { start = w.start; versions = w.leaf; represents_node = subst (λ (k : Keys). PageRepresents image (CurrentLeaf k w.start w.leaf)) keys decoded; outlived = out }
 
 pub outdated_whole : (place : PagePlace) (image : List ℕ) (v : Version) (w : Whole) → IsOutdated place image v → IsLeafPage (leaf_in_page w) image → HasOutlived w.leaf v
 outdated_whole place image v w outdated leaf =
-    let said : CurrentLeaf (keys_at place) outdated.start outdated.versions ≡ leaf_node w = one_said image _ _ outdated.says (says_leaf (leaf_in_page w) leaf) in
+    let decoded : CurrentLeaf (keys_at place) outdated.start outdated.versions ≡ leaf_node w = one_decoded image _ _ outdated.represents_node (represents_leaf (leaf_in_page w) leaf) in
     let same : outdated.versions ≡ w.leaf = cc in
     subst (λ (l : List Version). HasOutlived l v) same outdated.outlived
 
@@ -103,7 +103,7 @@ uses_none shown v place next unused (Some new) none same one = absurd (cc)
 -- a key node has at most 338 children
 pub few_children : (shown : List (List ℕ)) (key : ℕ) (place next : PagePlace) (lower : IsLower shown key place next) → length lower.children ≤ 338
 few_children shown key place next lower =
-    let of : KeyNodeOf lower.says.octets place.level (keys_at place) lower.children = key_node_of_page lower.says.octets _ place.level (keys_at place) lower.children refl lower.says.says in
+    let of : KeyNodeOf lower.represents_node.octets place.level (keys_at place) lower.children = key_node_of_page lower.represents_node.octets _ place.level (keys_at place) lower.children refl lower.represents_node.represents_node in
     let is = of.is in
     let same : of.node.children ≡ lower.children = cc in
     let fits = of.page.valid.fits in
@@ -149,8 +149,8 @@ module _ (shown : List (List ℕ)) (v : Version) (place next : PagePlace) (lower
 -- a node that becomes two leads to a leaf without room
 pub two_leads : (shown : List (List ℕ)) (v : Version) (place : PagePlace) (n : ℕ) → BecomesTwo shown v place n → LeadsToFullLeaf shown v place
 two_leads shown v _ _ (split_by_key column leaf stays has filled what much) =
-    in_leaf column has.page has.current.octets (record { parts = has.parts; start = has.start; versions = leaf; column = has.column; at = has.current.at; says = has.current.says })
-    (record { start = has.start; versions = leaf; says = has.current.says; filled = filled })
+    in_leaf column has.page has.current.octets (record { parts = has.parts; start = has.start; versions = leaf; column = has.column; at = has.current.at; represents_node = has.current.represents_node })
+    (record { start = has.start; versions = leaf; represents_node = has.current.represents_node; filled = filled })
 two_leads shown v _ _ (split_key_node place next n lower many rest) = in_child place next lower (two_leads shown v next n rest)
 
 -- what became two needed to

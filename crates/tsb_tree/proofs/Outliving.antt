@@ -3,7 +3,7 @@ use Rattle.std.proofs.Common.{◌≡◌, ℕ, ◌<◌, ◌≤◌, ◌⊎◌, inl
 use Rattle.std.proofs.lemmas.Bool.{cases_lt, false≢true}
 use Rattle.std.specs.Prelude.{IsSome}
 use Rattle.version_model.specs.Versions.{Version, Has, IsAbove, IsRising}
-use Rattle.version_model.specs.Shows.{IsFrom}
+use Rattle.version_model.specs.LeafVersions.{IsFrom}
 use Rattle.version_model.proofs.api.LooksShown.{Has-head, Has-cases, Has-tail, rising_one}
 use Rattle.version_model.proofs.api.Pushed.{Has-nil, Has-push_cases, Has-push_old}
 use Rattle.tsb_tree.specs.Outlived.{IsOutlived, HasOutlived}

@@ -1,4 +1,4 @@
--- What a column in memory that is laid stands for.
+-- What a column in memory that is laid represents.
 use Rattle.std.proofs.Common.{◌≡◌, ℕ, ◌+◌, ◌<◌, ◌≤◌, List, [], length, set, length-set, Option, Some, None, slice_get, sym, ◌∙◌, ap, subst, arith}
 use Rattle.std.proofs.lemmas.Option.{none-some}
 use Rattle.disk_models.specs.declared.once.OnceDisk.{Ghosts}
@@ -6,7 +6,7 @@ use Rattle.once_store.specs.declared.shelf.Shelf.{Shelf}
 use Rattle.once_store.specs.Shelves.{next_of}
 use Rattle.page_journal.specs.Layout.{Image}
 use Rattle.page_journal.specs.Recovers.{laid}
-use Rattle.tsb_walk.specs.Shown.{AreShown}
+use Rattle.tsb_walk.specs.Shown.{RepresentNodes}
 use Rattle.version_model.specs.declared.child.Child.{Child}
 use Rattle.version_model.specs.Versions.{Version}
 use Rattle.version_model.specs.Ranges.{high_or}
@@ -24,12 +24,12 @@ use Rattle.tsb_tree.proofs.Reporting.{shown-set, get-set_other}
 
 -- a column's pages, laid over others
 pub whole_shown : (page current : ℕ) (w : Whole) (old new : List Image) (shown : List (List ℕ)) (nodes : ℕ → Option PageNode) → LaysWhole page current w old new → page < length (laid old shown) → current < length (laid old shown)
-    → AreShown (laid old shown) nodes → AreShown (laid new shown) (written nodes page current w)
+    → RepresentNodes (laid old shown) nodes → RepresentNodes (laid new shown) (written nodes page current w)
 whole_shown page current w old new shown nodes lays in_page in_current are =
     let below : List (List ℕ) = laid old shown in
-    subst (λ (s : List (List ℕ)). AreShown s (written nodes page current w)) (sym (lays.over shown))
-    (shown-set (set below page lays.column) _ current lays.leaf (leaf_node w) (omega (arith, in_current, length-set below page lays.column)) lays.says_leaf
-    (shown-set below nodes page lays.column (column_node w current) in_page lays.says_column are))
+    subst (λ (s : List (List ℕ)). RepresentNodes s (written nodes page current w)) (sym (lays.over shown))
+    (shown-set (set below page lays.column) _ current lays.leaf (leaf_node w) (omega (arith, in_current, length-set below page lays.column)) lays.represents_leaf
+    (shown-set below nodes page lays.column (column_node w current) in_page lays.represents_column are))
 
 whole_long : (page current : ℕ) (w : Whole) (old new : List Image) (shown : List (List ℕ)) → LaysWhole page current w old new → length (laid new shown) ≡ length (laid old shown)
 whole_long page current w old new shown lays =
@@ -40,8 +40,8 @@ whole_keeps : (page current : ℕ) (w : Whole) (old new : List Image) (shown : L
 whole_keeps page current w old new shown p lays ne ne' =
     ap (λ (s : List (List ℕ)). slice_get s p) (lays.over shown) ∙ get-set_other (set (laid old shown) page lays.column) current p lays.leaf ne' ∙ get-set_other (laid old shown) page p lays.column ne
 
-said_not : (nodes : ℕ → Option PageNode) (p q : ℕ) (node : PageNode) → nodes p ≡ None → nodes q ≡ Some node → p ≡ q → ⊥
-said_not nodes p q node none some e = none-some node (sym none ∙ ap nodes e ∙ some)
+decoded_not : (nodes : ℕ → Option PageNode) (p q : ℕ) (node : PageNode) → nodes p ≡ None → nodes q ≡ Some node → p ≡ q → ⊥
+decoded_not nodes p q node none some e = none-some node (sym none ∙ ap nodes e ∙ some)
 
 module _ {O Pen Seen : Type 0} (device : Ghosts O Pen Seen) (new : Shelf O Pen Seen) (homes : ℕ) (s : Store) (v : Version) (page current : ℕ) (w w' : Whole) (more : ℕ → Option BlockNode)
     (is : IsAt s.nodes page current w) (in_low : w.low ≤ v.key) (in_high : v.key < high_or w.high) (on : TakesOn device new s.blocks more s.next v w w') (next_grows : s.next ≤ next_of new)
@@ -54,10 +54,10 @@ module _ {O Pen Seen : Type 0} (device : Ghosts O Pen Seen) (new : Shelf O Pen S
         nodes = written s.nodes page current w';
         blocks = more;
         lays = λ shown long are. whole_shown page current w' [] images shown s.nodes lays (omega (arith, long, in_page)) (omega (arith, long, in_current)) are;
-        says = on.says;
+        represents_node = on.represents_node;
         splits = rw (unused, none) (Splits-column_one s t v page current w w' is in_low in_high on.takes on.grows next_grows (omega arith) (λ p in_limit ne ne'. others_written s.nodes page current w' p ne ne') (IsAt-written s.nodes page current w' (apart s.nodes page current w is)));
-        silent = λ p in_limit unsaid. others_written s.nodes page current w' p (said_not s.nodes p page _ unsaid is.at) (said_not s.nodes p current _ unsaid is.at_current) ∙ unsaid;
-        own = λ all k stands p in_limit unsaid shown. whole_keeps page current w' [] images shown p lays (said_not s.nodes p page _ unsaid is.at) (said_not s.nodes p current _ unsaid is.at_current);
+        silent = λ p in_limit unsaid. others_written s.nodes page current w' p (decoded_not s.nodes p page _ unsaid is.at) (decoded_not s.nodes p current _ unsaid is.at_current) ∙ unsaid;
+        own = λ all k represents_all p in_limit unsaid shown. whole_keeps page current w' [] images shown p lays (decoded_not s.nodes p page _ unsaid is.at) (decoded_not s.nodes p current _ unsaid is.at_current);
       }
 
   pub plans_two : (left right : Whole) (child : Child) (change : Change) → change.unused ≡ s.limit + 2 → change.new ≡ Some child → child ≡ record { low = right.low; page = s.limit } → s.limit + 2 ≤ homes
@@ -76,7 +76,7 @@ module _ {O Pen Seen : Type 0} (device : Ghosts O Pen Seen) (new : Shelf O Pen S
             (let long' : length (laid lays.mid shown) ≡ length shown = whole_long page current left [] lays.mid shown lays.first in
             whole_shown q r right lays.mid images shown one lays.second (omega (arith, long, long', room)) (omega (arith, long, long', room))
             (whole_shown page current left [] lays.mid shown s.nodes lays.first (omega (arith, long, in_page)) (omega (arith, long, in_current)) are));
-        says = on.says;
+        represents_node = on.represents_node;
         splits = rw (unused, some) (Splits-column_two s t v page current w w' is in_low in_high on.takes on.grows next_grows (omega arith)
             (λ p in_limit np nc. others_written one q r right p (λ e. omega (arith, e, in_limit)) (λ e. omega (arith, e, in_limit)) ∙ others_written s.nodes page current left p np nc)
             left right q r child halves
@@ -84,10 +84,10 @@ module _ {O Pen Seen : Type 0} (device : Ghosts O Pen Seen) (new : Shelf O Pen S
             (IsAt-written one q r right (λ e. omega (arith, e))) (omega arith) (omega arith) child_is);
         silent = λ p in_limit unsaid.
             others_written one q r right p (λ e. omega (arith, e, in_limit)) (λ e. omega (arith, e, in_limit))
-            ∙ others_written s.nodes page current left p (said_not s.nodes p page _ unsaid is.at) (said_not s.nodes p current _ unsaid is.at_current) ∙ unsaid;
-        own = λ all k stands p in_limit unsaid shown.
+            ∙ others_written s.nodes page current left p (decoded_not s.nodes p page _ unsaid is.at) (decoded_not s.nodes p current _ unsaid is.at_current) ∙ unsaid;
+        own = λ all k represents_all p in_limit unsaid shown.
             whole_keeps q r right lays.mid images shown p lays.second (λ e. omega (arith, e, in_limit)) (λ e. omega (arith, e, in_limit))
-            ∙ whole_keeps page current left [] lays.mid shown p lays.first (said_not s.nodes p page _ unsaid is.at) (said_not s.nodes p current _ unsaid is.at_current);
+            ∙ whole_keeps page current left [] lays.mid shown p lays.first (decoded_not s.nodes p page _ unsaid is.at) (decoded_not s.nodes p current _ unsaid is.at_current);
       }
 
   -- the same of what is laid out either way

@@ -7,27 +7,27 @@ use Rattle.tsb_node.specs.Children.{IsKeyWithin}
 use Rattle.tsb_node.specs.Leaves.{LeafNode, IsLeafPage, IsVersionOf, entries, entry}
 use Rattle.tsb_node.specs.Pushing.{with_version, PushedTo, StaysUnlessPushed}
 use Rattle.std.proofs.lemmas.Bool.{false≢true}
-use Rattle.tsb_node.specs.Views.{PageSays, says_leaf, keys_between}
+use Rattle.tsb_node.specs.Views.{PageRepresents, represents_leaf, keys_between}
 use Rattle.tsb_node.proofs.Entries.{entry-size}
 use Rattle.tsb_node.proofs.ViewLaws.{entries-octets}
-use Rattle.tsb_node.proofs.api.Pages.{one_said}
+use Rattle.tsb_node.proofs.api.Pages.{one_decoded}
 use Rattle.tsb_walk.specs.declared.page_place.PagePlace.{PagePlace}
 use Rattle.tsb_walk.specs.Refusals.{OnlyReads}
-use Rattle.tsb_walk.specs.Shown.{AreShown, HasKey, keys_at}
+use Rattle.tsb_walk.specs.Shown.{RepresentNodes, HasKey, keys_at}
 use Rattle.version_model.specs.Versions.{Version, Has, IsAbove}
 use Rattle.version_model.specs.Ranges.{high_or}
-use Rattle.version_model.specs.Pages.{Keys, ColumnNode, CurrentLeaf, ColumnStands, Store, StandsIn, current_range}
-use Rattle.version_model.specs.Shows.{Shows}
+use Rattle.version_model.specs.Pages.{Keys, ColumnNode, CurrentLeaf, ColumnRepresents, Store, RepresentsIn, current_range}
+use Rattle.version_model.specs.LeafVersions.{LeafRepresents}
 use Rattle.version_model.specs.Sizes.{octets, entry_octets}
 use Rattle.tsb_tree.specs.declared.whole.Whole.{Whole}
 use Rattle.tsb_tree.specs.Read.{IsLeafOf, IsFilled}
 use Rattle.tsb_tree.specs.Shapes.{leaf_in_page}
 use Rattle.tsb_tree.specs.Takers.{CanTake}
 use Rattle.tsb_tree.specs.Wholes.{IsAt, leaf_node}
-use Rattle.tsb_tree.proofs.Columns.{column, says_one, one_shown}
+use Rattle.tsb_tree.proofs.Columns.{column, represents_one, one_shown}
 use Rattle.tsb_tree.proofs.GrowingWhole.{below_or, value_size}
 use Rattle.tsb_tree.proofs.PlanningLeaf.{more}
-use Rattle.tsb_tree.proofs.Saying.{LeafOf, leaf_of, each_get}
+use Rattle.tsb_tree.proofs.Representing.{LeafOf, leaf_of, each_get}
 use Rattle.tsb_tree.proofs.Splitting.{found}
 use Rattle.tsb_tree.proofs.Taking.{octets-push}
 
@@ -36,8 +36,8 @@ abbrev pub can_after : {P O Pen Seen : Type 0} (pages : Ghosts P) (a b : P) (dev
 can_after pages a b device shelf s all place v F reads can = record {
   start = can.start;
   shown = can.shown;
-  is = record { shows = reads.shown can.start can.shown can.is.shows; reports = can.is.reports; limit = can.is.limit ∙ sym reads.next; honest = can.is.honest; says = can.is.says; next = can.is.next };
-  stands = can.stands;
+  is = record { shows = reads.shown can.start can.shown can.is.shows; reports = can.is.reports; limit = can.is.limit ∙ sym reads.next; honest = can.is.honest; represents_node = can.is.represents_node; next = can.is.next };
+  represents_all = can.represents_all;
   above = can.above;
   bounded = can.bounded;
   inside = can.inside;
@@ -50,7 +50,7 @@ key_below (Some n) key fits under = under
 
 -- what a leaf that stands has is among all versions
 pub leaf_among : (all : List Version) (leaf : LeafNode) (octets : List ℕ) (k : Keys) (start : ℕ) (versions : List Version) → IsLeafPage leaf octets → CurrentLeaf (keys_between leaf.bounds) leaf.bounds.start leaf.versions ≡ CurrentLeaf k start versions
-    → Shows all (current_range k start) versions → (x : Version) → Has leaf.versions x → Has all x
+    → LeafRepresents all (current_range k start) versions → (x : Version) → Has leaf.versions x → Has all x
 leaf_among all leaf octets k start versions page is shows x h =
     let of = each_get (IsVersionOf leaf.bounds) leaf.versions h.place x page.valid.each h.is in
     let keys : keys_between leaf.bounds ≡ k = cc in
@@ -64,32 +64,32 @@ some_version : (vs : List Version) → 0 < octets vs → (x : Version) × Has vs
 some_version [] some = absurd (omega (arith, some))
 some_version (x ∷ vs) some = (x, record { place = 0; is = refl })
 
--- what a leaf's page says with a version more
-said_more : (leaf : LeafNode) (k : Keys) (start : ℕ) (versions : List Version) (v : Version) (new : List ℕ) → CurrentLeaf (keys_between leaf.bounds) leaf.bounds.start leaf.versions ≡ CurrentLeaf k start versions → IsLeafPage (with_version leaf v) new
-    → PageSays new (CurrentLeaf k start (versions ++ v ∷ []))
-said_more leaf k start versions v new is page =
+-- what a leaf's page represents with a version more
+decoded_more : (leaf : LeafNode) (k : Keys) (start : ℕ) (versions : List Version) (v : Version) (new : List ℕ) → CurrentLeaf (keys_between leaf.bounds) leaf.bounds.start leaf.versions ≡ CurrentLeaf k start versions → IsLeafPage (with_version leaf v) new
+    → PageRepresents new (CurrentLeaf k start (versions ++ v ∷ []))
+decoded_more leaf k start versions v new is page =
     let e_keys : keys_between leaf.bounds ≡ k = cc in
     let e_start : leaf.bounds.start ≡ start = cc in
     let e_versions : leaf.versions ≡ versions = cc in
     let same : CurrentLeaf (keys_between leaf.bounds) leaf.bounds.start (leaf.versions ++ v ∷ []) ≡ CurrentLeaf k start (versions ++ v ∷ [])
     = ap (λ (x : Keys). CurrentLeaf x leaf.bounds.start (leaf.versions ++ v ∷ [])) e_keys ∙ ap (λ (x : ℕ). CurrentLeaf k x (leaf.versions ++ v ∷ [])) e_start ∙ ap (λ (x : List Version). CurrentLeaf k start (x ++ v ∷ [])) e_versions in
-    subst (PageSays new) same (says_leaf (with_version leaf v) page)
+    subst (PageRepresents new) same (represents_leaf (with_version leaf v) page)
 
-module _ (s : Store) (all : List Version) (place : PagePlace) (shown : List (List ℕ)) (level : place.level ≡ 1) (are : AreShown shown s.nodes) (stands : StandsIn s all place.level (keys_at place) place.page)
+module _ (s : Store) (all : List Version) (place : PagePlace) (shown : List (List ℕ)) (level : place.level ≡ 1) (are : RepresentNodes shown s.nodes) (represents_all : RepresentsIn s all place.level (keys_at place) place.page)
     (page : ℕ) (image : List ℕ) (of : IsLeafOf shown place page image) where
-  abbrev pub standing : ColumnStands s.nodes s.limit s.blocks s.next all (keys_at place) place.page
-  standing = column s all place shown level are stands
+  abbrev pub standing : ColumnRepresents s.nodes s.limit s.blocks s.next all (keys_at place) place.page
+  standing = column s all place shown level are represents_all
 
   pub current_is : page ≡ standing.current
   current_is =
-      let same : ColumnNode (keys_at place) of.parts of.start page ≡ ColumnNode (keys_at place) standing.parts standing.start standing.current = says_one shown place.page _ _ of.column (are place.page _ standing.at) in
+      let same : ColumnNode (keys_at place) of.parts of.start page ≡ ColumnNode (keys_at place) standing.parts standing.start standing.current = represents_one shown place.page _ _ of.column (are place.page _ standing.at) in
       cc
 
-  pub leaf_said : CurrentLeaf (keys_at place) of.start of.versions ≡ CurrentLeaf (keys_at place) standing.start standing.versions
-  leaf_said = one_shown shown page image _ _ of.at of.says (are page _ (ap s.nodes current_is ∙ standing.at_current))
+  pub decoded_leaf : CurrentLeaf (keys_at place) of.start of.versions ≡ CurrentLeaf (keys_at place) standing.start standing.versions
+  decoded_leaf = one_shown shown page image _ _ of.at of.represents_node (are page _ (ap s.nodes current_is ∙ standing.at_current))
 
   abbrev pub leaf_here : LeafOf image (keys_at place) standing.start standing.versions
-  leaf_here = leaf_of image _ (keys_at place) standing.start standing.versions leaf_said of.says
+  leaf_here = leaf_of image _ (keys_at place) standing.start standing.versions decoded_leaf of.represents_node
 
   pub within : (key : ℕ) → HasKey place key → IsKeyWithin leaf_here.leaf.bounds key
   within key has =
@@ -102,36 +102,36 @@ module _ (s : Store) (all : List Version) (place : PagePlace) (shown : List (Lis
   pub above_leaf : (stamp : ℕ) → IsAbove all stamp → IsAbove leaf_here.leaf.versions stamp
   above_leaf stamp above = record { above = λ x h. above.above x (leaf_among all leaf_here.leaf image (keys_at place) standing.start standing.versions leaf_here.page leaf_here.is standing.shows x h) }
 
-  pub pushed_says : (v : Version) (new : List ℕ) → IsLeafPage (with_version leaf_here.leaf v) new → PageSays new (more s v all (keys_at place) place.page standing)
-  pushed_says v new is = said_more leaf_here.leaf (keys_at place) standing.start standing.versions v new leaf_here.is is
+  pub pushed_represents : (v : Version) (new : List ℕ) → IsLeafPage (with_version leaf_here.leaf v) new → PageRepresents new (more s v all (keys_at place) place.page standing)
+  pushed_represents v new is = decoded_more leaf_here.leaf (keys_at place) standing.start standing.versions v new leaf_here.is is
 
   pub filled_here : (v : Version) → 16232 < length (entries leaf_here.leaf.versions) + length (entry v) → IsFilled place image v
   filled_here v full =
       let l = leaf_here in
-      let said : CurrentLeaf (keys_between l.leaf.bounds) l.leaf.bounds.start l.leaf.versions ≡ CurrentLeaf (keys_at place) standing.start standing.versions = l.is in
+      let decoded : CurrentLeaf (keys_between l.leaf.bounds) l.leaf.bounds.start l.leaf.versions ≡ CurrentLeaf (keys_at place) standing.start standing.versions = l.is in
       let versions : l.leaf.versions ≡ standing.versions = cc in
-      record { start = of.start; versions = of.versions; says = of.says; filled = (let same : standing.versions ≡ of.versions = (let e = leaf_said in cc) in omega (arith, full, entries-octets l.leaf.versions, entry-size v, value_size v.value, ap octets versions, ap octets same)) }
+      record { start = of.start; versions = of.versions; represents_node = of.represents_node; filled = (let same : standing.versions ≡ of.versions = (let e = decoded_leaf in cc) in omega (arith, full, entries-octets l.leaf.versions, entry-size v, value_size v.value, ap octets versions, ap octets same)) }
 
   pub room_here : (v : Version) (new : List ℕ) → IsLeafPage (with_version leaf_here.leaf v) new → octets of.versions + entry_octets v ≤ 16232
   room_here v new is =
       let l = leaf_here in
-      let said : CurrentLeaf (keys_between l.leaf.bounds) l.leaf.bounds.start l.leaf.versions ≡ CurrentLeaf (keys_at place) standing.start standing.versions = l.is in
+      let decoded : CurrentLeaf (keys_between l.leaf.bounds) l.leaf.bounds.start l.leaf.versions ≡ CurrentLeaf (keys_at place) standing.start standing.versions = l.is in
       let versions : l.leaf.versions ≡ standing.versions = cc in
-      let same : standing.versions ≡ of.versions = (let e = leaf_said in cc) in
+      let same : standing.versions ≡ of.versions = (let e = decoded_leaf in cc) in
       let fits = is.valid.fits in
       omega (arith, fits, entries-octets (l.leaf.versions ++ v ∷ []), octets-push l.leaf.versions v, ap octets versions, ap octets same)
 
 -- the keys and stamps of a column in memory that stands and whose leaf has no room for a version
-module _ (s : Store) (all : List Version) (place : PagePlace) (current : ℕ) (image : List ℕ) (w : Whole) (v : Version) (at : IsAt s.nodes place.page current w) (stands : StandsIn s all place.level (keys_at place) place.page) (leaf : IsLeafPage (leaf_in_page w) image) where
+module _ (s : Store) (all : List Version) (place : PagePlace) (current : ℕ) (image : List ℕ) (w : Whole) (v : Version) (at : IsAt s.nodes place.page current w) (represents_all : RepresentsIn s all place.level (keys_at place) place.page) (leaf : IsLeafPage (leaf_in_page w) image) where
   pub whole_among : (x : Version) → Has w.leaf x → Has all x
   whole_among x h =
-      let f = found s all place.level (keys_at place) place.page current w at stands in
+      let f = found s all place.level (keys_at place) place.page current w at represents_all in
       leaf_among all (leaf_in_page w) image _ w.start w.leaf leaf refl f.has.column.shows x h
 
   pub whole_forward : IsAbove all v.stamp → entry_octets v ≤ 3131 → IsFilled place image v → w.start < v.stamp
   whole_forward above small filled =
-      let f = found s all place.level (keys_at place) place.page current w at stands in
-      let said : CurrentLeaf (keys_at place) filled.start filled.versions ≡ leaf_node w = one_said image _ _ filled.says (says_leaf (leaf_in_page w) leaf) in
+      let f = found s all place.level (keys_at place) place.page current w at represents_all in
+      let decoded : CurrentLeaf (keys_at place) filled.start filled.versions ≡ leaf_node w = one_decoded image _ _ filled.represents_node (represents_leaf (leaf_in_page w) leaf) in
       let same : filled.versions ≡ w.leaf = cc in
       let some = some_version w.leaf (omega (arith, ap octets same, filled.filled, small)) in
       let before = above.above some.0 (whole_among some.0 some.1) in

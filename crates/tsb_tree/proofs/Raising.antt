@@ -12,15 +12,15 @@ use Rattle.page_tx.specs.Start.{Start}
 use Rattle.page_tx.specs.declared.error.PageError.TheVariants as pages
 use Rattle.version_model.specs.declared.child.Child.{Child}
 use Rattle.version_model.specs.Versions.{Version, IsAbove}
-use Rattle.version_model.specs.Pages.{Keys, KeyNode, Store, StandsIn}
+use Rattle.version_model.specs.Pages.{Keys, KeyNode, Store, RepresentsIn}
 use Rattle.version_model.specs.Ranges.{high_or}
-use Rattle.tsb_node.specs.declared.key_node_said.KeyNodeSaid.{KeyNodeSaid}
+use Rattle.tsb_node.specs.declared.decoded_key_node.DecodedKeyNode.{DecodedKeyNode}
 use Rattle.tsb_node.specs.Views.{keys_between}
 use Rattle.version_model.specs.Inserts.{Became}
 use Rattle.version_model.proofs.api.Pushed.{Adds-push}
-use Rattle.version_model.proofs.api.Standing.{key_node_of}
+use Rattle.version_model.proofs.api.Representing.{key_node_of}
 use Rattle.tsb_walk.specs.declared.page_place.PagePlace.{PagePlace}
-use Rattle.tsb_walk.specs.Shown.{Says, AreShown, keys_at}
+use Rattle.tsb_walk.specs.Shown.{RepresentsNode, RepresentNodes, keys_at}
 use Rattle.tsb_walk.specs.PageWays.{IsLower}
 use Rattle.tsb_walk.specs.Refusals.{OnlyReads, WalkRefusal}
 use Rattle.tsb_walk.specs.declared.error.NodeError.{NodeError}
@@ -48,7 +48,7 @@ store_read pages a b F device shelf start shown s reads is = record {
   reports = is.reports;
   limit = is.limit ∙ sym reads.next;
   honest = is.honest;
-  says = is.says;
+  represents_node = is.represents_node;
   next = is.next;
 }
 
@@ -60,7 +60,7 @@ take_lower pages a b F device shelf s all place next v reads can above lower = r
   start = can.start;
   shown = can.shown;
   is = store_read pages a b F device shelf can.start can.shown s reads can.is;
-  stands = (found_lower can.shown s all v.key place next can.is.reports lower above can.stands).stands;
+  represents_all = (found_lower can.shown s all v.key place next can.is.reports lower above can.represents_all).represents_all;
   above = can.above;
   bounded = can.bounded;
   inside = can.inside;
@@ -84,10 +84,10 @@ pub outdated_lower : {P O Pen Seen : Type 0} (pages : Ghosts P) (a b : P) (F : T
 unfolding take_lower
 outdated_lower pages a b F device shelf s all place next v reads can above lower rest = outdated_below place next lower rest
 
-module _ {O Pen Seen : Type 0} (device : OnceGhosts O Pen Seen) (shelf : Shelf O Pen Seen) (homes : ℕ) (shown : List (List ℕ)) (s : Store) (all : List Version) (v : Version) (place next : PagePlace) (are : AreShown shown s.nodes)
-    (lower : IsLower shown v.key place next) (above : 1 < place.level) (stands : StandsIn s all place.level (keys_at place) place.page) (change : Change) (plans : Plans device shelf homes s v next.level next.page change) where
+module _ {O Pen Seen : Type 0} (device : OnceGhosts O Pen Seen) (shelf : Shelf O Pen Seen) (homes : ℕ) (shown : List (List ℕ)) (s : Store) (all : List Version) (v : Version) (place next : PagePlace) (are : RepresentNodes shown s.nodes)
+    (lower : IsLower shown v.key place next) (above : 1 < place.level) (represents_all : RepresentsIn s all place.level (keys_at place) place.page) (change : Change) (plans : Plans device shelf homes s v next.level next.page change) where
   pub found : IsFound s all place next lower.children
-  found = found_lower shown s all v.key place next are lower above stands
+  found = found_lower shown s all v.key place next are lower above represents_all
 
   up_to : (c : Child) → slice_get lower.children (suc lower.child.place) ≡ Some c → v.key < c.low
   up_to = below_next shown v.key place next lower v.key lower.has.high
@@ -112,13 +112,13 @@ module _ {O Pen Seen : Type 0} (device : OnceGhosts O Pen Seen) (shelf : Shelf O
   pub became : IsAbove all v.stamp → (new : Child) → change.new ≡ Some new → (next.low < new.low) × (new.low < (keys_at next).high)
   became later new some =
       let is : Became (record { nodes = plans.nodes; limit = change.unused; blocks = plans.blocks; next = next_of shelf }) (all ++ v ∷ []) next.level (keys_at next) next.page (Some new) =
-      rw some at (plans.splits.stands all (all ++ v ∷ []) (keys_at next) (record { low = lower.has.low; high = lower.has.high }) later (Adds-push all v) found.stands) in (is.0, is.1)
+      rw some at (plans.splits.represents_all all (all ++ v ∷ []) (keys_at next) (record { low = lower.has.low; high = lower.has.high }) later (Adds-push all v) found.represents_all) in (is.0, is.1)
 
   -- its new half begins among its keys
   abbrev pub half_room : IsAbove all v.stamp → (new : Child) → change.new ≡ Some new → HasRoomAfter shown place new
   half_room later new some = record {
     children = lower.children;
-    says = lower.says;
+    represents_node = lower.represents_node;
     at = lower.child.place;
     beyond = after_child shown v.key place next lower new.low (became later new some).0 (became later new some).1;
     below = omega (arith, (became later new some).1, found.high);
@@ -245,31 +245,31 @@ walk_honest walks.NeedsRecovery down is never = tt
 walk_honest walks.OutOfMemory down is never = tt
 
 -- what was read is the node that has room
-pub said_after : (node : KeyNodeSaid) (shown : List (List ℕ)) (place : PagePlace) (new : Child) (room : HasRoomAfter shown place new) → KeyNode node.level (keys_between node.bounds) node.children.items ≡ KeyNode place.level (keys_at place) room.children → BeginsAfter node.children.items room.at new.low
-said_after node shown place new room same =
+pub decoded_after : (node : DecodedKeyNode) (shown : List (List ℕ)) (place : PagePlace) (new : Child) (room : HasRoomAfter shown place new) → KeyNode node.level (keys_between node.bounds) node.children.items ≡ KeyNode place.level (keys_at place) room.children → BeginsAfter node.children.items room.at new.low
+decoded_after node shown place new room same =
     let children : node.children.items ≡ room.children = cc in
     subst (λ (cs : List Child). BeginsAfter cs room.at new.low) (sym children) room.beyond
 
-pub said_below : (node : KeyNodeSaid) (shown : List (List ℕ)) (place : PagePlace) (new : Child) (room : HasRoomAfter shown place new) → KeyNode node.level (keys_between node.bounds) node.children.items ≡ KeyNode place.level (keys_at place) room.children → IfSome node.bounds.high (λ n. new.low < n)
-said_below node shown place new room same =
+pub decoded_below : (node : DecodedKeyNode) (shown : List (List ℕ)) (place : PagePlace) (new : Child) (room : HasRoomAfter shown place new) → KeyNode node.level (keys_between node.bounds) node.children.items ≡ KeyNode place.level (keys_at place) room.children → IfSome node.bounds.high (λ n. new.low < n)
+decoded_below node shown place new room same =
     let k : keys_between node.bounds ≡ keys_at place = cc in
     let high : high_or node.bounds.high ≡ high_or place.high = ap (λ (x : Keys). x.high) k in
     below_high node.bounds.high new.low (omega (arith, high, room.below))
 
-pub said_puts : (node : KeyNodeSaid) (shown : List (List ℕ)) (place : PagePlace) (new : Child) (room : HasRoomAfter shown place new) (change made : Change) → KeyNode node.level (keys_between node.bounds) node.children.items ≡ KeyNode place.level (keys_at place) room.children
+pub decoded_puts : (node : DecodedKeyNode) (shown : List (List ℕ)) (place : PagePlace) (new : Child) (room : HasRoomAfter shown place new) (change made : Change) → KeyNode node.level (keys_between node.bounds) node.children.items ≡ KeyNode place.level (keys_at place) room.children
     → PutsChild place.page node.level (keys_between node.bounds) (insert node.children.items (suc room.at) new) change made → PutsChild place.page place.level (keys_at place) (insert room.children (suc room.at) new) change made
-said_puts node shown place new room change made same puts =
+decoded_puts node shown place new room change made same puts =
     let children : node.children.items ≡ room.children = cc in
     let k : keys_between node.bounds ≡ keys_at place = cc in
     let level : node.level ≡ place.level = cc in
     rw (← children, ← k, ← level) puts
 
--- a node above the lowest level that can take a version says its children
-pub can_said : {P O Pen Seen : Type 0} (pages : Ghosts P) (a : P) (device : OnceGhosts O Pen Seen) (shelf : Shelf O Pen Seen) (s : Store) (all : List Version) (place : PagePlace) (v : Version)
-    → (can : CanTake pages a device shelf s all place v) → 1 < place.level → (children : List Child) × Says can.shown place.page (KeyNode place.level (keys_at place) children)
-can_said pages a device shelf s all place v can above =
-    let k = key_node_of s.nodes s.limit s.blocks s.next all place.level (keys_at place) place.page above can.stands in
+-- a node above the lowest level that can take a version represents its children
+pub can_represent : {P O Pen Seen : Type 0} (pages : Ghosts P) (a : P) (device : OnceGhosts O Pen Seen) (shelf : Shelf O Pen Seen) (s : Store) (all : List Version) (place : PagePlace) (v : Version)
+    → (can : CanTake pages a device shelf s all place v) → 1 < place.level → (children : List Child) × RepresentsNode can.shown place.page (KeyNode place.level (keys_at place) children)
+can_represent pages a device shelf s all place v can above =
+    let k = key_node_of s.nodes s.limit s.blocks s.next all place.level (keys_at place) place.page above can.represents_all in
     let level : suc k.level ≡ place.level = omega (arith, k.is) in (
       k.children,
-      subst (λ (m : ℕ). Says can.shown place.page (KeyNode m (keys_at place) k.children)) level (can.is.reports place.page _ k.at),
+      subst (λ (m : ℕ). RepresentsNode can.shown place.page (KeyNode m (keys_at place) k.children)) level (can.is.reports place.page _ k.at),
     )

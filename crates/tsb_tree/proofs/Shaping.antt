@@ -10,7 +10,7 @@ use Rattle.version_model.proofs.api.Pushed.{Has-push_cases}
 use Rattle.tsb_node.specs.Nodes.{AreInOrder}
 use Rattle.tsb_node.specs.Leaves.{CanBeLeaf, IsLeafPage, IsShortOf}
 use Rattle.tsb_node.specs.Columns.{CanBeColumn, IsColumnPage, AreAscending, BeginsAt, starts_of}
-use Rattle.tsb_node.specs.Views.{PageSays, says_leaf, says_column}
+use Rattle.tsb_node.specs.Views.{PageRepresents, represents_leaf, represents_column}
 use Rattle.tsb_node.proofs.ViewLaws.{entries-octets}
 use Rattle.worm_migration.specs.Columns.{AreWholePast}
 use Rattle.tsb_tree.specs.declared.whole.Whole.{Whole}
@@ -31,16 +31,16 @@ can_be_leaf w vs is rising whole fits = record {
   fits = omega (arith, entries-octets vs, ap octets is, fits);
 }
 
-pub leaf_says : (w : Whole) (vs : List Version) (page : List ℕ) → vs ≡ w.leaf → IsLeafPage (record { bounds = bounds_from w.low w.high w.start; versions = vs }) page → PageSays page (leaf_node w)
-leaf_says w vs page is says = says_leaf (leaf_in_page w) (subst (λ x. IsLeafPage (record { bounds = bounds_from w.low w.high w.start; versions = x }) page) is says)
+pub leaf_represents : (w : Whole) (vs : List Version) (page : List ℕ) → vs ≡ w.leaf → IsLeafPage (record { bounds = bounds_from w.low w.high w.start; versions = vs }) page → PageRepresents page (leaf_node w)
+leaf_represents w vs page is represents_node = represents_leaf (leaf_in_page w) (subst (λ x. IsLeafPage (record { bounds = bounds_from w.low w.high w.start; versions = x }) page) is represents_node)
 
 pub can_be_column : (w : Whole) (first current : ℕ) (parts : List Part) → first ≡ 0 → parts ≡ w.parts.items → IsWhole w → CanBeColumn (record { bounds = bounds_from w.low w.high first; parts = parts; current = record { start = w.start; page = current } })
 can_be_column w first current parts zero' is whole = rw (zero', is) (record { bounds = record { high = whole.order.high; end = tt }; follow = whole.follow current })
 
-pub column_says : (w : Whole) (first current : ℕ) (parts : List Part) (page : List ℕ) → first ≡ 0 → parts ≡ w.parts.items → IsColumnPage (record { bounds = bounds_from w.low w.high first; parts = parts; current = record { start = w.start; page = current } }) page → PageSays page (column_node w current)
-column_says w first current parts page zero' is says =
-    says_column (column_in_page w current) (subst (λ x. IsColumnPage (record { bounds = bounds_from w.low w.high 0; parts = x; current = record { start = w.start; page = current } }) page) is
-    (subst (λ x. IsColumnPage (record { bounds = bounds_from w.low w.high x; parts = parts; current = record { start = w.start; page = current } }) page) zero' says))
+pub column_represents : (w : Whole) (first current : ℕ) (parts : List Part) (page : List ℕ) → first ≡ 0 → parts ≡ w.parts.items → IsColumnPage (record { bounds = bounds_from w.low w.high first; parts = parts; current = record { start = w.start; page = current } }) page → PageRepresents page (column_node w current)
+column_represents w first current parts page zero' is represents_node =
+    represents_column (column_in_page w current) (subst (λ x. IsColumnPage (record { bounds = bounds_from w.low w.high 0; parts = x; current = record { start = w.start; page = current } }) page) is
+    (subst (λ x. IsColumnPage (record { bounds = bounds_from w.low w.high x; parts = parts; current = record { start = w.start; page = current } }) page) zero' represents_node))
 
 -- lists that ascend
 all_push : (P : ℕ → Type 0) (ns : List ℕ) (n : ℕ) → AllByRecursion P ns → P n → AllByRecursion P (ns ++ n ∷ [])

@@ -10,7 +10,7 @@ use Rattle.once_store.specs.declared.error.AppendError.TheVariants as appends
 use Rattle.worm_migration.specs.declared.error.MigrationError.{MigrationError}
 use Rattle.worm_migration.specs.declared.error.MigrationError.TheVariants as migrations
 use Rattle.worm_migration.specs.Shelves.{KeepsShelf, PutsBlock}
-use Rattle.worm_migration.specs.Settled.{ShelfSays}
+use Rattle.worm_migration.specs.Settled.{ShelfRepresents}
 use Rattle.version_model.specs.Blocks.{BlockNode}
 use Rattle.tsb_tree.specs.declared.error.TreeError.{TreeError}
 use Rattle.tsb_tree.specs.declared.error.TreeError.TheVariants as errors
@@ -160,12 +160,12 @@ leaves_more device m n a b F G F' G' le f f' g one = record {
   none_left = λ h is. one.none_left h (g is);
 }
 
--- what blocks said they say still
-pub says_on : {O Pen Seen : Type 0} (device : Ghosts O Pen Seen) (most : ℕ) (old new : Shelf O Pen Seen) (F G : Type 0) (blocks : ℕ → Option BlockNode) → LeavesShelf device most old new F G → device.honest (disk_of old) (pen_of old) → ShelfSays device old blocks → ShelfSays device new blocks
-says_on device most old new F G blocks leaves honest says = record {
+-- what blocks represented they represent still
+pub represents_on : {O Pen Seen : Type 0} (device : Ghosts O Pen Seen) (most : ℕ) (old new : Shelf O Pen Seen) (F G : Type 0) (blocks : ℕ → Option BlockNode) → LeavesShelf device most old new F G → device.honest (disk_of old) (pen_of old) → ShelfRepresents device old blocks → ShelfRepresents device new blocks
+represents_on device most old new F G blocks leaves honest represents_node = record {
   each = λ n node is.
-      (let at = says.each n node is in
-      record { inside = rw leaves.disk at.inside; octets = at.octets; settled = (leaves.leaves honest).grows.settled n at.octets at.settled; says = at.says });
+      (let at = represents_node.each n node is in
+      record { inside = rw leaves.disk at.inside; octets = at.octets; settled = (leaves.leaves honest).grows.settled n at.octets at.settled; represents_node = at.represents_node });
 }
 
 pub honest_on : {O Pen Seen : Type 0} (device : Ghosts O Pen Seen) (most : ℕ) (old new : Shelf O Pen Seen) (F G : Type 0) → LeavesShelf device most old new F G → device.honest (disk_of old) (pen_of old) → device.honest (disk_of new) (pen_of new)

@@ -5,7 +5,7 @@ use Rattle.version_model.specs.declared.child.Child.{Child}
 use Rattle.version_model.specs.Versions.{Version}
 use Rattle.version_model.specs.Ranges.{high_or}
 use Rattle.version_model.specs.Blocks.{Grows}
-use Rattle.version_model.specs.Pages.{Keys, CurrentLeaf, ColumnNode, KeyNode, Stands, column, key_node, Store, StandsIn}
+use Rattle.version_model.specs.Pages.{Keys, CurrentLeaf, ColumnNode, KeyNode, Represents, column, key_node, Store, RepresentsIn}
 use Rattle.version_model.specs.Inserts.{LocatedUnder, Splits, KeepsOthers}
 use Rattle.tsb_tree.specs.declared.whole.Whole.{Whole}
 use Rattle.tsb_tree.specs.Wholes.{keys, WholeHas, IsAt, Takes, AreHalves, keys_of_whole, column_node, leaf_node}
@@ -17,8 +17,8 @@ pub record Found (s : Store) (all : List Version) (m : ℕ) (k : Keys) (page cur
   pub current_in_limit : current < s.limit
   pub has : WholeHas s.blocks s.next all w
 
--- what the pages say of a column that stands
-pub found : (s : Store) (all : List Version) (m : ℕ) (k : Keys) (page current : ℕ) (w : Whole) → IsAt s.nodes page current w → Stands s.nodes s.limit s.blocks s.next all m k page → Found s all m k page current w
+-- what the pages represent of a column that stands
+pub found : (s : Store) (all : List Version) (m : ℕ) (k : Keys) (page current : ℕ) (w : Whole) → IsAt s.nodes page current w → Represents s.nodes s.limit s.blocks s.next all m k page → Found s all m k page current w
 found s all _ _ _ current w is (column k page c) =
     let node : ColumnNode k c.parts c.start c.current ≡ ColumnNode (keys_of_whole w) w.parts.items w.start current = same_Some _ _ (sym c.at ∙ is.at) in
     let e_keys : k ≡ keys_of_whole w = cc in
@@ -38,9 +38,9 @@ found s all _ _ _ current w is (key_node level k page children in_limit at are s
     let node : KeyNode (suc level) k children ≡ ColumnNode (keys_of_whole w) w.parts.items w.start current = same_Some _ _ (sym at ∙ is.at) in
     absurd (cc)
 
--- a column in memory stands in the pages that say it
-pub stands_at : (t : Store) (all : List Version) (k : Keys) (page current : ℕ) (w : Whole) → IsAt t.nodes page current w → page < t.limit → current < t.limit → keys_of_whole w ≡ k → WholeHas t.blocks t.next all w → Stands t.nodes t.limit t.blocks t.next all 1 k page
-stands_at t all k page current w is in_limit current_in_limit same_keys has = rw (← same_keys) (column (keys_of_whole w) page (record {
+-- a column in memory stands in the pages that represent it
+pub represents_at : (t : Store) (all : List Version) (k : Keys) (page current : ℕ) (w : Whole) → IsAt t.nodes page current w → page < t.limit → current < t.limit → keys_of_whole w ≡ k → WholeHas t.blocks t.next all w → Represents t.nodes t.limit t.blocks t.next all 1 k page
+represents_at t all k page current w is in_limit current_in_limit same_keys has = rw (← same_keys) (column (keys_of_whole w) page (record {
   parts = w.parts.items;
   current = current;
   start = w.start;
@@ -57,9 +57,9 @@ stands_at t all k page current w is in_limit current_in_limit same_keys has = rw
 module _ (s t : Store) (v : Version) (page current : ℕ) (w w' : Whole) (is : IsAt s.nodes page current w) (in_low : w.low ≤ v.key) (in_high : v.key < high_or w.high)
     (takes : Takes s.blocks s.next t.blocks t.next v w w') (grows : Grows s.blocks t.blocks) (next_grows : s.next ≤ t.next) (limit_grows : s.limit ≤ t.limit)
     (others : (p : ℕ) → p < s.limit → (p ≡ page → ⊥) → (p ≡ current → ⊥) → t.nodes p ≡ s.nodes p) where
-  column_others : (all : List Version) (k : Keys) → StandsIn s all 1 k page → KeepsOthers s.nodes t.nodes s.limit 1 k
-  column_others all k stands p node in_limit at never =
-      let f = found s all 1 k page current w is stands in
+  column_others : (all : List Version) (k : Keys) → RepresentsIn s all 1 k page → KeepsOthers s.nodes t.nodes s.limit 1 k
+  column_others all k represents_all p node in_limit at never =
+      let f = found s all 1 k page current w is represents_all in
       let low : k.low ≡ w.low = ap (λ (x : Keys). x.low) (sym f.same_keys) in
       let high : k.high ≡ high_or w.high = ap (λ (x : Keys). x.high) (sym f.same_keys) in
       let not_page : p ≡ page → ⊥ = λ e. never (subst (LocatedUnder 1 k) (same_Some (column_node w current) node (sym is.at ∙ ap s.nodes (sym e) ∙ at))
@@ -73,12 +73,12 @@ module _ (s t : Store) (v : Version) (page current : ℕ) (w w' : Whole) (is : I
     grows = grows;
     next_grows = next_grows;
     limit_grows = limit_grows;
-    stands = λ all after k of_key above adds stands.
-        (let f = found s all 1 k page current w is stands in
-        stands_at t after k page current w' is' (omega (arith, f.in_limit)) (omega (arith, f.current_in_limit))
+    represents_all = λ all after k of_key above adds represents_all.
+        (let f = found s all 1 k page current w is represents_all in
+        represents_at t after k page current w' is' (omega (arith, f.in_limit)) (omega (arith, f.current_in_limit))
         (ap (λ a. keys a (high_or w'.high)) takes.low ∙ ap (λ a. keys w.low (high_or a)) takes.high ∙ f.same_keys)
         (takes.takes all after above adds f.has));
-    others = λ all k stands. column_others all k stands;
+    others = λ all k represents_all. column_others all k represents_all;
   }
 
   pub Splits-column_two : (left right : Whole) (q r : ℕ) (new : Child) → AreHalves w' left right → (page < s.limit → current < s.limit → IsAt t.nodes page current left) → IsAt t.nodes q r right → q < t.limit → r < t.limit → new ≡ record { low = right.low; page = q } → Splits s t v 1 page (Some new)
@@ -86,16 +86,16 @@ module _ (s t : Store) (v : Version) (page current : ℕ) (w w' : Whole) (is : I
     grows = grows;
     next_grows = next_grows;
     limit_grows = limit_grows;
-    stands = λ all after k of_key above adds stands.
-        (let f = found s all 1 k page current w is stands in
+    represents_all = λ all after k of_key above adds represents_all.
+        (let f = found s all 1 k page current w is represents_all in
         let both = halves.has t.blocks t.next after (takes.takes all after above adds f.has) in
         let low : w'.low ≡ k.low = takes.low ∙ ap (λ (x : Keys). x.low) f.same_keys in
         let high : high_or w'.high ≡ k.high = ap high_or takes.high ∙ ap (λ (x : Keys). x.high) f.same_keys in (
           omega (arith, halves.above, low),
           omega (arith, halves.below, high),
-          stands_at t after (keys k.low right.low) page current left (is_left f.in_limit f.current_in_limit) (omega (arith, f.in_limit)) (omega (arith, f.current_in_limit))
+          represents_at t after (keys k.low right.low) page current left (is_left f.in_limit f.current_in_limit) (omega (arith, f.in_limit)) (omega (arith, f.current_in_limit))
               (ap (λ a. keys a (high_or left.high)) (halves.low ∙ low) ∙ ap (λ a. keys k.low (high_or a)) halves.middle) both.0,
-          stands_at t after (keys right.low k.high) q r right is_right q_in r_in (ap (λ a. keys right.low a) (ap high_or halves.high ∙ high)) both.1,
+          represents_at t after (keys right.low k.high) q r right is_right q_in r_in (ap (λ a. keys right.low a) (ap high_or halves.high ∙ high)) both.1,
         ));
-    others = λ all k stands. column_others all k stands;
+    others = λ all k represents_all. column_others all k represents_all;
   })

@@ -2,7 +2,7 @@
 use Rattle.std.specs.Prelude.{◌≡◌, ℕ, suc, ◌+◌, ◌^◌, ◌<◌, ◌≤◌, List, length, take, drop, slice_get, Some, IfSome}
 use Rattle.std.specs.List.{AllByRecursion}
 use Rattle.version_model.specs.declared.child.Child.{Child}
-use Rattle.tsb_node.specs.declared.key_node_said.KeyNodeSaid.{KeyNodeSaid}
+use Rattle.tsb_node.specs.declared.decoded_key_node.DecodedKeyNode.{DecodedKeyNode}
 use Rattle.tsb_node.specs.Columns.{BeginsAt, AreAscending}
 use Rattle.tsb_node.specs.KeyNodes.{lows_of}
 
@@ -14,7 +14,7 @@ pub record BeginsAfter (children : List Child) (place key : ℕ) : Type 0 where
   pub below : (next : Child) → slice_get children (suc place) ≡ Some next → key < next.low
 
 -- a key node of a page, but for the room that its children take
-pub record IsWide (node : KeyNodeSaid) : Type 0 where
+pub record IsWide (node : DecodedKeyNode) : Type 0 where
   pub lowest : 2 ≤ node.level
   pub highest : node.level ≤ 7
   pub high : IfSome node.bounds.high (λ n. (n + 1 < 256 ^ 40) × (node.bounds.low < n))
@@ -23,7 +23,7 @@ pub record IsWide (node : KeyNodeSaid) : Type 0 where
   pub rising : AreAscending (lows_of node.children.items)
 
 -- The children of a node go to two nodes, and the second one begins where the first one ends. Both have room.
-pub record AreKeyHalves (node front back : KeyNodeSaid) : Type 0 where
+pub record AreKeyHalves (node front back : DecodedKeyNode) : Type 0 where
   pub place : ℕ
   pub mid : Child
   pub at : slice_get node.children.items place ≡ Some mid

@@ -2,7 +2,7 @@
 use Rattle.std.specs.Prelude.{◌≡◌, ℕ, ◌+◌, ◌<◌, ◌≤◌, List, [], Option, Some, None, length, slice_set}
 use Rattle.page_journal.specs.Layout.{Image, pages_of}
 use Rattle.page_journal.specs.Recovers.{laid, AreBelow, AreDistinct}
-use Rattle.tsb_node.specs.Views.{PageSays}
+use Rattle.tsb_node.specs.Views.{PageRepresents}
 use Rattle.version_model.specs.declared.child.Child.{Child}
 use Rattle.disk_models.specs.declared.once.OnceDisk.{Ghosts as OnceGhosts}
 use Rattle.once_store.specs.declared.shelf.Shelf.{Shelf}
@@ -17,8 +17,8 @@ use Rattle.tsb_tree.specs.Wholes.{AreHalves, column_node, leaf_node}
 pub record LaysWhole (page current : ℕ) (w : Whole) (old new : List Image) : Type 0 where
   pub column : List ℕ
   pub leaf : List ℕ
-  pub says_column : PageSays column (column_node w current)
-  pub says_leaf : PageSays leaf (leaf_node w)
+  pub represents_column : PageRepresents column (column_node w current)
+  pub represents_leaf : PageRepresents leaf (leaf_node w)
   pub over : (shown : List (List ℕ)) → laid new shown ≡ slice_set (slice_set (laid old shown) page column) current leaf
   pub distinct : AreDistinct (pages_of new)
   pub below : (homes : ℕ) → page < homes → current < homes → AreBelow homes (pages_of old) → AreBelow homes (pages_of new)

@@ -2,20 +2,20 @@
 use Rattle.std.specs.Prelude.{◌≡◌, ℕ, suc, ◌+◌, ◌<◌, ◌≤◌, List, [], ◌∷◌, ◌++◌, length}
 use Rattle.tsb_walk.specs.declared.page_place.PagePlace.{PagePlace}
 use Rattle.tsb_walk.specs.PageWays.{IsLower}
-use Rattle.tsb_walk.specs.Shown.{Says, keys_at}
+use Rattle.tsb_walk.specs.Shown.{RepresentsNode, keys_at}
 use Rattle.version_model.specs.declared.part.Part.{Part}
 use Rattle.version_model.specs.Pages.{ColumnNode, CurrentLeaf}
-use Rattle.version_model.specs.Shows.{IsFrom}
+use Rattle.version_model.specs.LeafVersions.{IsFrom}
 use Rattle.version_model.specs.Sizes.{octets, entry_octets}
 use Rattle.version_model.specs.Versions.{Version, IsRising}
 
--- the shown pages say a column of exactly the place's keys, whose current leaf has these versions
+-- the shown pages represent a column of exactly the place's keys, whose current leaf has these versions
 pub record HasLeaf (shown : List (List ℕ)) (place : PagePlace) (leaf : List Version) : Type 0 where
   pub parts : List Part
   pub start : ℕ
   pub page : ℕ
-  pub column : Says shown place.page (ColumnNode (keys_at place) parts start page)
-  pub current : Says shown page (CurrentLeaf (keys_at place) start leaf)
+  pub column : RepresentsNode shown place.page (ColumnNode (keys_at place) parts start page)
+  pub current : RepresentsNode shown page (CurrentLeaf (keys_at place) start leaf)
 
 -- what stays of a leaf that is split by time at a stamp
 pub record IsWhatStays (leaf : List Version) (at : ℕ) (stays : List Version) : Type 0 where

@@ -3,7 +3,7 @@ use Rattle.std.specs.Prelude.{◌≡◌, ℕ, ◌≤◌, List, length}
 use Rattle.page_tx.specs.declared.error.PageError.TheVariants as pages
 use Rattle.tsb_walk.specs.declared.page_place.PagePlace.{PagePlace}
 use Rattle.tsb_walk.specs.PageWays.{IsLower}
-use Rattle.tsb_walk.specs.Shown.{Says, keys_at}
+use Rattle.tsb_walk.specs.Shown.{RepresentsNode, keys_at}
 use Rattle.version_model.specs.declared.part.Part.{Part}
 use Rattle.version_model.specs.Pages.{ColumnNode, all_keys}
 use Rattle.version_model.specs.Versions.{Version}
@@ -18,7 +18,7 @@ pub data LeadsToFullLeaf (shown : List (List ℕ)) (v : Version) : PagePlace →
 
 -- The version's key leads from a place down to a column whose page has as many parts as one can have.
 pub data LeadsToFullColumn (shown : List (List ℕ)) (v : Version) : PagePlace → Type 0 where
-  full_column : (column : PagePlace) (parts : List Part) (start current : ℕ) → Says shown column.page (ColumnNode (keys_at column) parts start current) → 648 ≤ length parts → LeadsToFullColumn shown v column
+  full_column : (column : PagePlace) (parts : List Part) (start current : ℕ) → RepresentsNode shown column.page (ColumnNode (keys_at column) parts start current) → 648 ≤ length parts → LeadsToFullColumn shown v column
   full_column_below : (place next : PagePlace) → IsLower shown v.key place next → LeadsToFullColumn shown v next → LeadsToFullColumn shown v place
 
 -- the fact holds of the root of a tree: in this page, of this level, with all keys

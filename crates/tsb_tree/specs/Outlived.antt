@@ -1,6 +1,6 @@
 -- Leaves that have a version which isn't needed any more once they take another one.
 use Rattle.std.specs.Prelude.{◌≡◌, ℕ, ◌<◌, ◌⊎◌, List, [], ◌∷◌, ◌++◌, None}
-use Rattle.tsb_node.specs.Views.{PageSays}
+use Rattle.tsb_node.specs.Views.{PageRepresents}
 use Rattle.tsb_walk.specs.declared.page_place.PagePlace.{PagePlace}
 use Rattle.tsb_walk.specs.PageWays.{IsLower}
 use Rattle.tsb_walk.specs.Shown.{keys_at}
@@ -16,11 +16,11 @@ IsOutlived all old = (old.value ≡ None) ⊎ ((w : Version) × Has all w × (w.
 abbrev pub HasOutlived : List Version → Version → Type 0
 HasOutlived leaf v = (old : Version) × Has leaf old × IsOutlived (leaf ++ v ∷ []) old
 
--- the image says a current leaf of the place's keys, which has a version that is outlived once it takes this one
+-- the image represents a current leaf of the place's keys, which has a version that is outlived once it takes this one
 pub record IsOutdated (place : PagePlace) (image : List ℕ) (v : Version) : Type 0 where
   pub start : ℕ
   pub versions : List Version
-  pub says : PageSays image (CurrentLeaf (keys_at place) start versions)
+  pub represents_node : PageRepresents image (CurrentLeaf (keys_at place) start versions)
   pub outlived : HasOutlived versions v
 
 -- The version's key leads from a place down to a column whose current leaf has no room for the version, and has one that is outlived once

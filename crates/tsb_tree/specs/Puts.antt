@@ -4,21 +4,21 @@ use Rattle.page_journal.specs.Recovers.{laid}
 use Rattle.page_tx.specs.declared.error.PageError.TheVariants as pages
 use Rattle.version_model.specs.declared.child.Child.{Child}
 use Rattle.version_model.specs.Pages.{Keys, PageNode, KeyNode}
-use Rattle.tsb_node.specs.Views.{PageSays}
+use Rattle.tsb_node.specs.Views.{PageRepresents}
 use Rattle.tsb_tree.specs.declared.change.Change.{Change}
 use Rattle.tsb_tree.specs.declared.error.TreeError.{TreeError}
 use Rattle.tsb_tree.specs.declared.error.TreeError.TheVariants as errors
 use Rattle.tsb_tree.specs.Wholes.{keys}
 
--- one image more is laid, by which the page says this node, and nothing became two
+-- one image more is laid, by which the page represents this node, and nothing became two
 pub record PutsOne (page : ℕ) (node : PageNode) (change put : Change) : Type 0 where
   pub octets : List ℕ
   pub images : (shown : List (List ℕ)) → laid put.images.items shown ≡ slice_set (laid change.images.items shown) page octets
-  pub says : PageSays octets node
+  pub represents_node : PageRepresents octets node
   pub unused : put.unused ≡ change.unused
   pub new : put.new ≡ None
 
--- Two images more are laid, by which the page and the next one that was never used say the two halves of a key node of these keys and
+-- Two images more are laid, by which the page and the next one that was never used represent the two halves of a key node of these keys and
 -- children.
 pub record PutsTwo (page level : ℕ) (k : Keys) (children : List Child) (change put : Change) : Type 0 where
   pub place : ℕ
@@ -28,8 +28,8 @@ pub record PutsTwo (page level : ℕ) (k : Keys) (children : List Child) (change
   pub front : List ℕ
   pub back : List ℕ
   pub images : (shown : List (List ℕ)) → laid put.images.items shown ≡ slice_set (slice_set (laid change.images.items shown) page front) change.unused back
-  pub says_front : PageSays front (KeyNode level (keys k.low mid.low) (take place children))
-  pub says_back : PageSays back (KeyNode level (keys mid.low k.high) (drop place children))
+  pub represents_front : PageRepresents front (KeyNode level (keys k.low mid.low) (take place children))
+  pub represents_back : PageRepresents back (KeyNode level (keys mid.low k.high) (drop place children))
   pub unused : put.unused ≡ change.unused + 1
   pub new : put.new ≡ Some (record { low = mid.low; page = change.unused })
 

@@ -6,28 +6,28 @@ use Rattle.page_tx.specs.declared.error.PageError.TheVariants as pages
 use Rattle.version_model.specs.declared.child.Child.{Child}
 use Rattle.version_model.specs.Ranges.{high_or}
 use Rattle.version_model.specs.Pages.{KeyNode, all_keys}
-use Rattle.tsb_node.specs.Views.{PageSays}
+use Rattle.tsb_node.specs.Views.{PageRepresents}
 use Rattle.tsb_walk.specs.declared.page_place.PagePlace.{PagePlace}
-use Rattle.tsb_walk.specs.Shown.{Says, keys_at}
+use Rattle.tsb_walk.specs.Shown.{RepresentsNode, keys_at}
 use Rattle.tsb_tree.specs.declared.change.Change.{Change}
 use Rattle.tsb_tree.specs.declared.error.TreeError.{TreeError}
 use Rattle.tsb_tree.specs.declared.error.TreeError.TheVariants as errors
 use Rattle.tsb_tree.specs.KeyNodes.{BeginsAfter}
 
--- The page says a key node of its level and its keys, and the new half of one of its children begins among that child's keys, above
+-- The page represents a key node of its level and its keys, and the new half of one of its children begins among that child's keys, above
 -- the lowest of them.
 pub record HasRoomAfter (shown : List (List ℕ)) (place : PagePlace) (new : Child) : Type 0 where
   pub children : List Child
-  pub says : Says shown place.page (KeyNode place.level (keys_at place) children)
+  pub represents_node : RepresentsNode shown place.page (KeyNode place.level (keys_at place) children)
   pub at : ℕ
   pub beyond : BeginsAfter children at new.low
   pub below : new.low < high_or place.high
 
--- one image more is laid, by which the next page that was never used says a root of all keys above an old one and its new half
+-- one image more is laid, by which the next page that was never used represents a root of all keys above an old one and its new half
 pub record GrowsRoot (level root : ℕ) (new : Child) (change grown : Change) : Type 0 where
   pub octets : List ℕ
   pub images : (shown : List (List ℕ)) → laid grown.images.items shown ≡ slice_set (laid change.images.items shown) change.unused octets
-  pub says : PageSays octets (KeyNode (suc level) all_keys (record { low = 0; page = root } ∷ new ∷ []))
+  pub represents_node : PageRepresents octets (KeyNode (suc level) all_keys (record { low = 0; page = root } ∷ new ∷ []))
   pub unused : grown.unused ≡ change.unused + 1
   pub none : grown.new ≡ None
 

@@ -1,4 +1,4 @@
--- What the calls of a tree leave of a shelf, and what blocks say then.
+-- What the calls of a tree leave of a shelf, and what blocks represent then.
 use Rattle.std.specs.Prelude.{◌≡◌, ◌↔◌, ◌+◌, ◌∷◌, [], ℕ, ◌≤◌, List, length, Option, Some, None, Result, Err, min, max}
 use Rattle.disk_models.specs.declared.once.OnceDisk.{Ghosts as OnceGhosts}
 use Rattle.disk_models.specs.Once.{OnceState, Grows as DiskGrows}
@@ -9,10 +9,10 @@ use Rattle.once_store.specs.Shelves.{AllTried, AreTriedBelow, disk_of, pen_of, n
 use Rattle.page_journal.specs.Recovers.{IsListed}
 use Rattle.version_model.specs.Blocks.{BlockNode, Grows}
 use Rattle.version_model.specs.Versions.{Version}
-use Rattle.version_model.specs.Pages.{PastStands}
+use Rattle.version_model.specs.Pages.{PartsRepresent}
 use Rattle.version_model.specs.declared.part.Part.{Part}
 use Rattle.worm_migration.specs.Columns.{old_leaf, old_column, column_part}
-use Rattle.worm_migration.specs.Settled.{ShelfSays, with_block}
+use Rattle.worm_migration.specs.Settled.{ShelfRepresents, with_block}
 use Rattle.tsb_tree.specs.declared.error.TreeError.{TreeError}
 use Rattle.tsb_tree.specs.declared.error.TreeError.TheVariants as errors
 use Rattle.tsb_tree.specs.declared.burning.Burnt.{Burnt}
@@ -59,7 +59,7 @@ pub record LeavesShelf {O Pen Seen : Type 0} (device : OnceGhosts O Pen Seen) (m
 abbrev pub KeepsShelf : {O Pen Seen : Type 0} (device : OnceGhosts O Pen Seen) (most : ℕ) (old new : Shelf O Pen Seen) {T : Type 0} → Result T TreeError → Type 0
 KeepsShelf device most old new result = LeavesShelf device most old new (result ≡ Err (errors.Once appends.Fault)) (result ≡ Err (errors.Once appends.OnceFull))
 
--- what blocks say where a column's past has become one block, or not
+-- what blocks represent where a column's past has become one block, or not
 abbrev pub packed : Whole → Option ℕ → (ℕ → Option BlockNode) → ℕ → Option BlockNode
 packed w None blocks = blocks
 packed w (Some n) blocks = with_block n (old_column (keys_of_whole w) w.start w.parts.items) blocks
@@ -69,19 +69,19 @@ abbrev pub packed_parts : Whole → Option ℕ → List Part
 packed_parts w None = w.parts.items
 packed_parts w (Some n) = column_part n ∷ []
 
--- what blocks say where, after that, a column's leaf of these versions, as it was until a stamp, has become a block
+-- what blocks represent where, after that, a column's leaf of these versions, as it was until a stamp, has become a block
 abbrev pub burnt : Whole → List Version → ℕ → Burnt → (ℕ → Option BlockNode) → ℕ → Option BlockNode
 burnt w leaf at b blocks = with_block b.leaf (old_leaf (keys_of_whole w) w.start at leaf) (packed w b.column blocks)
 
--- From some blocks to others there is room for a part more in a column: what the first ones said the others say, and wherever its parts
--- stood for its past, so do those that there are now.
+-- From some blocks to others there is room for a part more in a column: what the first ones represented the others represent, and wherever its parts
+-- represented its past, so do those that there are now.
 pub record MakesRoom {O Pen Seen : Type 0} (device : OnceGhosts O Pen Seen) (new : Shelf O Pen Seen) (blocks more : ℕ → Option BlockNode) (next : ℕ) (w : Whole) (parts : List Part) : Type 0 where
-  pub says : ShelfSays device new more
+  pub represents_node : ShelfRepresents device new more
   pub grows : Grows blocks more
-  pub moves : (all : List Version) → PastStands blocks next all (keys_of_whole w) w.start w.parts.items → PastStands more (next_of new) all (keys_of_whole w) w.start parts
+  pub moves : (all : List Version) → PartsRepresent blocks next all (keys_of_whole w) w.start w.parts.items → PartsRepresent more (next_of new) all (keys_of_whole w) w.start parts
 
--- From some blocks to others a column took a version: what the first ones said the others say.
+-- From some blocks to others a column took a version: what the first ones represented the others represent.
 pub record TakesOn {O Pen Seen : Type 0} (device : OnceGhosts O Pen Seen) (new : Shelf O Pen Seen) (blocks more : ℕ → Option BlockNode) (next : ℕ) (v : Version) (w w' : Whole) : Type 0 where
-  pub says : ShelfSays device new more
+  pub represents_node : ShelfRepresents device new more
   pub grows : Grows blocks more
   pub takes : Takes blocks next more (next_of new) v w w'

@@ -1,4 +1,4 @@
--- A column with its current leaf, in memory: what it stands for, and what becomes of it.
+-- A column with its current leaf, in memory: what it represents, and what becomes of it.
 use Rattle.std.specs.Prelude.{◌≡◌, ℕ, ◌<◌, ◌⊎◌, List, Option, Some}
 use Rattle.version_model.specs.Versions.{Version, Has, IsAbove, Adds}
 use Rattle.version_model.specs.Ranges.{high_or}
@@ -15,20 +15,20 @@ keys low high = record { low = low; high = high }
 abbrev pub keys_of_whole : Whole → Keys
 keys_of_whole w = keys w.low (high_or w.high)
 
--- The column stands for these versions: its parts and its leaf have them, and the leaf starts before any version to come.
+-- The column represents these versions: its parts and its leaf have them, and the leaf starts before any version to come.
 pub record WholeHas (blocks : ℕ → Option BlockNode) (next : ℕ) (all : List Version) (w : Whole) : Type 0 where
   pub column : ColumnHas blocks next all (keys_of_whole w) w.start w.parts.items w.leaf
   pub started : (s : ℕ) → ((v : Version) → Has all v → v.stamp < s) → (w.start < s) ⊎ (w.start ≡ 0)
 
--- what the column's page says
+-- what the column's page represents
 abbrev pub column_node : Whole → ℕ → PageNode
 column_node w current = ColumnNode (keys_of_whole w) w.parts.items w.start current
 
--- what its current leaf's page says
+-- what its current leaf's page represents
 abbrev pub leaf_node : Whole → PageNode
 leaf_node w = CurrentLeaf (keys_of_whole w) w.start w.leaf
 
--- the page and its current leaf's page say the column
+-- the page and its current leaf's page represent the column
 pub record IsAt (nodes : ℕ → Option PageNode) (page current : ℕ) (w : Whole) : Type 0 where
   pub at : nodes page ≡ Some (column_node w current)
   pub at_current : nodes current ≡ Some (leaf_node w)

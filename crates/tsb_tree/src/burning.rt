@@ -2,10 +2,10 @@
 ghost use Rattle.std.specs.Prelude.{◌≡◌, ◌+◌, ◌^◌, ◌<◌, ◌≤◌, ◌⊎◌, ◌++◌, ◌∷◌, [], ℕ, List, Option, Some, IfOk, IfErr, IsErr, OnOk, length, vec_len};
 ghost use Rattle.once_store.specs.Shelves.{disk_of, next_of, pen_of};
 ghost use Rattle.version_model.specs.Blocks.{BlockNode};
-ghost use Rattle.version_model.specs.Shows.{IsFrom};
+ghost use Rattle.version_model.specs.LeafVersions.{IsFrom};
 ghost use Rattle.version_model.specs.Versions.{Version, Has};
 ghost use Rattle.tsb_node.specs.Leaves.{IsLeafPage};
-ghost use Rattle.worm_migration.specs.Settled.{ShelfSays};
+ghost use Rattle.worm_migration.specs.Settled.{ShelfRepresents};
 ghost use Rattle.tsb_tree.specs.Refusals.{BurnRefusal};
 ghost use Rattle.tsb_tree.specs.Shapes.{IsWhole, IsSameButParts, leaf_in_page, with_leaf};
 ghost use Rattle.tsb_tree.specs.Shelves.{HasNoneBlank, KeepsShelf, MakesRoom, SpendsOne, TakesOn, burnt as burnt_blocks, packed, packed_parts};
@@ -49,7 +49,7 @@ fn pack<O: OnceDisk + Drop>(
     requires end { whole.old.start + 1 < 256 ^ 16 }
     requires many { 648 ≤ length whole.old.parts.items }
     ensures shelf { KeepsShelf O.OnceDisk 1 shelf.old shelf.new result }
-    ensures room { O.honest (disk_of shelf.old) (pen_of shelf.old) → IfOk result (λ n. (blocks : ℕ → Option BlockNode) → ShelfSays O.OnceDisk shelf.old blocks
+    ensures room { O.honest (disk_of shelf.old) (pen_of shelf.old) → IfOk result (λ n. (blocks : ℕ → Option BlockNode) → ShelfRepresents O.OnceDisk shelf.old blocks
         → MakesRoom O.OnceDisk shelf.new blocks (packed whole.old (Some n) blocks) (next_of shelf.old) whole.old whole.new.parts.items) }
     ensures parts { IfOk result (λ n. whole.new.parts.items ≡ packed_parts whole.old (Some n)) }
     ensures refused { IfErr result BurnRefusal }
@@ -77,7 +77,7 @@ fn make_room<O: OnceDisk + Drop>(
     requires whole { IsWhole whole.old }
     requires end { whole.old.start + 1 < 256 ^ 16 }
     ensures shelf { KeepsShelf O.OnceDisk 1 shelf.old shelf.new result }
-    ensures room { O.honest (disk_of shelf.old) (pen_of shelf.old) → IfOk result (λ column. (blocks : ℕ → Option BlockNode) → ShelfSays O.OnceDisk shelf.old blocks
+    ensures room { O.honest (disk_of shelf.old) (pen_of shelf.old) → IfOk result (λ column. (blocks : ℕ → Option BlockNode) → ShelfRepresents O.OnceDisk shelf.old blocks
         → MakesRoom O.OnceDisk shelf.new blocks (packed whole.old column blocks) (next_of shelf.old) whole.old whole.new.parts.items) }
     ensures same { IsSameButParts whole.new whole.old }
     ensures few { OnOk result (length whole.new.parts.items ≤ 647) }
@@ -112,7 +112,7 @@ pub fn split_by_time<O: OnceDisk + Drop>(
     ensures none_left { O.honest (disk_of shelf.old) (pen_of shelf.old) → HasNoneBlank O.OnceDisk shelf.old → IsErr result }
     ensures takes { O.honest (disk_of shelf.old) (pen_of shelf.old) → (leaf : List Version) (v : Version) → IsLeafPage (leaf_in_page (with_leaf whole.old leaf)) page.now
         → whole.old.leaf ≡ leaf ++ v ∷ [] → v.stamp ≡ at → IsFrom whole.old.leaf at newer
-        → IfOk result (λ burnt. (blocks : ℕ → Option BlockNode) → ShelfSays O.OnceDisk shelf.old blocks
+        → IfOk result (λ burnt. (blocks : ℕ → Option BlockNode) → ShelfRepresents O.OnceDisk shelf.old blocks
         → TakesOn O.OnceDisk shelf.new blocks (burnt_blocks whole.old leaf at burnt blocks) (next_of shelf.old) v (with_leaf whole.old leaf) whole.new) }
     ensures refused { IfErr result BurnRefusal }
     ensures low { OnOk result (whole.new.low ≡ whole.old.low) }

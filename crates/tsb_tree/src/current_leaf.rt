@@ -3,9 +3,9 @@ ghost use Rattle.std.specs.Prelude.{◌≡◌, ◌<◌, ℕ, Bool, List, IfOk, O
 ghost use Rattle.page_tx.specs.Start.{Start};
 ghost use Rattle.version_model.specs.declared.part.Part.{Part};
 ghost use Rattle.version_model.specs.Pages.{ColumnNode};
-ghost use Rattle.tsb_node.specs.Views.{PageSays};
-ghost use Rattle.tsb_walk.specs.Shown.{Says, HasKey, keys_at};
-ghost use Rattle.tsb_tree.specs.Read.{IsColumnFor, IsColumnShown, IsLeafOf};
+ghost use Rattle.tsb_node.specs.Views.{PageRepresents};
+ghost use Rattle.tsb_walk.specs.Shown.{RepresentsNode, HasKey, keys_at};
+ghost use Rattle.tsb_tree.specs.Read.{IsColumnFor, RepresentsColumn, IsLeafOf};
 ghost use Rattle.tsb_tree.specs.Refusals.{IsHonest, ReadRefusal};
 ghost use Rattle.tsb_tree.specs.Stores.{ReadsAlone};
 
@@ -45,8 +45,8 @@ fn current_of<P: Pages>(
     entry: &Entry,
 ) -> Result<Current, TreeError>
     requires has { HasKey place.now entry.now.key }
-    ensures current { (start : Start) (shown : List (List ℕ)) → P.shows pages.old start shown → (is : IsColumnShown shown place.now entry.now.stamp) → IfOk result (λ found. (found.start ≡ is.start) × (found.page ≡ is.current)) }
-    ensures honest { (start : Start) (shown : List (List ℕ)) → P.shows pages.old start shown → IsColumnShown shown place.now entry.now.stamp → IsHonest result }
+    ensures current { (start : Start) (shown : List (List ℕ)) → P.shows pages.old start shown → (is : RepresentsColumn shown place.now entry.now.stamp) → IfOk result (λ found. (found.start ≡ is.start) × (found.page ≡ is.current)) }
+    ensures honest { (start : Start) (shown : List (List ℕ)) → P.shows pages.old start shown → RepresentsColumn shown place.now entry.now.stamp → IsHonest result }
     ensures inside { OnOk result (place.now.page < P.homes pages.old) }
     ensures refused { IfErr result (ReadRefusal (P.down pages.old)) }
     ensures reads { ReadsAlone P.Pages pages.old pages.new result }
@@ -65,8 +65,8 @@ pub fn current_leaf<P: Pages>(
     entry: &Entry,
 ) -> Result<LeafImage, TreeError>
     requires has { HasKey place.now entry.now.key }
-    ensures leaf { (start : Start) (shown : List (List ℕ)) → P.shows pages.old start shown → IsColumnShown shown place.now entry.now.stamp → IfOk result (λ leaf. IsLeafOf shown place.now leaf.page leaf.image) }
-    ensures honest { (start : Start) (shown : List (List ℕ)) → P.shows pages.old start shown → IsColumnShown shown place.now entry.now.stamp → IsHonest result }
+    ensures leaf { (start : Start) (shown : List (List ℕ)) → P.shows pages.old start shown → RepresentsColumn shown place.now entry.now.stamp → IfOk result (λ leaf. IsLeafOf shown place.now leaf.page leaf.image) }
+    ensures honest { (start : Start) (shown : List (List ℕ)) → P.shows pages.old start shown → RepresentsColumn shown place.now entry.now.stamp → IsHonest result }
     ensures column { OnOk result (place.now.page < P.homes pages.old) }
     ensures inside { IfOk result (λ leaf. leaf.page < P.homes pages.old) }
     ensures refused { IfErr result (ReadRefusal (P.down pages.old)) }

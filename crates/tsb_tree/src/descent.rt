@@ -12,7 +12,7 @@ ghost use Rattle.version_model.specs.Sizes.{entry_octets};
 ghost use Rattle.version_model.specs.Versions.{Version};
 ghost use Rattle.tsb_node.specs.Views.{keys_between};
 ghost use Rattle.tsb_walk.specs.PageWays.{IsLower};
-ghost use Rattle.tsb_walk.specs.Shown.{Says, HasKey, keys_at};
+ghost use Rattle.tsb_walk.specs.Shown.{RepresentsNode, HasKey, keys_at};
 ghost use Rattle.tsb_tree.specs.KeyNodes.{IsWide};
 ghost use Rattle.tsb_tree.specs.InPlace.{IsInPlace};
 ghost use Rattle.tsb_tree.specs.NoRoom.{IsForRoom, LeadsToFullColumn, LeadsToFullLeaf};
@@ -36,7 +36,7 @@ use once_store::Shelf;
 use page_tx::{PageError, Pages};
 use route_model::Key;
 use std::alloc::Global;
-use tsb_node::KeyNodeSaid;
+use tsb_node::DecodedKeyNode;
 use tsb_walk::{PagePlace, down};
 use version_model::Entry;
 
@@ -45,8 +45,8 @@ fn child_at<P: Pages>(pages: &mut P, place: &PagePlace, key: Key) -> Result<Page
     requires has { HasKey place.now key }
     ensures has { IfOk result (λ next. HasKey next key) }
     ensures level { IfOk result (λ next. suc next.level ≡ place.now.level) }
-    ensures lower { (start : Start) (shown : List (List ℕ)) (children : List ChildValue) → P.shows pages.old start shown → Says shown place.now.page (KeyNode place.now.level (keys_at place.now) children) → IfOk result (IsLower shown key place.now) }
-    ensures honest { (start : Start) (shown : List (List ℕ)) (children : List ChildValue) → P.shows pages.old start shown → Says shown place.now.page (KeyNode place.now.level (keys_at place.now) children) → IsHonest result }
+    ensures lower { (start : Start) (shown : List (List ℕ)) (children : List ChildValue) → P.shows pages.old start shown → RepresentsNode shown place.now.page (KeyNode place.now.level (keys_at place.now) children) → IfOk result (IsLower shown key place.now) }
+    ensures honest { (start : Start) (shown : List (List ℕ)) (children : List ChildValue) → P.shows pages.old start shown → RepresentsNode shown place.now.page (KeyNode place.now.level (keys_at place.now) children) → IsHonest result }
     ensures refused { IfErr result (ReadRefusal (P.down pages.old)) }
     ensures reads { ReadsAlone P.Pages pages.old pages.new result }
 {
@@ -57,11 +57,11 @@ fn child_at<P: Pages>(pages: &mut P, place: &PagePlace, key: Key) -> Result<Page
 }
 
 // What the key node in a page represents, as it is shown.
-fn key_node_at<P: Pages>(pages: &mut P, alloc: Global, n: u64) -> Result<KeyNodeSaid, TreeError>
-    ensures wide { IfOk result (λ said. IsWide said) }
-    ensures few { IfOk result (λ said. length said.children.items ≤ 338) }
-    ensures says { (start : Start) (shown : List (List ℕ)) (level : ℕ) (k : Keys) (children : List ChildValue) → P.shows pages.old start shown → Says shown n (KeyNode level k children)
-        → IfOk result (λ said. KeyNode said.level (keys_between said.bounds) said.children.items ≡ KeyNode level k children) × IsHonest result }
+fn key_node_at<P: Pages>(pages: &mut P, alloc: Global, n: u64) -> Result<DecodedKeyNode, TreeError>
+    ensures wide { IfOk result (λ decoded. IsWide decoded) }
+    ensures few { IfOk result (λ decoded. length decoded.children.items ≤ 338) }
+    ensures represents_node { (start : Start) (shown : List (List ℕ)) (level : ℕ) (k : Keys) (children : List ChildValue) → P.shows pages.old start shown → RepresentsNode shown n (KeyNode level k children)
+        → IfOk result (λ decoded. KeyNode decoded.level (keys_between decoded.bounds) decoded.children.items ≡ KeyNode level k children) × IsHonest result }
     ensures inside { OnOk result (n < P.homes pages.old) }
     ensures refused { IfErr result (ReadRefusal (P.down pages.old)) }
     ensures reads { ReadsAlone P.Pages pages.old pages.new result }
@@ -85,9 +85,9 @@ fn raise<P: Pages>(
     ensures kept { change.new ≡ None → result ≡ Ok change }
     ensures puts { (start : Start) (shown : List (List ℕ)) (new : ChildValue) (room : HasRoomAfter shown place.now new) → P.shows pages.old start shown → change.new ≡ Some new
         → IfOk result (PutsChild place.now.page place.now.level (keys_at place.now) (insert room.children (suc room.at) new) change) }
-    ensures uses { (start : Start) (shown : List (List ℕ)) (level : ℕ) (k : Keys) (children : List ChildValue) → P.shows pages.old start shown → Says shown place.now.page (KeyNode level k children)
+    ensures uses { (start : Start) (shown : List (List ℕ)) (level : ℕ) (k : Keys) (children : List ChildValue) → P.shows pages.old start shown → RepresentsNode shown place.now.page (KeyNode level k children)
         → IsSome change.new → IfOk result (λ put. UsesForHalf (length children) change.unused put.unused put.new) }
-    ensures lacks_pages { (start : Start) (shown : List (List ℕ)) (level : ℕ) (k : Keys) (children : List ChildValue) → P.shows pages.old start shown → Says shown place.now.page (KeyNode level k children)
+    ensures lacks_pages { (start : Start) (shown : List (List ℕ)) (level : ℕ) (k : Keys) (children : List ChildValue) → P.shows pages.old start shown → RepresentsNode shown place.now.page (KeyNode level k children)
         → result ≡ Err (TreeError.Pages PageError.PagesFull) → length children ≡ 338 }
     ensures inside { IsSome change.new → OnOk result (place.now.page < P.homes pages.old) }
     ensures laid { (next level : ℕ) → CanBeLaid (P.homes pages.old) next level change → IfOk result (CanBeLaid (P.homes pages.old) next (suc level)) }

@@ -3,7 +3,7 @@ ghost use Rattle.std.specs.Prelude.{◌≡◌, ℕ, ◌+◌, ◌-◌, ◌/◌, �
 ghost use Rattle.version_model.specs.Entries.{version_of};
 ghost use Rattle.version_model.specs.Ranges.{key_end};
 ghost use Rattle.version_model.specs.Versions.{Version, Has, IsAbove, IsRising};
-ghost use Rattle.version_model.specs.Shows.{IsFrom};
+ghost use Rattle.version_model.specs.LeafVersions.{IsFrom};
 ghost use Rattle.version_model.specs.Sizes.{octets, IsSingle, IsSplitPoint};
 ghost use Rattle.tsb_tree.specs.Needs.{IsWhatStays};
 ghost use Rattle.tsb_tree.specs.Outlived.{HasOutlived};

@@ -8,7 +8,7 @@ ghost use Rattle.version_model.specs.Ranges.{high_or};
 ghost use Rattle.version_model.specs.Sizes.{octets, entry_octets, IsSingle};
 ghost use Rattle.version_model.specs.Versions.{Version, Has, IsAbove};
 ghost use Rattle.tsb_node.specs.Leaves.{IsLeafPage};
-ghost use Rattle.worm_migration.specs.Settled.{ShelfSays};
+ghost use Rattle.worm_migration.specs.Settled.{ShelfRepresents};
 ghost use Rattle.tsb_tree.specs.Needs.{IsWhatStays};
 ghost use Rattle.tsb_tree.specs.Outlived.{HasOutlived};
 ghost use Rattle.tsb_tree.specs.Refusals.{IsHonest, GrowRefusal};
@@ -40,7 +40,7 @@ pub fn grow<O: OnceDisk + Drop>(
     requires high { entry.now.key < high_or whole.old.high }
     requires small { entry_octets (version_of entry.now) ≤ 3131 }
     requires end { entry.now.stamp + 1 < 256 ^ 16 }
-    ensures takes { O.honest (disk_of shelf.old) (pen_of shelf.old) → OnOk result ((blocks : ℕ → Option BlockNode) → ShelfSays O.OnceDisk shelf.old blocks
+    ensures takes { O.honest (disk_of shelf.old) (pen_of shelf.old) → OnOk result ((blocks : ℕ → Option BlockNode) → ShelfRepresents O.OnceDisk shelf.old blocks
         → (more : ℕ → Option BlockNode) × TakesOn O.OnceDisk shelf.new blocks more (next_of shelf.old) (version_of entry.now) whole.old whole.new) }
     ensures whole { OnOk result (IsWhole whole.new) }
     ensures single { OnOk result (IsSingle whole.new.leaf) }

@@ -17,7 +17,7 @@ ghost use Rattle.tsb_tree.specs.Raises.{TreeCanBeLaid};
 ghost use Rattle.tsb_tree.specs.Refusals.{IsHonest, InsertRefusal};
 ghost use Rattle.tsb_tree.specs.Shelves.{HasNoneBlank, KeepsShelf, SpendsOne};
 ghost use Rattle.tsb_tree.specs.Stores.{ReadsAlone};
-ghost use Rattle.tsb_tree.specs.Trees.{TreeShown};
+ghost use Rattle.tsb_tree.specs.Trees.{TreeRepresented};
 
 use crate::change::Change;
 use crate::descent::plan_under;
@@ -69,33 +69,33 @@ fn planned<P: Pages, O: OnceDisk + Drop>(
     requires inside { entry.now.key + 1 < key_end }
     requires size { entry_octets (version_of entry.now) ≤ 3131 }
     requires end { entry.now.stamp + 1 < 2 ^ 128 }
-    ensures plans { (start : Start) (shown : List (List ℕ)) (all : List Version) (tree : TreeShown P.Pages pages.old O.OnceDisk shelf.old start shown all place.root place.level place.least) → place.least ≤ entry.now.stamp
+    ensures plans { (start : Start) (shown : List (List ℕ)) (all : List Version) (tree : TreeRepresented P.Pages pages.old O.OnceDisk shelf.old start shown all place.root place.level place.least) → place.least ≤ entry.now.stamp
         → IfOk result (λ plan. PlansTree O.OnceDisk shelf.new (P.homes pages.old) tree.store (all ++ version_of entry.now ∷ []) plan.0 plan.1) }
-    ensures honest { (start : Start) (shown : List (List ℕ)) (all : List Version) → TreeShown P.Pages pages.old O.OnceDisk shelf.old start shown all place.root place.level place.least → place.least ≤ entry.now.stamp → IsHonest result }
-    ensures high { (start : Start) (shown : List (List ℕ)) (all : List Version) → TreeShown P.Pages pages.old O.OnceDisk shelf.old start shown all place.root place.level place.least → place.least ≤ entry.now.stamp
+    ensures honest { (start : Start) (shown : List (List ℕ)) (all : List Version) → TreeRepresented P.Pages pages.old O.OnceDisk shelf.old start shown all place.root place.level place.least → place.least ≤ entry.now.stamp → IsHonest result }
+    ensures high { (start : Start) (shown : List (List ℕ)) (all : List Version) → TreeRepresented P.Pages pages.old O.OnceDisk shelf.old start shown all place.root place.level place.least → place.least ≤ entry.now.stamp
         → result ≡ Err TreeError.TooHigh → AtRoot (NeedsLevel shown (version_of entry.now)) place.root place.level }
-    ensures lacks { (start : Start) (shown : List (List ℕ)) (all : List Version) → TreeShown P.Pages pages.old O.OnceDisk shelf.old start shown all place.root place.level place.least → place.least ≤ entry.now.stamp
+    ensures lacks { (start : Start) (shown : List (List ℕ)) (all : List Version) → TreeRepresented P.Pages pages.old O.OnceDisk shelf.old start shown all place.root place.level place.least → place.least ≤ entry.now.stamp
         → IfErr result (λ e. IsForRoom e → AtRoot (LeadsToFullLeaf shown (version_of entry.now)) place.root place.level) }
-    ensures lacks_pages { (start : Start) (shown : List (List ℕ)) (all : List Version) → TreeShown P.Pages pages.old O.OnceDisk shelf.old start shown all place.root place.level place.least → place.least ≤ entry.now.stamp
+    ensures lacks_pages { (start : Start) (shown : List (List ℕ)) (all : List Version) → TreeRepresented P.Pages pages.old O.OnceDisk shelf.old start shown all place.root place.level place.least → place.least ≤ entry.now.stamp
         → result ≡ Err (TreeError.Pages PageError.PagesFull) → (n : ℕ) × AtRoot (λ root. NeedsPages shown (version_of entry.now) root n) place.root place.level × (P.homes pages.old < P.next pages.old + n) }
-    ensures once { (start : Start) (shown : List (List ℕ)) (all : List Version) → TreeShown P.Pages pages.old O.OnceDisk shelf.old start shown all place.root place.level place.least → place.least ≤ entry.now.stamp
+    ensures once { (start : Start) (shown : List (List ℕ)) (all : List Version) → TreeRepresented P.Pages pages.old O.OnceDisk shelf.old start shown all place.root place.level place.least → place.least ≤ entry.now.stamp
         → (refusal : AppendError) → result ≡ Err (TreeError.Once refusal) → AtRoot (LeadsToOutdated shown (version_of entry.now)) place.root place.level }
-    ensures none_left { (start : Start) (shown : List (List ℕ)) (all : List Version) → TreeShown P.Pages pages.old O.OnceDisk shelf.old start shown all place.root place.level place.least → place.least ≤ entry.now.stamp
+    ensures none_left { (start : Start) (shown : List (List ℕ)) (all : List Version) → TreeRepresented P.Pages pages.old O.OnceDisk shelf.old start shown all place.root place.level place.least → place.least ≤ entry.now.stamp
         → HasNoneBlank O.OnceDisk shelf.old → AtRoot (LeadsToOutdated shown (version_of entry.now)) place.root place.level → IsErr result }
-    ensures uses { (start : Start) (shown : List (List ℕ)) (all : List Version) → TreeShown P.Pages pages.old O.OnceDisk shelf.old start shown all place.root place.level place.least → place.least ≤ entry.now.stamp
+    ensures uses { (start : Start) (shown : List (List ℕ)) (all : List Version) → TreeRepresented P.Pages pages.old O.OnceDisk shelf.old start shown all place.root place.level place.least → place.least ≤ entry.now.stamp
         → IfOk result (λ plan. (n : ℕ) × AtRoot (λ root. NeedsPages shown (version_of entry.now) root n) place.root place.level × (plan.0.unused ≡ P.next pages.old + n)) }
-    ensures light { (start : Start) (shown : List (List ℕ)) (all : List Version) → TreeShown P.Pages pages.old O.OnceDisk shelf.old start shown all place.root place.level place.least → place.least ≤ entry.now.stamp
+    ensures light { (start : Start) (shown : List (List ℕ)) (all : List Version) → TreeRepresented P.Pages pages.old O.OnceDisk shelf.old start shown all place.root place.level place.least → place.least ≤ entry.now.stamp
         → IfOk result (λ plan. (IsInPlace (P.next pages.old) plan.0 × (shelf.new ≡ shelf.old) × (plan.1.root ≡ place.root) × (plan.1.level ≡ place.level)) ⊎ AtRoot (LeadsToFullLeaf shown (version_of entry.now)) place.root place.level) }
     ensures alone { may_split ≡ false → IfOk result (λ plan. IsInPlace (P.next pages.old) plan.0 × (shelf.new ≡ shelf.old)) }
-    ensures crowded { (start : Start) (shown : List (List ℕ)) (all : List Version) → TreeShown P.Pages pages.old O.OnceDisk shelf.old start shown all place.root place.level place.least → place.least ≤ entry.now.stamp
+    ensures crowded { (start : Start) (shown : List (List ℕ)) (all : List Version) → TreeRepresented P.Pages pages.old O.OnceDisk shelf.old start shown all place.root place.level place.least → place.least ≤ entry.now.stamp
         → result ≡ Err (TreeError.Pages PageError.TooManyImages) → (shelf.new ≡ shelf.old) × AtRoot (LeadsToFullLeaf shown (version_of entry.now)) place.root place.level }
-    ensures burns { (start : Start) (shown : List (List ℕ)) (all : List Version) → TreeShown P.Pages pages.old O.OnceDisk shelf.old start shown all place.root place.level place.least → place.least ≤ entry.now.stamp
+    ensures burns { (start : Start) (shown : List (List ℕ)) (all : List Version) → TreeRepresented P.Pages pages.old O.OnceDisk shelf.old start shown all place.root place.level place.least → place.least ≤ entry.now.stamp
         → (shelf.new ≡ shelf.old) ⊎ AtRoot (LeadsToOutdated shown (version_of entry.now)) place.root place.level }
-    ensures one_block { (start : Start) (shown : List (List ℕ)) (all : List Version) → TreeShown P.Pages pages.old O.OnceDisk shelf.old start shown all place.root place.level place.least → place.least ≤ entry.now.stamp
+    ensures one_block { (start : Start) (shown : List (List ℕ)) (all : List Version) → TreeRepresented P.Pages pages.old O.OnceDisk shelf.old start shown all place.root place.level place.least → place.least ≤ entry.now.stamp
         → SpendsOne O.OnceDisk shelf.old shelf.new ⊎ AtRoot (LeadsToFullColumn shown (version_of entry.now)) place.root place.level }
-    ensures grows { (start : Start) (shown : List (List ℕ)) (all : List Version) → TreeShown P.Pages pages.old O.OnceDisk shelf.old start shown all place.root place.level place.least → place.least ≤ entry.now.stamp
+    ensures grows { (start : Start) (shown : List (List ℕ)) (all : List Version) → TreeRepresented P.Pages pages.old O.OnceDisk shelf.old start shown all place.root place.level place.least → place.least ≤ entry.now.stamp
         → IfOk result (λ plan. ((plan.1.root ≡ place.root) × (plan.1.level ≡ place.level)) ⊎ ((plan.1.level ≡ suc place.level) × AtRoot (NeedsLevel shown (version_of entry.now)) place.root place.level)) }
-    ensures rises { (start : Start) (shown : List (List ℕ)) (all : List Version) → TreeShown P.Pages pages.old O.OnceDisk shelf.old start shown all place.root place.level place.least → place.least ≤ entry.now.stamp
+    ensures rises { (start : Start) (shown : List (List ℕ)) (all : List Version) → TreeRepresented P.Pages pages.old O.OnceDisk shelf.old start shown all place.root place.level place.least → place.least ≤ entry.now.stamp
         → AtRoot (NeedsLevel shown (version_of entry.now)) place.root place.level → IfOk result (λ plan. plan.1.level ≡ suc place.level) }
     ensures highest { place.level ≡ 7 → result ≡ Err (TreeError.Pages PageError.PagesFull) → P.homes pages.old < P.next pages.old + 8 }
     ensures laid { IfOk result (λ plan. TreeCanBeLaid (P.homes pages.old) (P.next pages.old) place.level plan.0) }
@@ -153,34 +153,34 @@ pub fn insert<P: Pages, O: OnceDisk + Drop>(
     requires inside { entry.now.key + 1 < key_end }
     requires size { entry_octets (version_of entry.now) ≤ 3131 }
     requires end { entry.now.stamp + 1 < 2 ^ 128 }
-    ensures ok { (start : Start) (shown : List (List ℕ)) (all : List Version) (tree : TreeShown P.Pages pages.old O.OnceDisk shelf.old start shown all place.root place.level place.least)
+    ensures ok { (start : Start) (shown : List (List ℕ)) (all : List Version) (tree : TreeRepresented P.Pages pages.old O.OnceDisk shelf.old start shown all place.root place.level place.least)
         → IfOk result (λ now. TakenIn P.Pages pages.new O.OnceDisk shelf.new start shown tree.store (all ++ version_of entry.now ∷ []) now) }
-    ensures err { OnErr result ((start : Start) (shown : List (List ℕ)) (all : List Version) → TreeShown P.Pages pages.old O.OnceDisk shelf.old start shown all place.root place.level place.least
-        → TreeShown P.Pages pages.new O.OnceDisk shelf.new start shown all place.root place.level place.least) }
-    ensures honest { (start : Start) (shown : List (List ℕ)) (all : List Version) → TreeShown P.Pages pages.old O.OnceDisk shelf.old start shown all place.root place.level place.least → IsHonest result }
-    ensures high { (start : Start) (shown : List (List ℕ)) (all : List Version) → TreeShown P.Pages pages.old O.OnceDisk shelf.old start shown all place.root place.level place.least
+    ensures err { OnErr result ((start : Start) (shown : List (List ℕ)) (all : List Version) → TreeRepresented P.Pages pages.old O.OnceDisk shelf.old start shown all place.root place.level place.least
+        → TreeRepresented P.Pages pages.new O.OnceDisk shelf.new start shown all place.root place.level place.least) }
+    ensures honest { (start : Start) (shown : List (List ℕ)) (all : List Version) → TreeRepresented P.Pages pages.old O.OnceDisk shelf.old start shown all place.root place.level place.least → IsHonest result }
+    ensures high { (start : Start) (shown : List (List ℕ)) (all : List Version) → TreeRepresented P.Pages pages.old O.OnceDisk shelf.old start shown all place.root place.level place.least
         → result ≡ Err TreeError.TooHigh → AtRoot (NeedsLevel shown (version_of entry.now)) place.root place.level }
-    ensures lacks { (start : Start) (shown : List (List ℕ)) (all : List Version) → TreeShown P.Pages pages.old O.OnceDisk shelf.old start shown all place.root place.level place.least
+    ensures lacks { (start : Start) (shown : List (List ℕ)) (all : List Version) → TreeRepresented P.Pages pages.old O.OnceDisk shelf.old start shown all place.root place.level place.least
         → IfErr result (λ e. IsForRoom e → AtRoot (LeadsToFullLeaf shown (version_of entry.now)) place.root place.level) }
-    ensures lacks_pages { (start : Start) (shown : List (List ℕ)) (all : List Version) → TreeShown P.Pages pages.old O.OnceDisk shelf.old start shown all place.root place.level place.least
+    ensures lacks_pages { (start : Start) (shown : List (List ℕ)) (all : List Version) → TreeRepresented P.Pages pages.old O.OnceDisk shelf.old start shown all place.root place.level place.least
         → result ≡ Err (TreeError.Pages PageError.PagesFull) → (n : ℕ) × AtRoot (λ root. NeedsPages shown (version_of entry.now) root n) place.root place.level × (P.homes pages.old < P.next pages.old + n) }
-    ensures once { (start : Start) (shown : List (List ℕ)) (all : List Version) → TreeShown P.Pages pages.old O.OnceDisk shelf.old start shown all place.root place.level place.least
+    ensures once { (start : Start) (shown : List (List ℕ)) (all : List Version) → TreeRepresented P.Pages pages.old O.OnceDisk shelf.old start shown all place.root place.level place.least
         → (refusal : AppendError) → result ≡ Err (TreeError.Once refusal) → AtRoot (LeadsToOutdated shown (version_of entry.now)) place.root place.level }
-    ensures none_left { (start : Start) (shown : List (List ℕ)) (all : List Version) → TreeShown P.Pages pages.old O.OnceDisk shelf.old start shown all place.root place.level place.least
+    ensures none_left { (start : Start) (shown : List (List ℕ)) (all : List Version) → TreeRepresented P.Pages pages.old O.OnceDisk shelf.old start shown all place.root place.level place.least
         → HasNoneBlank O.OnceDisk shelf.old → AtRoot (LeadsToOutdated shown (version_of entry.now)) place.root place.level → IsErr result }
-    ensures uses { (start : Start) (shown : List (List ℕ)) (all : List Version) → TreeShown P.Pages pages.old O.OnceDisk shelf.old start shown all place.root place.level place.least
+    ensures uses { (start : Start) (shown : List (List ℕ)) (all : List Version) → TreeRepresented P.Pages pages.old O.OnceDisk shelf.old start shown all place.root place.level place.least
         → IfOk result (λ now. (n : ℕ) × AtRoot (λ root. NeedsPages shown (version_of entry.now) root n) place.root place.level × (P.next pages.new ≡ P.next pages.old + n)) }
-    ensures in_place { (start : Start) (shown : List (List ℕ)) (all : List Version) → TreeShown P.Pages pages.old O.OnceDisk shelf.old start shown all place.root place.level place.least
+    ensures in_place { (start : Start) (shown : List (List ℕ)) (all : List Version) → TreeRepresented P.Pages pages.old O.OnceDisk shelf.old start shown all place.root place.level place.least
         → IfOk result (λ now. TakesInPlace P.Pages pages.old pages.new shelf.old shelf.new place now ⊎ AtRoot (LeadsToFullLeaf shown (version_of entry.now)) place.root place.level) }
-    ensures crowded { (start : Start) (shown : List (List ℕ)) (all : List Version) → TreeShown P.Pages pages.old O.OnceDisk shelf.old start shown all place.root place.level place.least
+    ensures crowded { (start : Start) (shown : List (List ℕ)) (all : List Version) → TreeRepresented P.Pages pages.old O.OnceDisk shelf.old start shown all place.root place.level place.least
         → length (P.named pages.old) ≤ 30 → result ≡ Err (TreeError.Pages PageError.TooManyImages) → (shelf.new ≡ shelf.old) × AtRoot (LeadsToFullLeaf shown (version_of entry.now)) place.root place.level }
-    ensures burns { (start : Start) (shown : List (List ℕ)) (all : List Version) → TreeShown P.Pages pages.old O.OnceDisk shelf.old start shown all place.root place.level place.least
+    ensures burns { (start : Start) (shown : List (List ℕ)) (all : List Version) → TreeRepresented P.Pages pages.old O.OnceDisk shelf.old start shown all place.root place.level place.least
         → (shelf.new ≡ shelf.old) ⊎ AtRoot (LeadsToOutdated shown (version_of entry.now)) place.root place.level }
-    ensures one_block { (start : Start) (shown : List (List ℕ)) (all : List Version) → TreeShown P.Pages pages.old O.OnceDisk shelf.old start shown all place.root place.level place.least
+    ensures one_block { (start : Start) (shown : List (List ℕ)) (all : List Version) → TreeRepresented P.Pages pages.old O.OnceDisk shelf.old start shown all place.root place.level place.least
         → SpendsOne O.OnceDisk shelf.old shelf.new ⊎ AtRoot (LeadsToFullColumn shown (version_of entry.now)) place.root place.level }
-    ensures grows { (start : Start) (shown : List (List ℕ)) (all : List Version) → TreeShown P.Pages pages.old O.OnceDisk shelf.old start shown all place.root place.level place.least
+    ensures grows { (start : Start) (shown : List (List ℕ)) (all : List Version) → TreeRepresented P.Pages pages.old O.OnceDisk shelf.old start shown all place.root place.level place.least
         → IfOk result (λ now. ((now.root ≡ place.root) × (now.level ≡ place.level)) ⊎ ((now.level ≡ suc place.level) × AtRoot (NeedsLevel shown (version_of entry.now)) place.root place.level)) }
-    ensures rises { (start : Start) (shown : List (List ℕ)) (all : List Version) → TreeShown P.Pages pages.old O.OnceDisk shelf.old start shown all place.root place.level place.least
+    ensures rises { (start : Start) (shown : List (List ℕ)) (all : List Version) → TreeRepresented P.Pages pages.old O.OnceDisk shelf.old start shown all place.root place.level place.least
         → AtRoot (NeedsLevel shown (version_of entry.now)) place.root place.level → IfOk result (λ now. now.level ≡ suc place.level) }
     ensures highest { place.level ≡ 7 → result ≡ Err (TreeError.Pages PageError.PagesFull) → P.homes pages.old < P.next pages.old + 8 }
     ensures back { (result ≡ Err TreeError.StampBack) ↔ (entry.now.stamp < place.least) }

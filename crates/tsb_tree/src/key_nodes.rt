@@ -4,13 +4,13 @@ ghost use Rattle.version_model.specs.declared.child.Child.{Child as ChildValue};
 ghost use Rattle.version_model.specs.Pages.{KeyNode};
 ghost use Rattle.tsb_node.specs.Columns.{AreAscending};
 ghost use Rattle.tsb_node.specs.KeyNodes.{lows_of};
-ghost use Rattle.tsb_node.specs.Views.{PageSays, keys_between};
+ghost use Rattle.tsb_node.specs.Views.{PageRepresents, keys_between};
 ghost use Rattle.tsb_tree.specs.KeyNodes.{BeginsAfter, IsWide, AreKeyHalves};
 
 use disk_models::Page;
 use route_model::Key;
 use std::alloc::{AllocError, Global};
-use tsb_node::{KeyNodeSaid, key_fits, write_key_node};
+use tsb_node::{DecodedKeyNode, key_fits, write_key_node};
 use version_model::{Bounds, Child, Stamp};
 
 // Where the first of the children is that begins above a key.
@@ -39,7 +39,7 @@ fn is_below(key: Key, high: Option<Key>) -> bool
 
 /// After which child of a node a new one goes that begins at a key. None if the key isn't among the keys of a child, above the lowest of
 /// them.
-pub fn place_after(node: &KeyNodeSaid, key: Key) -> Option<usize>
+pub fn place_after(node: &DecodedKeyNode, key: Key) -> Option<usize>
     requires rising { AreAscending (lows_of node.now.children.items) }
     ensures beyond { IfSome result (λ place. BeginsAfter node.now.children.items place key) }
     ensures below { OnSome result (IfSome node.now.bounds.high (λ n. key < n)) }
@@ -75,7 +75,7 @@ fn bounds_between(low: Key, high: Option<Key>) -> Bounds
 }
 
 /// The two halves of a node that has a child too many.
-pub fn key_halves(node: KeyNodeSaid) -> Result<(KeyNodeSaid, KeyNodeSaid), AllocError>
+pub fn key_halves(node: DecodedKeyNode) -> Result<(DecodedKeyNode, DecodedKeyNode), AllocError>
     requires many { length node.children.items ≡ 339 }
     requires wide { IsWide node }
     ensures halves { IfOk result (λ halves. AreKeyHalves node halves.0 halves.1) }
@@ -88,12 +88,12 @@ pub fn key_halves(node: KeyNodeSaid) -> Result<(KeyNodeSaid, KeyNodeSaid), Alloc
     let beyond = children.split_off(169)?;
     let low = beyond[0].low;
     key_fits(beyond[1].low);
-    let front = KeyNodeSaid {
+    let front = DecodedKeyNode {
         level,
         bounds: bounds_between(bounds.low, Some(low)),
         children,
     };
-    let back = KeyNodeSaid {
+    let back = DecodedKeyNode {
         level,
         bounds: bounds_between(low, bounds.high),
         children: beyond,
@@ -102,10 +102,10 @@ pub fn key_halves(node: KeyNodeSaid) -> Result<(KeyNodeSaid, KeyNodeSaid), Alloc
 }
 
 /// The page of a key node.
-pub fn key_node_page(alloc: Global, node: &KeyNodeSaid) -> Result<Page, AllocError>
+pub fn key_node_page(alloc: Global, node: &DecodedKeyNode) -> Result<Page, AllocError>
     requires wide { IsWide node.now }
     requires fits { length node.now.children.items ≤ 338 }
-    ensures says { IfOk result (λ page. PageSays page (KeyNode node.now.level (keys_between node.now.bounds) node.now.children.items)) }
+    ensures represents_node { IfOk result (λ page. PageRepresents page (KeyNode node.now.level (keys_between node.now.bounds) node.now.children.items)) }
 {
     let bounds = bounds_between(node.bounds.low, node.bounds.high);
     let mut page = Page::new(alloc)?;

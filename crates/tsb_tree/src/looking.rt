@@ -3,7 +3,7 @@ ghost use Rattle.std.specs.Prelude.{◌≡◌, ◌≤◌, ℕ, List, Option, IfO
 ghost use Rattle.page_tx.specs.Start.{Start};
 ghost use Rattle.tsb_walk.specs.Looked.{IsDescended, DescendsAt};
 ghost use Rattle.tsb_walk.specs.Refusals.{OnlyReads, LookRefusal};
-ghost use Rattle.tsb_tree.specs.Opened.{ShowsVersions};
+ghost use Rattle.tsb_tree.specs.Opened.{RepresentsVersions};
 ghost use Rattle.version_model.specs.Blocks.{BlockNode};
 ghost use Rattle.version_model.specs.Versions.{Version};
 ghost use Rattle.route_history.specs.Blame.{BlamesNone};
@@ -27,9 +27,9 @@ pub struct Tree<P: Drop> {
 }
 
 impl<P: Pages + Drop> Versions for Tree<P> {
-    ghost use Rattle.tsb_tree.specs.Opened.{ShowsVersions};
+    ghost use Rattle.tsb_tree.specs.Opened.{RepresentsVersions};
 
-    ghost stands = { λ tree blocks all. ShowsVersions P.Pages tree.pages blocks all tree.place.root tree.place.level };
+    ghost represents_all = { λ tree blocks all. RepresentsVersions P.Pages tree.pages blocks all tree.place.root tree.place.level };
 
     fn next(&mut self, from: Key, stamp: Stamp) -> Result<Looked, NodeError> {
         key_fits(from);

@@ -15,14 +15,14 @@ use crate::key_nodes::key_node_page;
 use crate::tree::first_key;
 use page_tx::PageError;
 use std::alloc::{AllocError, Global};
-use tsb_node::KeyNodeSaid;
+use tsb_node::DecodedKeyNode;
 use version_model::{Bounds, Child, Stamp};
 
 /// The level of the highest root: no tree has more than six levels of key nodes.
 const HIGHEST: u8 = 7;
 
 // A root of all keys above an old one and its new half.
-fn root_above(alloc: Global, level: u8, root: u64, new: Child) -> Result<KeyNodeSaid, AllocError>
+fn root_above(alloc: Global, level: u8, root: u64, new: Child) -> Result<DecodedKeyNode, AllocError>
     requires above { 0 < new.low }
     requires some { 1 ≤ level }
     requires few { level < 7 }
@@ -41,7 +41,7 @@ fn root_above(alloc: Global, level: u8, root: u64, new: Child) -> Result<KeyNode
         start: Stamp::new(0, 0),
         end: None,
     };
-    Ok(KeyNodeSaid {
+    Ok(DecodedKeyNode {
         level: level + 1,
         bounds,
         children,

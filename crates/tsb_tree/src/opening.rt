@@ -1,11 +1,11 @@
 //! A tree is opened: the header of its root's page has its level.
 ghost use Rattle.std.specs.Prelude.{◌≡◌, ◌≤◌, ℕ, List, IfOk, IfErr, IfSome, Some, Err};
 ghost use Rattle.page_tx.specs.Start.{Start};
-ghost use Rattle.tsb_walk.specs.Shown.{AreShown};
-ghost use Rattle.tsb_tree.specs.Opened.{IsRoot, ShowsRoot, HasRootLevel};
+ghost use Rattle.tsb_walk.specs.Shown.{RepresentNodes};
+ghost use Rattle.tsb_tree.specs.Opened.{IsRoot, IsShownRoot, HasRootLevel};
 ghost use Rattle.tsb_tree.specs.Refusals.{IsHonest, ReadRefusal};
 ghost use Rattle.tsb_tree.specs.Stores.{ReadsAlone};
-ghost use Rattle.version_model.specs.Pages.{Store, TreeStands};
+ghost use Rattle.version_model.specs.Pages.{Store, TreeRepresents};
 ghost use Rattle.version_model.specs.Versions.{Version};
 
 use crate::error::TreeError;
@@ -42,10 +42,10 @@ fn root_level(page: &Page) -> Option<u8>
 /// page that is reported as bad is no root, but not every page that is no root is reported. Pages are only read.
 pub fn open<P: Pages>(pages: &mut P, root: u64, least: Stamp) -> Result<TreePlace, TreeError>
     ensures level { (start : Start) (shown : List (List ℕ)) → P.shows pages.old start shown → IfOk result (λ place. HasRootLevel shown root place.level) }
-    ensures bad { (start : Start) (shown : List (List ℕ)) → P.shows pages.old start shown → (page : ℕ) → result ≡ Err (TreeError.BadNode page) → (page ≡ root) × ((level : ℕ) → ShowsRoot shown root level → ⊥) }
-    ensures opened { (start : Start) (shown : List (List ℕ)) → P.shows pages.old start shown → (s : Store) (all : List Version) (level : ℕ) → AreShown shown s.nodes → TreeStands s all root level
+    ensures bad { (start : Start) (shown : List (List ℕ)) → P.shows pages.old start shown → (page : ℕ) → result ≡ Err (TreeError.BadNode page) → (page ≡ root) × ((level : ℕ) → IsShownRoot shown root level → ⊥) }
+    ensures opened { (start : Start) (shown : List (List ℕ)) → P.shows pages.old start shown → (s : Store) (all : List Version) (level : ℕ) → RepresentNodes shown s.nodes → TreeRepresents s all root level
         → IfOk result (λ place. place.level ≡ level) }
-    ensures honest { (start : Start) (shown : List (List ℕ)) → P.shows pages.old start shown → (s : Store) (all : List Version) (level : ℕ) → AreShown shown s.nodes → TreeStands s all root level
+    ensures honest { (start : Start) (shown : List (List ℕ)) → P.shows pages.old start shown → (s : Store) (all : List Version) (level : ℕ) → RepresentNodes shown s.nodes → TreeRepresents s all root level
         → IsHonest result }
     ensures root { IfOk result (λ place. place.root ≡ root) }
     ensures least { IfOk result (λ place. place.least ≡ least) }

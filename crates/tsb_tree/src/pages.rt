@@ -1,7 +1,7 @@
 //! The pages of a column in memory.
 ghost use Rattle.std.specs.Prelude.{◌≡◌, ◌≤◌, ◌<◌, IfOk};
 ghost use Rattle.version_model.specs.Sizes.{octets};
-ghost use Rattle.tsb_node.specs.Views.{PageSays};
+ghost use Rattle.tsb_node.specs.Views.{PageRepresents};
 ghost use Rattle.tsb_tree.specs.Wholes.{column_node, leaf_node};
 ghost use Rattle.tsb_tree.specs.Shapes.{IsWhole};
 
@@ -15,7 +15,7 @@ use version_model::{Bounds, Stamp};
 pub fn leaf_page(alloc: Global, whole: &Whole) -> Result<Page, AllocError>
     requires whole { IsWhole whole.now }
     requires fits { octets whole.now.leaf ≤ 16232 }
-    ensures says { IfOk result (λ page. PageSays page (leaf_node whole.now)) }
+    ensures represents_node { IfOk result (λ page. PageRepresents page (leaf_node whole.now)) }
 {
     let bounds = Bounds {
         low: whole.low,
@@ -31,7 +31,7 @@ pub fn leaf_page(alloc: Global, whole: &Whole) -> Result<Page, AllocError>
 /// The page of a column whose current leaf is in another page.
 pub fn column_page(alloc: Global, whole: &Whole, current: u64) -> Result<Page, AllocError>
     requires whole { IsWhole whole.now }
-    ensures says { IfOk result (λ page. PageSays page (column_node whole.now current)) }
+    ensures represents_node { IfOk result (λ page. PageRepresents page (column_node whole.now current)) }
 {
     let bounds = Bounds {
         low: whole.low,

@@ -16,14 +16,14 @@ use crate::error::TreeError;
 use crate::key_nodes::{key_halves, key_node_page, place_after};
 use page_tx::PageError;
 use std::alloc::{AllocError, Global};
-use tsb_node::KeyNodeSaid;
+use tsb_node::DecodedKeyNode;
 use version_model::Child;
 
 /// The most children that have room in a page.
 const MOST_CHILDREN: usize = 338;
 
 // A node with one more child, after the one at a place.
-fn with_child(node: KeyNodeSaid, place: usize, new: Child) -> Result<KeyNodeSaid, AllocError>
+fn with_child(node: DecodedKeyNode, place: usize, new: Child) -> Result<DecodedKeyNode, AllocError>
     requires within { place < length node.children.items }
     ensures level { IfOk result (λ more. more.level ≡ node.level) }
     ensures bounds { IfOk result (λ more. more.bounds ≡ node.bounds) }
@@ -31,7 +31,7 @@ fn with_child(node: KeyNodeSaid, place: usize, new: Child) -> Result<KeyNodeSaid
 {
     let mut children = node.children;
     children.insert(place + 1, new)?;
-    Ok(KeyNodeSaid {
+    Ok(DecodedKeyNode {
         level: node.level,
         bounds: node.bounds,
         children,
@@ -42,7 +42,7 @@ fn with_child(node: KeyNodeSaid, place: usize, new: Child) -> Result<KeyNodeSaid
 fn put_one(
     alloc: Global,
     page: u64,
-    node: &KeyNodeSaid,
+    node: &DecodedKeyNode,
     change: Change,
 ) -> Result<Change, AllocError>
     requires wide { IsWide node.now }
@@ -66,7 +66,7 @@ fn put_one(
 fn put_two(
     alloc: Global,
     page: u64,
-    node: KeyNodeSaid,
+    node: DecodedKeyNode,
     change: Change,
 ) -> Result<Change, AllocError>
     requires wide { IsWide node }
@@ -99,7 +99,7 @@ pub fn put_half(
     alloc: Global,
     homes: u64,
     page: u64,
-    node: KeyNodeSaid,
+    node: DecodedKeyNode,
     change: Change,
     new: Child,
 ) -> Result<Change, TreeError>

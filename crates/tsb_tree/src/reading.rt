@@ -8,8 +8,8 @@ ghost use Rattle.version_model.specs.Pages.{Keys, ColumnNode, KeyNode};
 ghost use Rattle.tsb_node.specs.Leaves.{LeafNode, IsLeafPage};
 ghost use Rattle.tsb_node.specs.Columns.{IsColumn};
 ghost use Rattle.tsb_node.specs.KeyNodes.{IsKeyNode};
-ghost use Rattle.tsb_node.specs.Saying.{column_said, key_node_said};
-ghost use Rattle.tsb_node.specs.Views.{PageSays, keys_between};
+ghost use Rattle.tsb_node.specs.Decoded.{decoded_column, decoded_key_node};
+ghost use Rattle.tsb_node.specs.Views.{PageRepresents, keys_between};
 ghost use Rattle.tsb_tree.specs.Refusals.{IsHonest, ReadRefusal};
 ghost use Rattle.tsb_tree.specs.Stores.{ReadsAlone};
 
@@ -17,7 +17,7 @@ use crate::error::{TreeError, unread};
 use disk_models::Page;
 use page_tx::Pages;
 use std::alloc::Global;
-use tsb_node::{ColumnSaid, KeyNodeSaid, column_of_page, key_node_of_page, leaf_of_page};
+use tsb_node::{DecodedColumn, DecodedKeyNode, column_of_page, key_node_of_page, leaf_of_page};
 use tsb_walk::bring;
 use version_model::{Bounds, Leaf};
 
@@ -63,32 +63,32 @@ pub fn image_of<P: Pages>(pages: &mut P, n: u64) -> Result<Page, TreeError>
 }
 
 /// What the column in a page of this number represents.
-pub fn column_in(alloc: Global, page: &Page, n: u64) -> Result<ColumnSaid, TreeError>
-    ensures valid { IfOk result (λ said. IsColumn (column_said said)) }
-    ensures says { (k : Keys) (parts : List Part) (start current : ℕ) → PageSays page.now (ColumnNode k parts start current)
-        → IfOk result (λ said. ColumnNode (keys_between said.bounds) said.parts.items said.current.start said.current.page ≡ ColumnNode k parts start current) × IsHonest result }
-    ensures is { IfOk result (λ said. PageSays page.now (ColumnNode (keys_between said.bounds) said.parts.items said.current.start said.current.page)) }
+pub fn column_in(alloc: Global, page: &Page, n: u64) -> Result<DecodedColumn, TreeError>
+    ensures valid { IfOk result (λ decoded. IsColumn (decoded_column decoded)) }
+    ensures represents_node { (k : Keys) (parts : List Part) (start current : ℕ) → PageRepresents page.now (ColumnNode k parts start current)
+        → IfOk result (λ decoded. ColumnNode (keys_between decoded.bounds) decoded.parts.items decoded.current.start decoded.current.page ≡ ColumnNode k parts start current) × IsHonest result }
+    ensures is { IfOk result (λ decoded. PageRepresents page.now (ColumnNode (keys_between decoded.bounds) decoded.parts.items decoded.current.start decoded.current.page)) }
     ensures bad { (bad : ℕ) → result ≡ Err (TreeError.BadNode bad) → bad ≡ n }
     ensures refused { (down : Bool) → IfErr result (ReadRefusal down) }
     ensures read { IsErrOf result (TreeError.Pages PageError.Fault) → ⊥ }
 {
     match column_of_page(alloc, page) {
-        Ok(said) => Ok(said),
+        Ok(decoded) => Ok(decoded),
         Err(fault) => Err(unread(fault, n)),
     }
 }
 
 /// What the leaf in a page of this number represents: its bounds, and its versions.
 pub fn leaf_in(alloc: Global, page: &Page, n: u64) -> Result<(Bounds, Leaf), TreeError>
-    ensures leaf { IfOk result (λ said. IsLeafPage (record { bounds = said.0; versions = said.1 }) page.now) }
+    ensures leaf { IfOk result (λ decoded. IsLeafPage (record { bounds = decoded.0; versions = decoded.1 }) page.now) }
     ensures honest { (leaf : LeafNode) → IsLeafPage leaf page.now → IsHonest result }
     ensures bad { (bad : ℕ) → result ≡ Err (TreeError.BadNode bad) → bad ≡ n }
     ensures refused { (down : Bool) → IfErr result (ReadRefusal down) }
     ensures read { IsErrOf result (TreeError.Pages PageError.Fault) → ⊥ }
 {
     match leaf_of_page(alloc, page) {
-        Ok(said) => match Leaf::of(said.entries, 16_232) {
-            Some(leaf) => Ok((said.bounds, leaf)),
+        Ok(decoded) => match Leaf::of(decoded.entries, 16_232) {
+            Some(leaf) => Ok((decoded.bounds, leaf)),
             None => Err(TreeError::BadNode(n)),
         },
         Err(fault) => Err(unread(fault, n)),
@@ -96,17 +96,17 @@ pub fn leaf_in(alloc: Global, page: &Page, n: u64) -> Result<(Bounds, Leaf), Tre
 }
 
 /// What the key node in a page of this number represents.
-pub fn key_node_in(alloc: Global, page: &Page, n: u64) -> Result<KeyNodeSaid, TreeError>
-    ensures valid { IfOk result (λ said. IsKeyNode (key_node_said said)) }
-    ensures says { (level : ℕ) (k : Keys) (children : List Child) → PageSays page.now (KeyNode level k children)
-        → IfOk result (λ said. KeyNode said.level (keys_between said.bounds) said.children.items ≡ KeyNode level k children) × IsHonest result }
-    ensures is { IfOk result (λ said. PageSays page.now (KeyNode said.level (keys_between said.bounds) said.children.items)) }
+pub fn key_node_in(alloc: Global, page: &Page, n: u64) -> Result<DecodedKeyNode, TreeError>
+    ensures valid { IfOk result (λ decoded. IsKeyNode (decoded_key_node decoded)) }
+    ensures represents_node { (level : ℕ) (k : Keys) (children : List Child) → PageRepresents page.now (KeyNode level k children)
+        → IfOk result (λ decoded. KeyNode decoded.level (keys_between decoded.bounds) decoded.children.items ≡ KeyNode level k children) × IsHonest result }
+    ensures is { IfOk result (λ decoded. PageRepresents page.now (KeyNode decoded.level (keys_between decoded.bounds) decoded.children.items)) }
     ensures bad { (bad : ℕ) → result ≡ Err (TreeError.BadNode bad) → bad ≡ n }
     ensures refused { (down : Bool) → IfErr result (ReadRefusal down) }
     ensures read { IsErrOf result (TreeError.Pages PageError.Fault) → ⊥ }
 {
     match key_node_of_page(alloc, page) {
-        Ok(said) => Ok(said),
+        Ok(decoded) => Ok(decoded),
         Err(fault) => Err(unread(fault, n)),
     }
 }

@@ -6,8 +6,8 @@ ghost use Rattle.version_model.specs.declared.part.Part.{Part};
 ghost use Rattle.version_model.specs.Pages.{ColumnNode, CurrentLeaf};
 ghost use Rattle.version_model.specs.Versions.{Version};
 ghost use Rattle.tsb_node.specs.Leaves.{IsLeafPage};
-ghost use Rattle.tsb_node.specs.Views.{PageSays};
-ghost use Rattle.tsb_walk.specs.Shown.{Says, keys_at};
+ghost use Rattle.tsb_node.specs.Views.{PageRepresents};
+ghost use Rattle.tsb_walk.specs.Shown.{RepresentsNode, keys_at};
 ghost use Rattle.tsb_tree.specs.Refusals.{IsHonest, ReadRefusal};
 ghost use Rattle.tsb_tree.specs.Shapes.{IsWhole, leaf_in_page};
 ghost use Rattle.tsb_tree.specs.Stores.{ReadsAlone};
@@ -29,24 +29,24 @@ fn whole_in(
     column: &Page,
     leaf: &LeafImage,
 ) -> Result<Whole, TreeError>
-    ensures column { IfOk result (λ whole. PageSays column.now (column_node whole leaf.now.page)) }
+    ensures column { IfOk result (λ whole. PageRepresents column.now (column_node whole leaf.now.page)) }
     ensures leaf { IfOk result (λ whole. IsLeafPage (leaf_in_page whole) leaf.now.image) }
     ensures keys { IfOk result (λ whole. keys_of_whole whole ≡ keys_at place.now) }
     ensures whole { IfOk result (λ whole. IsWhole whole) }
-    ensures honest { (parts : List Part) (start : ℕ) (versions : List Version) → PageSays column.now (ColumnNode (keys_at place.now) parts start leaf.now.page)
-        → PageSays leaf.now.image (CurrentLeaf (keys_at place.now) start versions) → IsHonest result }
+    ensures honest { (parts : List Part) (start : ℕ) (versions : List Version) → PageRepresents column.now (ColumnNode (keys_at place.now) parts start leaf.now.page)
+        → PageRepresents leaf.now.image (CurrentLeaf (keys_at place.now) start versions) → IsHonest result }
     ensures refused { (down : Bool) → IfErr result (ReadRefusal down) }
     ensures read { IsErrOf result (TreeError.Pages PageError.Fault) → ⊥ }
 {
-    let said = column_in(alloc, column, place.page)?;
+    let decoded = column_in(alloc, column, place.page)?;
     let (bounds, versions) = leaf_in(alloc, &leaf.image, leaf.page)?;
-    if said.current.page != leaf.page {
+    if decoded.current.page != leaf.page {
         return Err(TreeError::BadNode(place.page));
     }
-    if !are_its_keys(&said.bounds, place) {
+    if !are_its_keys(&decoded.bounds, place) {
         return Err(TreeError::BadNode(place.page));
     }
-    if bounds.start != said.current.start {
+    if bounds.start != decoded.current.start {
         return Err(TreeError::BadNode(leaf.page));
     }
     if !are_its_keys(&bounds, place) {
@@ -55,7 +55,7 @@ fn whole_in(
     Ok(Whole {
         low: bounds.low,
         high: bounds.high,
-        parts: said.parts,
+        parts: decoded.parts,
         start: bounds.start,
         leaf: versions,
     })
@@ -68,12 +68,12 @@ pub fn whole_at<P: Pages>(
     place: &PagePlace,
     leaf: &LeafImage,
 ) -> Result<Whole, TreeError>
-    ensures column { (start : Start) (shown : List (List ℕ)) → P.shows pages.old start shown → IfOk result (λ whole. Says shown place.now.page (column_node whole leaf.now.page)) }
+    ensures column { (start : Start) (shown : List (List ℕ)) → P.shows pages.old start shown → IfOk result (λ whole. RepresentsNode shown place.now.page (column_node whole leaf.now.page)) }
     ensures leaf { IfOk result (λ whole. IsLeafPage (leaf_in_page whole) leaf.now.image) }
     ensures keys { IfOk result (λ whole. keys_of_whole whole ≡ keys_at place.now) }
     ensures whole { IfOk result (λ whole. IsWhole whole) }
     ensures honest { (start : Start) (shown : List (List ℕ)) (parts : List Part) (since : ℕ) (versions : List Version) → P.shows pages.old start shown
-        → Says shown place.now.page (ColumnNode (keys_at place.now) parts since leaf.now.page) → PageSays leaf.now.image (CurrentLeaf (keys_at place.now) since versions) → IsHonest result }
+        → RepresentsNode shown place.now.page (ColumnNode (keys_at place.now) parts since leaf.now.page) → PageRepresents leaf.now.image (CurrentLeaf (keys_at place.now) since versions) → IsHonest result }
     ensures inside { OnOk result (place.now.page < P.homes pages.old) }
     ensures refused { IfErr result (ReadRefusal (P.down pages.old)) }
     ensures reads { ReadsAlone P.Pages pages.old pages.new result }

@@ -8,7 +8,7 @@ ghost use Rattle.version_model.specs.Ranges.{high_or, key_end};
 ghost use Rattle.version_model.specs.Sizes.{octets, entry_octets, IsSingle};
 ghost use Rattle.version_model.specs.Versions.{Version, Has, IsAbove};
 ghost use Rattle.tsb_node.specs.Leaves.{IsLeafPage};
-ghost use Rattle.worm_migration.specs.Settled.{ShelfSays};
+ghost use Rattle.worm_migration.specs.Settled.{ShelfRepresents};
 ghost use Rattle.tsb_tree.specs.Layouts.{LaysOut, TakesOut};
 ghost use Rattle.tsb_tree.specs.Needs.{IsWhatStays};
 ghost use Rattle.tsb_tree.specs.Outlived.{HasOutlived};
@@ -91,7 +91,7 @@ pub fn split_column<O: OnceDisk + Drop>(
     requires high { entry.now.key < high_or whole.high }
     requires small { entry_octets (version_of entry.now) ≤ 3131 }
     requires end { entry.now.stamp + 1 < 256 ^ 16 }
-    ensures takes { O.honest (disk_of shelf.old) (pen_of shelf.old) → IfOk result (λ change. (blocks : ℕ → Option BlockNode) → ShelfSays O.OnceDisk shelf.old blocks
+    ensures takes { O.honest (disk_of shelf.old) (pen_of shelf.old) → IfOk result (λ change. (blocks : ℕ → Option BlockNode) → ShelfRepresents O.OnceDisk shelf.old blocks
         → TakesOut O.OnceDisk shelf.new blocks (next_of shelf.old) (version_of entry.now) page leaf.now.page unused.next whole change) }
     ensures laid { page < unused.homes → leaf.now.page < unused.homes → IfOk result (λ change. CanBeLaid unused.homes unused.next 1 change) }
     ensures inside { IfOk result (λ change. change.unused ≤ unused.homes) }

@@ -4,7 +4,7 @@ ghost use Rattle.page_journal.specs.Recovers.{laid};
 ghost use Rattle.page_tx.specs.Start.{Start};
 ghost use Rattle.tsb_tree.specs.Refusals.{CreateRefusal};
 ghost use Rattle.tsb_tree.specs.Stores.{ReadsAlone};
-ghost use Rattle.tsb_tree.specs.Trees.{AreFirst, ShowsTree, ReportsFirst};
+ghost use Rattle.tsb_tree.specs.Trees.{AreFirst, RepresentsTree, ReportsFirst};
 
 use crate::change::lay_image;
 use crate::error::TreeError;
@@ -57,7 +57,7 @@ pub fn first_images(alloc: Global, page: u64) -> Result<Vec<(u64, Page)>, AllocE
 /// Makes a tree of no version in the next two pages that were never used: the page of a column, which is the root, and that of
 /// its current leaf. After a refusal no page is set.
 pub fn create<P: Pages>(pages: &mut P, alloc: Global) -> Result<TreePlace, TreeError>
-    ensures created { (start : Start) (shown : List (List ℕ)) → P.shows pages.old start shown → IfOk result (λ place. ShowsTree P.Pages pages.new start place.root place.level place.least) }
+    ensures created { (start : Start) (shown : List (List ℕ)) → P.shows pages.old start shown → IfOk result (λ place. RepresentsTree P.Pages pages.new start place.root place.level place.least) }
     ensures as_before { OnErr result (ReadsAlone P.Pages pages.old pages.new result) }
     ensures refused { IfErr result (CreateRefusal (P.homes pages.old) (P.next pages.old) (length (P.named pages.old))) }
     ensures next { IfOk result (λ place. P.next pages.new ≡ P.next pages.old + 2) }

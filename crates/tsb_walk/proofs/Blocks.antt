@@ -1,4 +1,4 @@
--- What the octets of a block say to a place.
+-- What the octets of a block represent to a place.
 use Rattle.std.proofs.Common.{◌≡◌, ℕ, suc, ◌<◌, ◌≤◌, inl, inr, List, Option, Some, None, IsSome, slice_get, refl, sym, ◌∙◌, ap, subst, arith}
 use Rattle.version_model.specs.declared.bounds.Bounds.{Bounds}
 use Rattle.version_model.specs.declared.part.Part.{Part}
@@ -13,34 +13,34 @@ use Rattle.tsb_node.specs.Leaves.{LeafNode, IsLeafBlock}
 use Rattle.std.proofs.lemmas.Option.{same_Some}
 use Rattle.tsb_node.specs.Columns.{ColumnInBlock, IsColumnBlock, AreAscending, starts_of}
 use Rattle.tsb_node.specs.Parts.{IsPartAt}
-use Rattle.tsb_node.specs.Views.{BlockSays, says_old_leaf, says_old_column}
+use Rattle.tsb_node.specs.Views.{BlockRepresents, represents_old_leaf, represents_old_column}
 use Rattle.tsb_node.proofs.api.Blocks.{leaf_begins, leaf_whole, column_begins, column_made, column_whole, one_column}
 use Rattle.tsb_walk.specs.Ways.{IsLeafFor, IsColumnFor, IsFit, LeadsTo}
 use Rattle.tsb_walk.specs.inner.Steps.{IsLeafOf, IsEndOf}
 use Rattle.tsb_walk.proofs.Spots.{LocatedIn, one_place}
 
-pub record SaidLeaf (octets : List ℕ) (wide : Range) (versions : List Version) : Type 0 where
+pub record LeafView (octets : List ℕ) (wide : Range) (versions : List Version) : Type 0 where
   pub leaf : LeafNode
   pub block : IsLeafBlock leaf octets
   pub range : range_of leaf.bounds ≡ wide
   pub same : leaf.versions ≡ versions
 
-pub said_leaf : (octets : List ℕ) (node : BlockNode) → BlockSays octets node → (wide : Range) (versions : List Version) → node ≡ OldLeaf wide versions → SaidLeaf octets wide versions
-said_leaf octets _ (says_old_leaf leaf is) wide versions e =
+pub leaf_decoded : (octets : List ℕ) (node : BlockNode) → BlockRepresents octets node → (wide : Range) (versions : List Version) → node ≡ OldLeaf wide versions → LeafView octets wide versions
+leaf_decoded octets _ (represents_old_leaf leaf is) wide versions e =
     let r : range_of leaf.bounds ≡ wide = cc in
     let v : leaf.versions ≡ versions = cc in
     record { leaf = leaf; block = is; range = r; same = v }
-said_leaf octets _ (says_old_column column is) wide versions e = absurd (cc)
+leaf_decoded octets _ (represents_old_column column is) wide versions e = absurd (cc)
 
-pub record SaidColumn (octets : List ℕ) (wide : Range) (parts : List Part) : Type 0 where
+pub record ColumnView (octets : List ℕ) (wide : Range) (parts : List Part) : Type 0 where
   pub column : ColumnInBlock
   pub block : IsColumnBlock column octets
   pub range : range_of column.bounds ≡ wide
   pub same : column.parts ≡ parts
 
-pub said_column : (octets : List ℕ) (node : BlockNode) → BlockSays octets node → (wide : Range) (parts : List Part) → node ≡ OldColumn wide parts → SaidColumn octets wide parts
-said_column octets _ (says_old_leaf leaf is) wide parts e = absurd (cc)
-said_column octets _ (says_old_column column is) wide parts e =
+pub column_decoded : (octets : List ℕ) (node : BlockNode) → BlockRepresents octets node → (wide : Range) (parts : List Part) → node ≡ OldColumn wide parts → ColumnView octets wide parts
+column_decoded octets _ (represents_old_leaf leaf is) wide parts e = absurd (cc)
+column_decoded octets _ (represents_old_column column is) wide parts e =
     let r : range_of column.bounds ≡ wide = cc in
     let p : column.parts ≡ parts = cc in
     record { column = column; block = is; range = r; same = p }
@@ -54,11 +54,11 @@ pub record LeafOf (place : Place) (octets : List ℕ) (versions : List Version) 
 
 pub leaf_of : (place : Place) (octets : List ℕ) (versions : List Version) → IsLeafFor place octets versions → LeafOf place octets versions
 leaf_of place octets versions for =
-    let said = said_leaf octets (OldLeaf for.wide versions) for.says for.wide versions refl in
+    let decoded = leaf_decoded octets (OldLeaf for.wide versions) for.represents_node for.wide versions refl in
     record {
-      leaf = said.leaf;
-      of = record { begins = leaf_begins said.leaf octets said.block; ended = said.block.block.ended; wider = subst (λ (r : Range). IsWider r (range_of place.bounds)) (sym said.range) for.wider };
-      same = said.same;
+      leaf = decoded.leaf;
+      of = record { begins = leaf_begins decoded.leaf octets decoded.block; ended = decoded.block.block.ended; wider = subst (λ (r : Range). IsWider r (range_of place.bounds)) (sym decoded.range) for.wider };
+      same = decoded.same;
     }
 
 -- bounds that are read of octets are those of each leaf with which they begin
@@ -82,13 +82,13 @@ pub record ColumnOf (place : Place) (octets : List ℕ) (parts : List Part) : Ty
 
 pub column_of : (place : Place) (octets : List ℕ) (parts : List Part) → IsColumnFor place octets parts → ColumnOf place octets parts
 column_of place octets parts for =
-    let said = said_column octets (OldColumn for.wide parts) for.says for.wide parts refl in
-    let end = some_is said.column.bounds.end said.block.block.ended in
+    let decoded = column_decoded octets (OldColumn for.wide parts) for.represents_node for.wide parts refl in
+    let end = some_is decoded.column.bounds.end decoded.block.block.ended in
     record {
-      column = said.column;
+      column = decoded.column;
       end = end.0;
-      of = record { begins = column_begins said.column octets said.block; ended = end.1; wider = subst (λ (r : Range). IsWider r (range_of place.bounds)) (sym said.range) for.wider };
-      same = said.same;
+      of = record { begins = column_begins decoded.column octets decoded.block; ended = end.1; wider = subst (λ (r : Range). IsWider r (range_of place.bounds)) (sym decoded.range) for.wider };
+      same = decoded.same;
     }
 
 -- and of each column
@@ -101,8 +101,8 @@ end_found bounds wide octets column end of same =
 
 -- a block that is fit carries its digest
 pub fit_whole : (place : Place) (octets : List ℕ) (key stamp : ℕ) → IsFit place octets key stamp → IsWhole octets
-fit_whole place octets key stamp (inl leaf) = (let said = said_leaf octets _ leaf.1.says leaf.1.wide leaf.0 refl in leaf_whole said.leaf octets said.block)
-fit_whole place octets key stamp (inr next) = (let said = said_column octets _ next.1.column.says next.1.column.wide next.1.parts refl in column_whole said.column octets said.block)
+fit_whole place octets key stamp (inl leaf) = (let decoded = leaf_decoded octets _ leaf.1.represents_node leaf.1.wide leaf.0 refl in leaf_whole decoded.leaf octets decoded.block)
+fit_whole place octets key stamp (inr next) = (let decoded = column_decoded octets _ next.1.column.represents_node next.1.column.wide next.1.parts refl in column_whole decoded.column octets decoded.block)
 
 -- a block that is fit for a leaf's place is the leaf
 pub fit_leaf : (place : Place) (octets : List ℕ) (key stamp : ℕ) → place.part.kind ≡ LeafBlock → IsFit place octets key stamp → (versions : List Version) × IsLeafFor place octets versions
@@ -166,7 +166,7 @@ module _ (place : Place) (octets : List ℕ) (column : ColumnInBlock) (end : ℕ
       let last : start_or (end_or place.bounds.end) (slice_get column.parts (suc is.place)) ≡ found.end = ap (λ (n : ℕ). start_or n (slice_get column.parts (suc is.place))) end_is ∙ sym is.to_end in
       let leads : LeadsTo place octets key stamp (next_at found) = record {
         parts = column.parts;
-        column = record { wide = range_of column.bounds; kind = kind; says = says_old_column column (column_made column octets of.begins some whole); wider = of.wider };
+        column = record { wide = range_of column.bounds; kind = kind; represents_node = represents_old_column column (column_made column octets of.begins some whole); wider = of.wider };
         part = record { place = is.place; at = is.at; range = λ i. record { low = place.bounds.low; high = high_or place.bounds.high; start = found.part.start; end = last i } };
         lower = lower;
         point = record { low = point.low; high = point.high; start = is.start; end = is.before };

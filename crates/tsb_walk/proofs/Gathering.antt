@@ -16,7 +16,7 @@ use Rattle.version_model.specs.Blocks.{BlockNode}
 use Rattle.version_model.proofs.api.LooksShown.{is_of_no}
 use Rattle.version_model.proofs.api.PartsJoined.{joined}
 use Rattle.tsb_walk.specs.declared.error.NodeError.TheVariants as nodes
-use Rattle.tsb_walk.specs.Knowing.{ReadsWell, AreKnown, StandsKnown}
+use Rattle.tsb_walk.specs.Knowing.{ReadsWell, AreKnown, RepresentsKnown}
 use Rattle.tsb_walk.specs.Looked.{GoesOnIn}
 use Rattle.tsb_walk.specs.Refusals.{of_block}
 
@@ -29,8 +29,8 @@ of_damaged blocks.OutOfMemory block e = absurd (cc)
 module _ {O Pen Seen : Type 0} (device : Ghosts O Pen Seen) where
   -- a place in the past of a tree that stands stands by known blocks, where the tree's blocks are known
   pub place_known : (reader : ShelfReader O Pen Seen device) (seen : Seen) (blocks : ℕ → Option BlockNode) (all : List Version) (key stamp : ℕ) (place : Place) → GoesOnIn blocks all key stamp place
-      → ReadsWell device reader seen → AreKnown (device.known seen) (device.block_count (reader_disk reader)) blocks → StandsKnown device reader seen all place
-  place_known reader seen blocks all key stamp place goes well known = record { well = well; blocks = blocks; known = known; stands = goes.stands }
+      → ReadsWell device reader seen → AreKnown (device.known seen) (device.block_count (reader_disk reader)) blocks → RepresentsKnown device reader seen all place
+  place_known reader seen blocks all key stamp place goes well known = record { well = well; blocks = blocks; known = known; represents_all = goes.represents_all }
 
   -- what is known stays known
   pub known_on : (reader reader' : ShelfReader O Pen Seen device) (seen seen' : Seen) (nodes : ℕ → Option BlockNode) → device.known seen' ≡ device.known seen → reader_disk reader' ≡ reader_disk reader

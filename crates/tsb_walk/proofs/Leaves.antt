@@ -2,14 +2,14 @@
 use Rattle.std.proofs.Common.{◌≡◌, ℕ, ◌<◌, ◌≤◌, List, Option, Some, None, sym, ap, subst, arith, filter}
 use Rattle.version_model.specs.Versions.{Version, Found, Answers, AsOf, IsRising}
 use Rattle.version_model.specs.Ranges.{Range, IsPoint, end_or}
-use Rattle.version_model.specs.Shows.{Shows}
+use Rattle.version_model.specs.LeafVersions.{LeafRepresents}
 use Rattle.version_model.specs.Looks.{NoneWithin, IsLive, IsLeastLive, is_of, IsPart}
 use Rattle.version_model.proofs.api.Shown.{answers_shown}
 use Rattle.version_model.proofs.api.LooksShown.{none_shown, reported_shown}
 use Rattle.version_model.proofs.api.AsOfs.{AsOf-one}
 use Rattle.tsb_node.specs.Leaves.{LeafNode, BeginsAsLeaf}
 
-module _ (all : List Version) (r : Range) (leaf : List Version) (high from s : ℕ) (shows : Shows all r leaf) (is : r.high ≡ high) (point : IsPoint r from s) where
+module _ (all : List Version) (r : Range) (leaf : List Version) (high from s : ℕ) (shows : LeafRepresents all r leaf) (is : r.high ≡ high) (point : IsPoint r from s) where
   pub none_past : NoneWithin leaf s from high → (from < high) × NoneWithin all s from high
   none_past none = (omega (arith, is, point.high), none_shown all r leaf shows s from high point.low (omega (arith, is)) point.start point.end none)
 
@@ -36,7 +36,7 @@ pub one_holds : (leaf : LeafNode) (octets : List ℕ) → BeginsAsLeaf leaf octe
 one_holds leaf octets begins key s u v a b = ap (λ (x : Version). x.value) (AsOf-one leaf.versions key s v u begins.valid.rising b a)
 
 -- the versions of a key that a leaf has are all that there are
-pub part_reported : (all : List Version) (r : Range) (leaf : LeafNode) (octets : List ℕ) (key from : ℕ) (reported : Option ℕ) (part : List Version) → BeginsAsLeaf leaf octets → Shows all r leaf.versions → IsRising all → r.end ≡ end_or reported → IsPoint r key from
+pub part_reported : (all : List Version) (r : Range) (leaf : LeafNode) (octets : List ℕ) (key from : ℕ) (reported : Option ℕ) (part : List Version) → BeginsAsLeaf leaf octets → LeafRepresents all r leaf.versions → IsRising all → r.end ≡ end_or reported → IsPoint r key from
     → part ≡ filter (is_of key from (end_or reported)) leaf.versions → IsPart all key from part reported
 part_reported all r leaf octets key from reported part begins shows rising end point is =
     subst (λ (vs : List Version). IsPart all key from vs reported) (sym is)

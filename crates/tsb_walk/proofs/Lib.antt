@@ -9,5 +9,5 @@ pub mod OneLeaf
 pub mod Ons
 pub mod Untouched
 pub mod PageWalking
-pub mod PageStanding
+pub mod PageRepresenting
 pub mod Insides

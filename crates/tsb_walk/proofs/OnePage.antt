@@ -1,4 +1,4 @@
--- What the octets of one page say to a key and a stamp.
+-- What the octets of one page represent to a key and a stamp.
 use Rattle.std.proofs.Common.{◌≡◌, ℕ, ◌<◌, List, Option, Some, None, IfSome, IfNone, sym, ap, subst, arith}
 use Rattle.version_model.specs.declared.bounds.Bounds.{Bounds}
 use Rattle.version_model.specs.declared.part.Part.{Part}
@@ -16,32 +16,32 @@ use Rattle.tsb_node.specs.Columns.{ColumnInPage, IsColumnPage}
 use Rattle.tsb_node.specs.KeyNodes.{KeyNodeInPage, IsKeyNodePage}
 use Rattle.tsb_node.specs.Children.{IsKeyWithin, IsUnder}
 use Rattle.tsb_node.specs.Parts.{IsSpot}
-use Rattle.tsb_node.specs.Views.{PageSays, says_leaf, says_column, says_key_node, keys_between}
+use Rattle.tsb_node.specs.Views.{PageRepresents, represents_leaf, represents_column, represents_key_node, keys_between}
 use Rattle.tsb_node.proofs.api.Pages.{child_under, part_at_spot}
 use Rattle.tsb_walk.specs.declared.page_place.PagePlace.{PagePlace}
 use Rattle.tsb_walk.specs.declared.page_steps.ColumnSpot.{ColumnSpot}
 use Rattle.tsb_walk.specs.Shown.{keys_at, HasKey}
 use Rattle.tsb_walk.specs.inner.PageSteps.{IsChildAt, IsSpotOf}
 
--- ---- the nodes that pages say
+-- ---- the nodes that pages represent
 
-pub record SaidKeyNode (octets : List ℕ) (level : ℕ) (keys : Keys) (children : List Child) : Type 0 where
+pub record KeyNodeView (octets : List ℕ) (level : ℕ) (keys : Keys) (children : List Child) : Type 0 where
   pub node : KeyNodeInPage
   pub page : IsKeyNodePage node octets
   pub level_is : node.level ≡ level
   pub keys_are : keys_between node.bounds ≡ keys
   pub same : node.children ≡ children
 
-pub said_key_node : (octets : List ℕ) (said : PageNode) → PageSays octets said → (level : ℕ) (keys : Keys) (children : List Child) → said ≡ KeyNode level keys children → SaidKeyNode octets level keys children
-said_key_node octets _ (says_leaf leaf is) level keys children e = absurd (cc)
-said_key_node octets _ (says_column column is) level keys children e = absurd (cc)
-said_key_node octets _ (says_key_node node is) level keys children e =
+pub key_node_decoded : (octets : List ℕ) (decoded : PageNode) → PageRepresents octets decoded → (level : ℕ) (keys : Keys) (children : List Child) → decoded ≡ KeyNode level keys children → KeyNodeView octets level keys children
+key_node_decoded octets _ (represents_leaf leaf is) level keys children e = absurd (cc)
+key_node_decoded octets _ (represents_column column is) level keys children e = absurd (cc)
+key_node_decoded octets _ (represents_key_node node is) level keys children e =
     let l : node.level ≡ level = cc in
     let k : keys_between node.bounds ≡ keys = cc in
     let c : node.children ≡ children = cc in
     record { node = node; page = is; level_is = l; keys_are = k; same = c }
 
-pub record SaidColumn (octets : List ℕ) (keys : Keys) (parts : List Part) (start current : ℕ) : Type 0 where
+pub record ColumnView (octets : List ℕ) (keys : Keys) (parts : List Part) (start current : ℕ) : Type 0 where
   pub column : ColumnInPage
   pub page : IsColumnPage column octets
   pub keys_are : keys_between column.bounds ≡ keys
@@ -49,29 +49,29 @@ pub record SaidColumn (octets : List ℕ) (keys : Keys) (parts : List Part) (sta
   pub start_is : column.current.start ≡ start
   pub page_is : column.current.page ≡ current
 
-pub said_column_page : (octets : List ℕ) (said : PageNode) → PageSays octets said → (keys : Keys) (parts : List Part) (start current : ℕ) → said ≡ ColumnNode keys parts start current → SaidColumn octets keys parts start current
-said_column_page octets _ (says_leaf leaf is) keys parts start current e = absurd (cc)
-said_column_page octets _ (says_column column is) keys parts start current e =
+pub decoded_column_page : (octets : List ℕ) (decoded : PageNode) → PageRepresents octets decoded → (keys : Keys) (parts : List Part) (start current : ℕ) → decoded ≡ ColumnNode keys parts start current → ColumnView octets keys parts start current
+decoded_column_page octets _ (represents_leaf leaf is) keys parts start current e = absurd (cc)
+decoded_column_page octets _ (represents_column column is) keys parts start current e =
     let k : keys_between column.bounds ≡ keys = cc in
     let p : column.parts ≡ parts = cc in
     let s : column.current.start ≡ start = cc in
     let c : column.current.page ≡ current = cc in
     record { column = column; page = is; keys_are = k; parts_are = p; start_is = s; page_is = c }
-said_column_page octets _ (says_key_node node is) keys parts start current e = absurd (cc)
+decoded_column_page octets _ (represents_key_node node is) keys parts start current e = absurd (cc)
 
-pub record SaidLeafPage (octets : List ℕ) (keys : Keys) (start : ℕ) : Type 0 where
+pub record LeafPageView (octets : List ℕ) (keys : Keys) (start : ℕ) : Type 0 where
   pub leaf : LeafNode
   pub page : IsLeafPage leaf octets
   pub keys_are : keys_between leaf.bounds ≡ keys
   pub start_is : leaf.bounds.start ≡ start
 
-pub said_leaf_page : (octets : List ℕ) (said : PageNode) → PageSays octets said → (keys : Keys) (start : ℕ) (versions : List Version) → said ≡ CurrentLeaf keys start versions → SaidLeafPage octets keys start
-said_leaf_page octets _ (says_leaf leaf is) keys start versions e =
+pub decoded_leaf_page : (octets : List ℕ) (decoded : PageNode) → PageRepresents octets decoded → (keys : Keys) (start : ℕ) (versions : List Version) → decoded ≡ CurrentLeaf keys start versions → LeafPageView octets keys start
+decoded_leaf_page octets _ (represents_leaf leaf is) keys start versions e =
     let k : keys_between leaf.bounds ≡ keys = cc in
     let s : leaf.bounds.start ≡ start = cc in
     record { leaf = leaf; page = is; keys_are = k; start_is = s }
-said_leaf_page octets _ (says_column column is) keys start versions e = absurd (cc)
-said_leaf_page octets _ (says_key_node node is) keys start versions e = absurd (cc)
+decoded_leaf_page octets _ (represents_column column is) keys start versions e = absurd (cc)
+decoded_leaf_page octets _ (represents_key_node node is) keys start versions e = absurd (cc)
 
 -- ---- key nodes
 
@@ -119,7 +119,7 @@ past_is column place key stamp found past keys has spot bounds part =
       subst (λ (b : Bounds). IsPoint (range_of b) key stamp) (sym bounds) point,
     )
 
--- where a column has a stamp, in the words of what its page says
+-- where a column has a stamp, in the words of what its page represents
 pub spot_as : (o : Option ColumnSpot) (place : PagePlace) (column : ColumnInPage) (parts : List Part) (start current key stamp : ℕ) → column.parts ≡ parts → column.current.start ≡ start → column.current.page ≡ current
     → IfSome o (IsSpotOf place column.parts column.current.start column.current.page key stamp) → IfSome o (IsSpotOf place parts start current key stamp)
 spot_as o place column parts start current key stamp ps s c is =

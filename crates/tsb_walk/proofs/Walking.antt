@@ -3,18 +3,18 @@ use Rattle.std.proofs.Common.{◌<◌, ◌≡◌, ◌↔◌, ℕ, suc, ◌≤◌
 use Rattle.std.proofs.lemmas.Option.{same_Some}
 use Rattle.disk_models.specs.declared.once.OnceDisk.{Ghosts}
 use Rattle.once_store.specs.declared.reader.ShelfReader.{ShelfReader}
-use Rattle.once_store.specs.Readers.{IsKept, KnowsKept, reader_disk}
+use Rattle.once_store.specs.Readers.{IsCached, KnowsCached, reader_disk}
 use Rattle.version_model.specs.declared.part.Part.{Part}
 use Rattle.version_model.specs.declared.part.PartKind.TheVariants.{LeafBlock, ColumnBlock}
 use Rattle.version_model.specs.declared.part.Place.{Place}
 use Rattle.version_model.specs.Versions.{Version}
 use Rattle.version_model.specs.Ranges.{Range, IsPoint, range_of, end_or}
-use Rattle.version_model.specs.Shows.{Shows}
-use Rattle.version_model.specs.Blocks.{BlockNode, OldLeaf, OldColumn, PartStands, PlaceStands, by_leaf, by_parts, AreParts, IsWider, start_or}
-use Rattle.version_model.proofs.api.Standing.{leaf_stands, column_stands}
-use Rattle.tsb_node.specs.Views.{BlockSays}
-use Rattle.tsb_node.proofs.api.Blocks.{one_said}
-use Rattle.tsb_walk.specs.Knowing.{ReadsWell, IsKnown, AreKnown, StandsKnown}
+use Rattle.version_model.specs.LeafVersions.{LeafRepresents}
+use Rattle.version_model.specs.Blocks.{BlockNode, OldLeaf, OldColumn, PartRepresents, PlaceRepresents, by_leaf, by_parts, AreParts, IsWider, start_or}
+use Rattle.version_model.proofs.api.Representing.{leaf_represents_all, column_represents_all}
+use Rattle.tsb_node.specs.Views.{BlockRepresents}
+use Rattle.tsb_node.proofs.api.Blocks.{one_decoded}
+use Rattle.tsb_walk.specs.Knowing.{ReadsWell, IsKnown, AreKnown, RepresentsKnown}
 use Rattle.tsb_walk.specs.Ways.{IsLeafFor, IsFit, LeadsTo}
 use Rattle.tsb_walk.specs.inner.Arriving.{HasLeaf}
 use Rattle.tsb_walk.proofs.Spots.{spot_in}
@@ -23,7 +23,7 @@ module _ {O Pen Seen : Type 0} (device : Ghosts O Pen Seen) (old new : ShelfRead
   -- a reader that has read a known block reads on well
   pub reads_on : (n : ℕ) (octets : List ℕ) → ReadsWell device old seen → IsKnown (device.known seen) (device.block_count (reader_disk old)) n octets
       → (device.honest_seen (reader_disk old) seen ↔ device.honest_seen (reader_disk old) seen') → reader_disk new ≡ reader_disk old
-      → (device.honest_seen (reader_disk old) seen → KnowsKept device old seen → IsSome (device.known seen n) → KnowsKept device new seen')
+      → (device.honest_seen (reader_disk old) seen → KnowsCached device old seen → IsSome (device.known seen n) → KnowsCached device new seen')
       → ReadsWell device new seen'
   reads_on n octets well is honest disk knows = record {
     honest = subst (λ (d : O). device.honest_seen d seen') (sym disk) (honest.0 well.honest);
@@ -32,90 +32,90 @@ module _ {O Pen Seen : Type 0} (device : Ghosts O Pen Seen) (old new : ShelfRead
 
   -- and keeps the known block alone under its number
   pub only_kept : (n : ℕ) (octets : List ℕ) → ReadsWell device new seen' → device.known seen' ≡ device.known seen → IsKnown (device.known seen) (device.block_count (reader_disk old)) n octets
-      → (block : List ℕ) → IsKept new n block → block ≡ octets
+      → (block : List ℕ) → IsCached new n block → block ≡ octets
   only_kept n octets well same is block kept = same_Some block octets (sym (well.kept n block kept) ∙ ap (λ (f : ℕ → Option (List ℕ)). f n) same ∙ is.at)
 
--- what a block says that may stand for a part
+-- what a block represents that may represent a part
 abbrev pub SuitsPart : Range → Part → BlockNode → Type 0
 SuitsPart r part (OldLeaf wide versions) = (part.kind ≡ LeafBlock) × IsWider wide r
 SuitsPart r part (OldColumn wide parts) = (part.kind ≡ ColumnBlock) × IsWider wide r × AreParts r parts part.block
 
-pub node_of : (blocks : ℕ → Option BlockNode) (all : List Version) (r : Range) (part : Part) → PartStands blocks all r part → (node : BlockNode) × (blocks part.block ≡ Some node) × SuitsPart r part node
+pub node_of : (blocks : ℕ → Option BlockNode) (all : List Version) (r : Range) (part : Part) → PartRepresents blocks all r part → (node : BlockNode) × (blocks part.block ≡ Some node) × SuitsPart r part node
 node_of blocks all _ _ (by_leaf r part wide versions kind at wider shows) = (OldLeaf wide versions, at, (kind, wider))
 node_of blocks all _ _ (by_parts r part wide parts kind at wider are stand) = (OldColumn wide parts, at, (kind, wider, are))
 
 -- a column whose parts follow one another leads on, for each point of its place
-leads_on : (place : Place) (octets : List ℕ) (wide : Range) (parts : List Part) (key stamp : ℕ) → BlockSays octets (OldColumn wide parts) → SuitsPart (range_of place.bounds) place.part (OldColumn wide parts) → IsPoint (range_of place.bounds) key stamp
+leads_on : (place : Place) (octets : List ℕ) (wide : Range) (parts : List Part) (key stamp : ℕ) → BlockRepresents octets (OldColumn wide parts) → SuitsPart (range_of place.bounds) place.part (OldColumn wide parts) → IsPoint (range_of place.bounds) key stamp
     → (next : Place) × LeadsTo place octets key stamp next
-leads_on place octets wide parts key stamp says suits point =
+leads_on place octets wide parts key stamp represents_node suits point =
     let are = suits.2 in
     let low : are.first.start ≤ stamp = omega (arith, are.from_start, point.start) in
     let spot = spot_in parts (end_or place.bounds.end) stamp are.first are.at_first low point.end in (
       record { bounds = record { low = place.bounds.low; high = place.bounds.high; start = spot.part.start; end = Some (start_or (end_or place.bounds.end) (slice_get parts (suc spot.place))) }; part = spot.part },
       record {
         parts = parts;
-        column = record { wide = wide; kind = suits.0; says = says; wider = suits.1 };
+        column = record { wide = wide; kind = suits.0; represents_node = represents_node; wider = suits.1 };
         part = record { place = spot.place; at = spot.located.at; range = refl };
         lower = are.lower spot.place spot.part spot.located.at;
         point = record { low = point.low; high = point.high; start = spot.located.from; end = spot.located.before };
       },
     )
 
-fit_of : (place : Place) (octets : List ℕ) (node : BlockNode) (key stamp : ℕ) → IsPoint (range_of place.bounds) key stamp → BlockSays octets node → SuitsPart (range_of place.bounds) place.part node → IsFit place octets key stamp
-fit_of place octets (OldLeaf wide versions) key stamp point says suits = inl (versions, record { wide = wide; kind = suits.0; says = says; wider = suits.1 })
-fit_of place octets (OldColumn wide parts) key stamp point says suits = inr (leads_on place octets wide parts key stamp says suits point)
+fit_of : (place : Place) (octets : List ℕ) (node : BlockNode) (key stamp : ℕ) → IsPoint (range_of place.bounds) key stamp → BlockRepresents octets node → SuitsPart (range_of place.bounds) place.part node → IsFit place octets key stamp
+fit_of place octets (OldLeaf wide versions) key stamp point represents_node suits = inl (versions, record { wide = wide; kind = suits.0; represents_node = represents_node; wider = suits.1 })
+fit_of place octets (OldColumn wide parts) key stamp point represents_node suits = inr (leads_on place octets wide parts key stamp represents_node suits point)
 
-module _ (known : ℕ → Option (List ℕ)) (count : ℕ) (blocks : ℕ → Option BlockNode) (are : AreKnown known count blocks) (all : List Version) (place : Place) (stands : PlaceStands blocks all place) where
+module _ (known : ℕ → Option (List ℕ)) (count : ℕ) (blocks : ℕ → Option BlockNode) (are : AreKnown known count blocks) (all : List Version) (place : Place) (represents_all : PlaceRepresents blocks all place) where
   -- a place stands by a known block
-  pub stands_block : (octets : List ℕ) × IsKnown known count place.part.block octets
-  stands_block =
-      let node = node_of blocks all (range_of place.bounds) place.part stands in
-      let said = are.says place.part.block node.0 node.1 in
-      (said.0, said.1)
+  pub represents_block : (octets : List ℕ) × IsKnown known count place.part.block octets
+  represents_block =
+      let node = node_of blocks all (range_of place.bounds) place.part represents_all in
+      let decoded = are.represents_node place.part.block node.0 node.1 in
+      (decoded.0, decoded.1)
 
   -- that is fit for each of its points
-  pub stands_fit : (key stamp : ℕ) → IsPoint (range_of place.bounds) key stamp → (octets : List ℕ) × IsKnown known count place.part.block octets × IsFit place octets key stamp
-  stands_fit key stamp point =
-      let node = node_of blocks all (range_of place.bounds) place.part stands in
-      let said = are.says place.part.block node.0 node.1 in
-      (said.0, said.1, fit_of place said.0 node.0 key stamp point said.2 node.2)
+  pub represents_fit : (key stamp : ℕ) → IsPoint (range_of place.bounds) key stamp → (octets : List ℕ) × IsKnown known count place.part.block octets × IsFit place octets key stamp
+  represents_fit key stamp point =
+      let node = node_of blocks all (range_of place.bounds) place.part represents_all in
+      let decoded = are.represents_node place.part.block node.0 node.1 in
+      (decoded.0, decoded.1, fit_of place decoded.0 node.0 key stamp point decoded.2 node.2)
 
-  -- what the known block says is what stands there
-  node_is : (octets : List ℕ) (node : BlockNode) → IsKnown known count place.part.block octets → BlockSays octets node → blocks place.part.block ≡ Some node
-  node_is octets node is says =
-      let other = node_of blocks all (range_of place.bounds) place.part stands in
-      let said = are.says place.part.block other.0 other.1 in
-      let same : said.0 ≡ octets = same_Some said.0 octets (sym said.1.at ∙ is.at) in
-      other.1 ∙ ap Some (one_said octets other.0 node (subst (λ (o : List ℕ). BlockSays o other.0) same said.2) says)
+  -- what the known block represents is what stands there
+  node_is : (octets : List ℕ) (node : BlockNode) → IsKnown known count place.part.block octets → BlockRepresents octets node → blocks place.part.block ≡ Some node
+  node_is octets node is represents_node =
+      let other = node_of blocks all (range_of place.bounds) place.part represents_all in
+      let decoded = are.represents_node place.part.block other.0 other.1 in
+      let same : decoded.0 ≡ octets = same_Some decoded.0 octets (sym decoded.1.at ∙ is.at) in
+      other.1 ∙ ap Some (one_decoded octets other.0 node (subst (λ (o : List ℕ). BlockRepresents o other.0) same decoded.2) represents_node)
 
-  pub leaf_shows : (octets : List ℕ) (versions : List Version) → IsKnown known count place.part.block octets → IsLeafFor place octets versions → Shows all (range_of place.bounds) versions
-  leaf_shows octets versions is leaf = (leaf_stands blocks all (range_of place.bounds) place.part leaf.wide versions (node_is octets (OldLeaf leaf.wide versions) is leaf.says) stands).shows
+  pub leaf_shows : (octets : List ℕ) (versions : List Version) → IsKnown known count place.part.block octets → IsLeafFor place octets versions → LeafRepresents all (range_of place.bounds) versions
+  leaf_shows octets versions is leaf = (leaf_represents_all blocks all (range_of place.bounds) place.part leaf.wide versions (node_is octets (OldLeaf leaf.wide versions) is leaf.represents_node) represents_all).shows
 
-  pub next_stands : (octets : List ℕ) (key stamp : ℕ) (next : Place) → IsKnown known count place.part.block octets → LeadsTo place octets key stamp next → PlaceStands blocks all next
-  next_stands octets key stamp next is leads =
-      (column_stands blocks all (range_of place.bounds) place.part leads.column.wide leads.parts (node_is octets (OldColumn leads.column.wide leads.parts) is leads.column.says) stands).stand (range_of next.bounds) next.part leads.part
+  pub next_represents : (octets : List ℕ) (key stamp : ℕ) (next : Place) → IsKnown known count place.part.block octets → LeadsTo place octets key stamp next → PlaceRepresents blocks all next
+  next_represents octets key stamp next is leads =
+      (column_represents_all blocks all (range_of place.bounds) place.part leads.column.wide leads.parts (node_is octets (OldColumn leads.column.wide leads.parts) is leads.column.represents_node) represents_all).stand (range_of next.bounds) next.part leads.part
 
-module _ {O Pen Seen : Type 0} (device : Ghosts O Pen Seen) (reader reader' : ShelfReader O Pen Seen device) (seen seen' : Seen) (all : List Version) (place : Place) (stands : StandsKnown device reader seen all place) where
+module _ {O Pen Seen : Type 0} (device : Ghosts O Pen Seen) (reader reader' : ShelfReader O Pen Seen device) (seen seen' : Seen) (all : List Version) (place : Place) (represents_all : RepresentsKnown device reader seen all place) where
   -- the place's block is known
   pub place_block : (octets : List ℕ) × IsKnown (device.known seen) (device.block_count (reader_disk reader)) place.part.block octets
-  place_block = stands_block (device.known seen) (device.block_count (reader_disk reader)) stands.blocks stands.known all place stands.stands
+  place_block = represents_block (device.known seen) (device.block_count (reader_disk reader)) represents_all.blocks represents_all.known all place represents_all.represents_all
 
   -- and fit
   pub place_fit : (key stamp : ℕ) → IsPoint (range_of place.bounds) key stamp → (octets : List ℕ) × IsKnown (device.known seen) (device.block_count (reader_disk reader)) place.part.block octets × IsFit place octets key stamp
-  place_fit key stamp point = stands_fit (device.known seen) (device.block_count (reader_disk reader)) stands.blocks stands.known all place stands.stands key stamp point
+  place_fit key stamp point = represents_fit (device.known seen) (device.block_count (reader_disk reader)) represents_all.blocks represents_all.known all place represents_all.represents_all key stamp point
 
-  pub stands_on : (key stamp : ℕ) (next : Place) → IsPoint (range_of place.bounds) key stamp → device.known seen' ≡ device.known seen → reader_disk reader' ≡ reader_disk reader
+  pub represents_all_on : (key stamp : ℕ) (next : Place) → IsPoint (range_of place.bounds) key stamp → device.known seen' ≡ device.known seen → reader_disk reader' ≡ reader_disk reader
       → ((octets : List ℕ) → IsKnown (device.known seen) (device.block_count (reader_disk reader)) place.part.block octets → IsFit place octets key stamp → LeadsTo place octets key stamp next)
       → ((octets : List ℕ) → IsKnown (device.known seen) (device.block_count (reader_disk reader)) place.part.block octets → ReadsWell device reader' seen')
-      → StandsKnown device reader' seen' all next
-  stands_on key stamp next point same disk leads reads =
+      → RepresentsKnown device reader' seen' all next
+  represents_all_on key stamp next point same disk leads reads =
       let fit = place_fit key stamp point in
       record {
         well = reads fit.0 fit.1;
-        blocks = stands.blocks;
-        known = subst (λ (d : O). AreKnown (device.known seen') (device.block_count d) stands.blocks) (sym disk)
-            (subst (λ (f : ℕ → Option (List ℕ)). AreKnown f (device.block_count (reader_disk reader)) stands.blocks) (sym same) stands.known);
-        stands = next_stands (device.known seen) (device.block_count (reader_disk reader)) stands.blocks stands.known all place stands.stands fit.0 key stamp next fit.1 (leads fit.0 fit.1 fit.2);
+        blocks = represents_all.blocks;
+        known = subst (λ (d : O). AreKnown (device.known seen') (device.block_count d) represents_all.blocks) (sym disk)
+            (subst (λ (f : ℕ → Option (List ℕ)). AreKnown f (device.block_count (reader_disk reader)) represents_all.blocks) (sym same) represents_all.known);
+        represents_all = next_represents (device.known seen) (device.block_count (reader_disk reader)) represents_all.blocks represents_all.known all place represents_all.represents_all fit.0 key stamp next fit.1 (leads fit.0 fit.1 fit.2);
       }
 
   pub has_leaf : (key stamp : ℕ) → IsPoint (range_of place.bounds) key stamp → device.known seen' ≡ device.known seen
@@ -130,7 +130,7 @@ module _ {O Pen Seen : Type 0} (device : Ghosts O Pen Seen) (reader reader' : Sh
         only = only_kept device reader reader' seen seen' place.part.block fit.0 (reads fit.0 fit.1) same fit.1;
         versions = for.0;
         leaf = for.1;
-        shows = leaf_shows (device.known seen) (device.block_count (reader_disk reader)) stands.blocks stands.known all place stands.stands fit.0 for.0 fit.1 for.1;
+        shows = leaf_shows (device.known seen) (device.block_count (reader_disk reader)) represents_all.blocks represents_all.known all place represents_all.represents_all fit.0 for.0 fit.1 for.1;
       }
 
 -- what is known stays known

@@ -14,13 +14,13 @@ use Rattle.version_model.specs.declared.part.Place.{Place}
 use Rattle.version_model.specs.Versions.{Version, Answers}
 use Rattle.version_model.specs.Ranges.{IsPoint, range_of, end_or}
 use Rattle.version_model.specs.Looks.{IsReached, IsPart}
-use Rattle.version_model.specs.Blocks.{BlockNode, PlaceStands}
+use Rattle.version_model.specs.Blocks.{BlockNode, PlaceRepresents}
 use Rattle.version_model.specs.Entries.{versions_of}
 
 -- the place in the past has the key and the stamp, and represents the versions there
 pub record GoesOnIn (blocks : ℕ → Option BlockNode) (all : List Version) (key stamp : ℕ) (place : Place) : Type 0 where
   pub point : IsPoint (range_of place.bounds) key stamp
-  pub stands : PlaceStands blocks all place
+  pub represents_all : PlaceRepresents blocks all place
 
 -- what is returned about the next key from this one on as of the stamp is true of these versions; or the lookup goes on in the place that is returned
 abbrev pub IsLooked : (ℕ → Option BlockNode) → List Version → ℕ → ℕ → Looked → Type 0

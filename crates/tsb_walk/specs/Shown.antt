@@ -3,18 +3,18 @@ use Rattle.std.specs.Prelude.{◌≡◌, ℕ, ◌<◌, ◌≤◌, List, Option, 
 use Rattle.tsb_walk.specs.declared.page_place.PagePlace.{PagePlace}
 use Rattle.version_model.specs.Versions.{Version}
 use Rattle.version_model.specs.Ranges.{high_or}
-use Rattle.version_model.specs.Pages.{Keys, PageNode, Store, StandsIn}
-use Rattle.tsb_node.specs.Views.{PageSays}
+use Rattle.version_model.specs.Pages.{Keys, PageNode, Store, RepresentsIn}
+use Rattle.tsb_node.specs.Views.{PageRepresents}
 
 -- the page is one of those that are shown, and its octets represent this
-pub record Says (shown : List (List ℕ)) (page : ℕ) (node : PageNode) : Type 0 where
+pub record RepresentsNode (shown : List (List ℕ)) (page : ℕ) (node : PageNode) : Type 0 where
   pub octets : List ℕ
   pub at : slice_get shown page ≡ Some octets
-  pub says : PageSays octets node
+  pub represents_node : PageRepresents octets node
 
 -- each page that represents a node is shown, and its octets represent that node
-abbrev pub AreShown : List (List ℕ) → (ℕ → Option PageNode) → Type 0
-AreShown shown nodes = (page : ℕ) (node : PageNode) → nodes page ≡ Some node → Says shown page node
+abbrev pub RepresentNodes : List (List ℕ) → (ℕ → Option PageNode) → Type 0
+RepresentNodes shown nodes = (page : ℕ) (node : PageNode) → nodes page ≡ Some node → RepresentsNode shown page node
 
 -- the keys that a page has to have
 abbrev pub keys_at : PagePlace → Keys
@@ -26,6 +26,6 @@ pub record HasKey (place : PagePlace) (key : ℕ) : Type 0 where
   pub high : key < high_or place.high
 
 -- the page represents versions, by what the pages represent that are shown
-pub record StandsShown (shown : List (List ℕ)) (s : Store) (all : List Version) (place : PagePlace) : Type 0 where
-  pub are_shown : AreShown shown s.nodes
-  pub stands : StandsIn s all place.level (keys_at place) place.page
+pub record RepresentsShown (shown : List (List ℕ)) (s : Store) (all : List Version) (place : PagePlace) : Type 0 where
+  pub are_shown : RepresentNodes shown s.nodes
+  pub represents_all : RepresentsIn s all place.level (keys_at place) place.page

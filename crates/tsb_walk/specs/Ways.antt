@@ -6,20 +6,20 @@ use Rattle.version_model.specs.declared.part.Place.{Place}
 use Rattle.version_model.specs.Versions.{Version}
 use Rattle.version_model.specs.Ranges.{Range, IsPoint, range_of}
 use Rattle.version_model.specs.Blocks.{OldLeaf, OldColumn, IsWider, IsPartOf}
-use Rattle.tsb_node.specs.Views.{BlockSays}
+use Rattle.tsb_node.specs.Views.{BlockRepresents}
 
 -- the octets are a leaf of exactly the place's stamps, and of its keys at least, with these versions
 pub record IsLeafFor (place : Place) (octets : List ℕ) (versions : List Version) : Type 0 where
   pub wide : Range
   pub kind : place.part.kind ≡ LeafBlock
-  pub says : BlockSays octets (OldLeaf wide versions)
+  pub represents_node : BlockRepresents octets (OldLeaf wide versions)
   pub wider : IsWider wide (range_of place.bounds)
 
 -- the octets are a column of exactly the place's stamps, and of its keys at least, with these parts
 pub record IsColumnFor (place : Place) (octets : List ℕ) (parts : List Part) : Type 0 where
   pub wide : Range
   pub kind : place.part.kind ≡ ColumnBlock
-  pub says : BlockSays octets (OldColumn wide parts)
+  pub represents_node : BlockRepresents octets (OldColumn wide parts)
   pub wider : IsWider wide (range_of place.bounds)
 
 -- the octets are such a column, and the other place is the part of it in which the key and the stamp lie, in a block of a lower number

@@ -8,8 +8,8 @@ ghost use Rattle.version_model.specs.Entries.{versions_of};
 ghost use Rattle.once_store.specs.Readers.{capacity_of, reader_disk};
 ghost use Rattle.tsb_walk.specs.Answers.{found_as, reached_as};
 ghost use Rattle.tsb_walk.specs.BlockWays.{AreKnownTo, IsBadBlock};
-ghost use Rattle.tsb_walk.specs.Inside.{KeepsInside};
-ghost use Rattle.tsb_walk.specs.Knowing.{ReadsWell, StandsKnown};
+ghost use Rattle.tsb_walk.specs.Inside.{CachesInside};
+ghost use Rattle.tsb_walk.specs.Knowing.{ReadsWell, RepresentsKnown};
 ghost use Rattle.tsb_walk.specs.Looked.{GoesOnFrom, ReportsFrom};
 
 use crate::looks::{Found, KeyVersions, Reached, found_in, part_in, reached_in};
@@ -46,12 +46,12 @@ pub fn hist_next<O: OnceDisk + Drop>(
     stamp: Stamp,
 ) -> Result<Reached, BlockError>
     requires point { IsPoint (range_of place.now.bounds) from stamp }
-    ensures next { (all : List Version) → StandsKnown O.OnceDisk reader.old seen.old all place.now → IfOk result (λ reached. IsReached all stamp from (reached_as reached)) }
-    ensures reads { (all : List Version) → StandsKnown O.OnceDisk reader.old seen.old all place.now → ReadsWell O.OnceDisk reader.new seen.new }
-    ensures never { (all : List Version) → StandsKnown O.OnceDisk reader.old seen.old all place.now → (block : ℕ) → result ≡ Err (BlockError.Damaged block) → ⊥ }
+    ensures next { (all : List Version) → RepresentsKnown O.OnceDisk reader.old seen.old all place.now → IfOk result (λ reached. IsReached all stamp from (reached_as reached)) }
+    ensures reads { (all : List Version) → RepresentsKnown O.OnceDisk reader.old seen.old all place.now → ReadsWell O.OnceDisk reader.new seen.new }
+    ensures never { (all : List Version) → RepresentsKnown O.OnceDisk reader.old seen.old all place.now → (block : ℕ) → result ≡ Err (BlockError.Damaged block) → ⊥ }
     ensures damaged { ReadsWell O.OnceDisk reader.old seen.old → AreKnownTo (O.known seen.old) (O.block_count (reader_disk reader.old)) place.now.part.block → (block : ℕ) → result ≡ Err (BlockError.Damaged block) → IsBadBlock (O.known seen.old) (O.block_count (reader_disk reader.old)) from stamp place.now block }
     ensures onward { IfOk result (GoesOnFrom from) }
-    ensures inside { KeepsInside O.OnceDisk reader.old → KeepsInside O.OnceDisk reader.new }
+    ensures inside { CachesInside O.OnceDisk reader.old → CachesInside O.OnceDisk reader.new }
     ensures same { O.honest_seen (reader_disk reader.old) seen.old → O.known seen.new ≡ O.known seen.old }
     ensures disk { reader_disk reader.new ≡ reader_disk reader.old }
     ensures capacity { capacity_of reader.new ≡ capacity_of reader.old }
@@ -83,12 +83,12 @@ pub fn hist_part<O: OnceDisk + Drop>(
     from: Stamp,
 ) -> Result<KeyVersions, BlockError>
     requires point { IsPoint (range_of place.now.bounds) key from }
-    ensures part { (all : List Version) → IsRising all → StandsKnown O.OnceDisk reader.old seen.old all place.now → IfOk result (λ part. IsPart all key from (versions_of part.entries.items) part.reported) }
-    ensures reads { (all : List Version) → StandsKnown O.OnceDisk reader.old seen.old all place.now → ReadsWell O.OnceDisk reader.new seen.new }
-    ensures never { (all : List Version) → StandsKnown O.OnceDisk reader.old seen.old all place.now → (block : ℕ) → result ≡ Err (BlockError.Damaged block) → ⊥ }
+    ensures part { (all : List Version) → IsRising all → RepresentsKnown O.OnceDisk reader.old seen.old all place.now → IfOk result (λ part. IsPart all key from (versions_of part.entries.items) part.reported) }
+    ensures reads { (all : List Version) → RepresentsKnown O.OnceDisk reader.old seen.old all place.now → ReadsWell O.OnceDisk reader.new seen.new }
+    ensures never { (all : List Version) → RepresentsKnown O.OnceDisk reader.old seen.old all place.now → (block : ℕ) → result ≡ Err (BlockError.Damaged block) → ⊥ }
     ensures damaged { ReadsWell O.OnceDisk reader.old seen.old → AreKnownTo (O.known seen.old) (O.block_count (reader_disk reader.old)) place.now.part.block → (block : ℕ) → result ≡ Err (BlockError.Damaged block) → IsBadBlock (O.known seen.old) (O.block_count (reader_disk reader.old)) key from place.now block }
     ensures reported { IfOk result (ReportsFrom from) }
-    ensures inside { KeepsInside O.OnceDisk reader.old → KeepsInside O.OnceDisk reader.new }
+    ensures inside { CachesInside O.OnceDisk reader.old → CachesInside O.OnceDisk reader.new }
     ensures same { O.honest_seen (reader_disk reader.old) seen.old → O.known seen.new ≡ O.known seen.old }
     ensures disk { reader_disk reader.new ≡ reader_disk reader.old }
     ensures capacity { capacity_of reader.new ≡ capacity_of reader.old }
@@ -119,11 +119,11 @@ pub fn hist_find<O: OnceDisk + Drop>(
     stamp: Stamp,
 ) -> Result<Option<Found>, BlockError>
     requires point { IsPoint (range_of place.now.bounds) key stamp }
-    ensures found { (all : List Version) → StandsKnown O.OnceDisk reader.old seen.old all place.now → IfOk result (λ found. Answers all key stamp (found_as found)) }
-    ensures reads { (all : List Version) → StandsKnown O.OnceDisk reader.old seen.old all place.now → ReadsWell O.OnceDisk reader.new seen.new }
-    ensures never { (all : List Version) → StandsKnown O.OnceDisk reader.old seen.old all place.now → (block : ℕ) → result ≡ Err (BlockError.Damaged block) → ⊥ }
+    ensures found { (all : List Version) → RepresentsKnown O.OnceDisk reader.old seen.old all place.now → IfOk result (λ found. Answers all key stamp (found_as found)) }
+    ensures reads { (all : List Version) → RepresentsKnown O.OnceDisk reader.old seen.old all place.now → ReadsWell O.OnceDisk reader.new seen.new }
+    ensures never { (all : List Version) → RepresentsKnown O.OnceDisk reader.old seen.old all place.now → (block : ℕ) → result ≡ Err (BlockError.Damaged block) → ⊥ }
     ensures damaged { ReadsWell O.OnceDisk reader.old seen.old → AreKnownTo (O.known seen.old) (O.block_count (reader_disk reader.old)) place.now.part.block → (block : ℕ) → result ≡ Err (BlockError.Damaged block) → IsBadBlock (O.known seen.old) (O.block_count (reader_disk reader.old)) key stamp place.now block }
-    ensures inside { KeepsInside O.OnceDisk reader.old → KeepsInside O.OnceDisk reader.new }
+    ensures inside { CachesInside O.OnceDisk reader.old → CachesInside O.OnceDisk reader.new }
     ensures same { O.honest_seen (reader_disk reader.old) seen.old → O.known seen.new ≡ O.known seen.old }
     ensures disk { reader_disk reader.new ≡ reader_disk reader.old }
     ensures capacity { capacity_of reader.new ≡ capacity_of reader.old }

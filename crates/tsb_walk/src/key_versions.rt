@@ -8,11 +8,11 @@ ghost use Rattle.version_model.specs.Looks.{IsPart};
 ghost use Rattle.version_model.specs.Entries.{versions_of};
 ghost use Rattle.version_model.specs.Pages.{Store};
 ghost use Rattle.tsb_walk.specs.AllVersions.{VersionsRefusal};
-ghost use Rattle.tsb_walk.specs.Inside.{KeepsInside};
+ghost use Rattle.tsb_walk.specs.Inside.{CachesInside};
 ghost use Rattle.tsb_walk.specs.Knowing.{ReadsWell, AreKnown};
 ghost use Rattle.tsb_walk.specs.Looked.{ReportsFrom};
 ghost use Rattle.tsb_walk.specs.Refusals.{OnlyReads};
-ghost use Rattle.tsb_walk.specs.Shown.{StandsShown, HasKey};
+ghost use Rattle.tsb_walk.specs.Shown.{RepresentsShown, HasKey};
 
 use crate::error::NodeError;
 use crate::hist::hist_part;
@@ -39,17 +39,17 @@ fn next_part<P: Pages, O: OnceDisk + Drop>(
 ) -> Result<KeyVersions, NodeError>
     requires has { HasKey root.now key }
     requires level { 1 ≤ root.now.level }
-    ensures part { (start : Start) (shown : List (List ℕ)) → P.shows pages.old start shown → (s : Store) (all : List Version) → IsRising all → StandsShown shown s all root.now
+    ensures part { (start : Start) (shown : List (List ℕ)) → P.shows pages.old start shown → (s : Store) (all : List Version) → IsRising all → RepresentsShown shown s all root.now
         → ReadsWell O.OnceDisk reader.old seen.old → AreKnown (O.known seen.old) (O.block_count (reader_disk reader.old)) s.blocks
         → IfOk result (λ part. IsPart all key from (versions_of part.entries.items) part.reported) }
-    ensures reads { (start : Start) (shown : List (List ℕ)) → P.shows pages.old start shown → (s : Store) (all : List Version) → IsRising all → StandsShown shown s all root.now
+    ensures reads { (start : Start) (shown : List (List ℕ)) → P.shows pages.old start shown → (s : Store) (all : List Version) → IsRising all → RepresentsShown shown s all root.now
         → ReadsWell O.OnceDisk reader.old seen.old → AreKnown (O.known seen.old) (O.block_count (reader_disk reader.old)) s.blocks
         → ReadsWell O.OnceDisk reader.new seen.new }
-    ensures blames { (start : Start) (shown : List (List ℕ)) → P.shows pages.old start shown → (s : Store) (all : List Version) → StandsShown shown s all root.now → (page : ℕ) → result ≡ Err (NodeError.BadNode page) → ⊥ }
-    ensures never { (start : Start) (shown : List (List ℕ)) → P.shows pages.old start shown → (s : Store) (all : List Version) → IsRising all → StandsShown shown s all root.now
+    ensures blames { (start : Start) (shown : List (List ℕ)) → P.shows pages.old start shown → (s : Store) (all : List Version) → RepresentsShown shown s all root.now → (page : ℕ) → result ≡ Err (NodeError.BadNode page) → ⊥ }
+    ensures never { (start : Start) (shown : List (List ℕ)) → P.shows pages.old start shown → (s : Store) (all : List Version) → IsRising all → RepresentsShown shown s all root.now
         → ReadsWell O.OnceDisk reader.old seen.old → AreKnown (O.known seen.old) (O.block_count (reader_disk reader.old)) s.blocks
         → (block : ℕ) → result ≡ Err (NodeError.Damaged block) → ⊥ }
-    ensures inside { KeepsInside O.OnceDisk reader.old → KeepsInside O.OnceDisk reader.new }
+    ensures inside { CachesInside O.OnceDisk reader.old → CachesInside O.OnceDisk reader.new }
     ensures reported { IfOk result (ReportsFrom from) }
     ensures refused { IfErr result (VersionsRefusal (P.down pages.old)) }
     ensures same { OnlyReads P.Pages pages.old pages.new (result ≡ Err NodeError.Fault) }
@@ -85,17 +85,17 @@ pub fn versions<P: Pages, O: OnceDisk + Drop>(
 ) -> Result<Vec<Entry>, NodeError>
     requires has { HasKey root.now key }
     requires level { 1 ≤ root.now.level }
-    ensures versions { (start : Start) (shown : List (List ℕ)) → P.shows pages.old start shown → (s : Store) (all : List Version) → IsRising all → StandsShown shown s all root.now
+    ensures versions { (start : Start) (shown : List (List ℕ)) → P.shows pages.old start shown → (s : Store) (all : List Version) → IsRising all → RepresentsShown shown s all root.now
         → ReadsWell O.OnceDisk reader.old seen.old → AreKnown (O.known seen.old) (O.block_count (reader_disk reader.old)) s.blocks
         → IfOk result (λ entries. IsPart all key 0 (versions_of entries.items) None) }
-    ensures reads { (start : Start) (shown : List (List ℕ)) → P.shows pages.old start shown → (s : Store) (all : List Version) → IsRising all → StandsShown shown s all root.now
+    ensures reads { (start : Start) (shown : List (List ℕ)) → P.shows pages.old start shown → (s : Store) (all : List Version) → IsRising all → RepresentsShown shown s all root.now
         → ReadsWell O.OnceDisk reader.old seen.old → AreKnown (O.known seen.old) (O.block_count (reader_disk reader.old)) s.blocks
         → ReadsWell O.OnceDisk reader.new seen.new }
-    ensures blames { (start : Start) (shown : List (List ℕ)) → P.shows pages.old start shown → (s : Store) (all : List Version) → StandsShown shown s all root.now → (page : ℕ) → result ≡ Err (NodeError.BadNode page) → ⊥ }
-    ensures never { (start : Start) (shown : List (List ℕ)) → P.shows pages.old start shown → (s : Store) (all : List Version) → IsRising all → StandsShown shown s all root.now
+    ensures blames { (start : Start) (shown : List (List ℕ)) → P.shows pages.old start shown → (s : Store) (all : List Version) → RepresentsShown shown s all root.now → (page : ℕ) → result ≡ Err (NodeError.BadNode page) → ⊥ }
+    ensures never { (start : Start) (shown : List (List ℕ)) → P.shows pages.old start shown → (s : Store) (all : List Version) → IsRising all → RepresentsShown shown s all root.now
         → ReadsWell O.OnceDisk reader.old seen.old → AreKnown (O.known seen.old) (O.block_count (reader_disk reader.old)) s.blocks
         → (block : ℕ) → result ≡ Err (NodeError.Damaged block) → ⊥ }
-    ensures inside { KeepsInside O.OnceDisk reader.old → KeepsInside O.OnceDisk reader.new }
+    ensures inside { CachesInside O.OnceDisk reader.old → CachesInside O.OnceDisk reader.new }
     ensures refused { IfErr result (VersionsRefusal (P.down pages.old)) }
     ensures same { OnlyReads P.Pages pages.old pages.new (result ≡ Err NodeError.Fault) }
     ensures known { O.honest_seen (reader_disk reader.old) seen.old → O.known seen.new ≡ O.known seen.old }

@@ -6,7 +6,7 @@ ghost use Rattle.version_model.specs.Ranges.{high_or, stamp_end};
 ghost use Rattle.version_model.specs.Looks.{IsReached, is_of};
 ghost use Rattle.version_model.specs.Entries.{versions_of};
 ghost use Rattle.version_model.specs.Pages.{CurrentLeaf};
-ghost use Rattle.tsb_node.specs.Views.{PageSays};
+ghost use Rattle.tsb_node.specs.Views.{PageRepresents};
 ghost use Rattle.tsb_walk.specs.Answers.{found_as, reached_as};
 ghost use Rattle.tsb_walk.specs.Borders.{ReachesTo};
 ghost use Rattle.tsb_walk.specs.Looked.{GoesOnFrom};
@@ -32,10 +32,10 @@ pub fn reached_on(
     stamp: Stamp,
 ) -> Result<Reached, ReadFault>
     requires has { HasKey column.now from }
-    ensures reached { (versions : List Version) → PageSays page.now (CurrentLeaf (keys_at column.now) start versions) → IfOk result (λ reached. IsReached versions stamp from (reached_as reached)) }
+    ensures reached { (versions : List Version) → PageRepresents page.now (CurrentLeaf (keys_at column.now) start versions) → IfOk result (λ reached. IsReached versions stamp from (reached_as reached)) }
     ensures onward { IfOk result (GoesOnFrom from) }
     ensures border { IfOk result (ReachesTo (high_or column.now.high)) }
-    ensures none { result ≡ Err ReadFault.NotANode → (versions : List Version) → PageSays page.now (CurrentLeaf (keys_at column.now) start versions) → ⊥ }
+    ensures none { result ≡ Err ReadFault.NotANode → (versions : List Version) → PageRepresents page.now (CurrentLeaf (keys_at column.now) start versions) → ⊥ }
 {
     stamp_fits(stamp);
     if !is_current_leaf(page, column, start) {
@@ -54,9 +54,9 @@ pub fn part_on(
     key: Key,
     from: Stamp,
 ) -> Result<KeyVersions, ReadFault>
-    ensures part { (versions : List Version) → PageSays page.now (CurrentLeaf (keys_at column.now) start versions) → IfOk result (λ part. versions_of part.entries.items ≡ filter (is_of key from stamp_end) versions) }
+    ensures part { (versions : List Version) → PageRepresents page.now (CurrentLeaf (keys_at column.now) start versions) → IfOk result (λ part. versions_of part.entries.items ≡ filter (is_of key from stamp_end) versions) }
     ensures reported { IfOk result (λ part. part.reported ≡ None) }
-    ensures none { result ≡ Err ReadFault.NotANode → (versions : List Version) → PageSays page.now (CurrentLeaf (keys_at column.now) start versions) → ⊥ }
+    ensures none { result ≡ Err ReadFault.NotANode → (versions : List Version) → PageRepresents page.now (CurrentLeaf (keys_at column.now) start versions) → ⊥ }
 {
     if !is_current_leaf(page, column, start) {
         return Err(ReadFault::NotANode);
@@ -74,8 +74,8 @@ pub fn found_on(
     key: Key,
     stamp: Stamp,
 ) -> Result<Option<Found>, ReadFault>
-    ensures found { (versions : List Version) → PageSays page.now (CurrentLeaf (keys_at column.now) start versions) → IfOk result (λ found. Answers versions key stamp (found_as found)) }
-    ensures none { result ≡ Err ReadFault.NotANode → (versions : List Version) → PageSays page.now (CurrentLeaf (keys_at column.now) start versions) → ⊥ }
+    ensures found { (versions : List Version) → PageRepresents page.now (CurrentLeaf (keys_at column.now) start versions) → IfOk result (λ found. Answers versions key stamp (found_as found)) }
+    ensures none { result ≡ Err ReadFault.NotANode → (versions : List Version) → PageRepresents page.now (CurrentLeaf (keys_at column.now) start versions) → ⊥ }
 {
     if !is_current_leaf(page, column, start) {
         return Err(ReadFault::NotANode);

@@ -22,7 +22,7 @@
 //! lookup ends, whatever the octets are.
 //!
 //! A lookup keeps nothing of the pool, so writers may go on at once; a place in the past stays valid, since blocks don't
-//! change. A place is valid by any map of blocks that the reader knows (`StandsKnown`), so what is true of a tree's
+//! change. A place is valid by any map of blocks that the reader knows (`RepresentsKnown`), so what is true of a tree's
 //! settled blocks is true for each reader that knows those, or more.
 #![tactic(auto)]
 

@@ -3,7 +3,7 @@
 ghost use Rattle.std.specs.Prelude.{◌≡◌, ◌<◌, ◌↔◌, length, filter, IsTrue, IfOk, Err, ℕ, List};
 ghost use Rattle.version_model.specs.Versions.{Version, Answers, IsRising};
 ghost use Rattle.version_model.specs.Ranges.{Range, IsPoint, high_or, end_or};
-ghost use Rattle.version_model.specs.Shows.{Shows};
+ghost use Rattle.version_model.specs.LeafVersions.{LeafRepresents};
 ghost use Rattle.version_model.specs.Looks.{IsReached, IsPart, NoneWithin, is_of};
 ghost use Rattle.version_model.specs.Entries.{versions_of};
 ghost use Rattle.tsb_node.specs.Leaves.{LeafNode, BeginsAsLeaf};
@@ -133,7 +133,7 @@ pub fn reached_in(
     stamp: Stamp,
 ) -> Result<Reached, ReadFault>
     requires size { length octets.now ≡ 16384 }
-    ensures reached { IfOk result (λ reached. (all : List Version) (r : Range) (leaf : LeafNode) → BeginsAsLeaf leaf octets.now → Shows all r leaf.versions → r.high ≡ high_or high.now → IsPoint r from stamp
+    ensures reached { IfOk result (λ reached. (all : List Version) (r : Range) (leaf : LeafNode) → BeginsAsLeaf leaf octets.now → LeafRepresents all r leaf.versions → r.high ≡ high_or high.now → IsPoint r from stamp
         → IsReached all stamp from (reached_as reached)) }
     ensures border { IfOk result (ReachesTo (high_or high.now)) }
     ensures onward { from < high_or high.now → IfOk result (GoesOnFrom from) }
@@ -167,7 +167,7 @@ pub fn part_in(
     from: Stamp,
 ) -> Result<KeyVersions, ReadFault>
     requires size { length octets.now ≡ 16384 }
-    ensures part { IfOk result (λ part. (all : List Version) (r : Range) (leaf : LeafNode) → BeginsAsLeaf leaf octets.now → Shows all r leaf.versions → IsRising all → r.end ≡ end_or end.now → IsPoint r key from
+    ensures part { IfOk result (λ part. (all : List Version) (r : Range) (leaf : LeafNode) → BeginsAsLeaf leaf octets.now → LeafRepresents all r leaf.versions → IsRising all → r.end ≡ end_or end.now → IsPoint r key from
         → IsPart all key from (versions_of part.entries.items) part.reported) }
     ensures just { IfOk result (λ part. (leaf : LeafNode) → BeginsAsLeaf leaf octets.now → versions_of part.entries.items ≡ filter (is_of key from (end_or end.now)) leaf.versions) }
     ensures reported { IfOk result (λ part. part.reported ≡ end.now) }

@@ -10,7 +10,7 @@ ghost use Rattle.version_model.specs.Pages.{Store, CurrentLeaf};
 ghost use Rattle.tsb_walk.specs.Answers.{found_as, reached_as};
 ghost use Rattle.tsb_walk.specs.Borders.{ReachesTo};
 ghost use Rattle.tsb_walk.specs.Looked.{IsLooked, IsParted, IsDescended, GoesOnFrom, LooksOn, LooksAt, LooksBelow, PartsAt, PartsBelow, DescendsAt, DescendsBelow, ReportsAll};
-ghost use Rattle.tsb_walk.specs.Shown.{Says, StandsShown, keys_at, HasKey};
+ghost use Rattle.tsb_walk.specs.Shown.{RepresentsNode, RepresentsShown, keys_at, HasKey};
 ghost use Rattle.tsb_walk.specs.PageWays.{IsNoColumn, IsNoLeaf};
 ghost use Rattle.tsb_walk.specs.PageLooks.{IsBadLook};
 ghost use Rattle.tsb_walk.specs.Refusals.{OnlyReads, WalkRefusal, LookRefusal};
@@ -105,7 +105,7 @@ fn next_here<P: Pages>(
     stamp: Stamp,
 ) -> Result<Reached, NodeError>
     requires has { HasKey column.now from }
-    ensures reached { (start : Start) (shown : List (List ℕ)) → P.shows pages.old start shown → (versions : List Version) → Says shown current.now.page (CurrentLeaf (keys_at column.now) current.now.start versions) → IfOk result (λ reached. IsReached versions stamp from (reached_as reached)) }
+    ensures reached { (start : Start) (shown : List (List ℕ)) → P.shows pages.old start shown → (versions : List Version) → RepresentsNode shown current.now.page (CurrentLeaf (keys_at column.now) current.now.start versions) → IfOk result (λ reached. IsReached versions stamp from (reached_as reached)) }
     ensures border { IfOk result (ReachesTo (high_or column.now.high)) }
     ensures onward { IfOk result (GoesOnFrom from) }
     ensures bad { (start : Start) (shown : List (List ℕ)) → P.shows pages.old start shown → (page : ℕ) → result ≡ Err (NodeError.BadNode page) → (current.now.page ≡ page) × IsNoLeaf shown column.now current.now.start page }
@@ -132,7 +132,7 @@ fn part_here<P: Pages>(
     from: Stamp,
 ) -> Result<KeyVersions, NodeError>
     requires has { HasKey column.now key }
-    ensures part { (start : Start) (shown : List (List ℕ)) → P.shows pages.old start shown → (versions : List Version) → Says shown current.now.page (CurrentLeaf (keys_at column.now) current.now.start versions) → IfOk result (λ part. versions_of part.entries.items ≡ filter (is_of key from stamp_end) versions) }
+    ensures part { (start : Start) (shown : List (List ℕ)) → P.shows pages.old start shown → (versions : List Version) → RepresentsNode shown current.now.page (CurrentLeaf (keys_at column.now) current.now.start versions) → IfOk result (λ part. versions_of part.entries.items ≡ filter (is_of key from stamp_end) versions) }
     ensures reported { IfOk result (λ part. part.reported ≡ None) }
     ensures bad { (start : Start) (shown : List (List ℕ)) → P.shows pages.old start shown → (page : ℕ) → result ≡ Err (NodeError.BadNode page) → (current.now.page ≡ page) × IsNoLeaf shown column.now current.now.start page }
     ensures refused { IfErr result (LookRefusal (P.down pages.old)) }
@@ -158,7 +158,7 @@ fn found_here<P: Pages>(
     stamp: Stamp,
 ) -> Result<Option<Found>, NodeError>
     requires has { HasKey column.now key }
-    ensures found { (start : Start) (shown : List (List ℕ)) → P.shows pages.old start shown → (versions : List Version) → Says shown current.now.page (CurrentLeaf (keys_at column.now) current.now.start versions) → IfOk result (λ found. Answers versions key stamp (found_as found)) }
+    ensures found { (start : Start) (shown : List (List ℕ)) → P.shows pages.old start shown → (versions : List Version) → RepresentsNode shown current.now.page (CurrentLeaf (keys_at column.now) current.now.start versions) → IfOk result (λ found. Answers versions key stamp (found_as found)) }
     ensures bad { (start : Start) (shown : List (List ℕ)) → P.shows pages.old start shown → (page : ℕ) → result ≡ Err (NodeError.BadNode page) → (current.now.page ≡ page) × IsNoLeaf shown column.now current.now.start page }
     ensures refused { IfErr result (LookRefusal (P.down pages.old)) }
     ensures same { OnlyReads P.Pages pages.old pages.new (result ≡ Err NodeError.Fault) }
@@ -189,10 +189,10 @@ pub fn next<P: Pages>(
 ) -> Result<Looked, NodeError>
     requires has { HasKey root.now from }
     requires level { 1 ≤ root.now.level }
-    ensures next { (start : Start) (shown : List (List ℕ)) → P.shows pages.old start shown → (s : Store) (all : List Version) → StandsShown shown s all root.now → IfOk result (IsLooked s.blocks all from stamp) }
+    ensures next { (start : Start) (shown : List (List ℕ)) → P.shows pages.old start shown → (s : Store) (all : List Version) → RepresentsShown shown s all root.now → IfOk result (IsLooked s.blocks all from stamp) }
     ensures bad { (start : Start) (shown : List (List ℕ)) → P.shows pages.old start shown → (page : ℕ) → result ≡ Err (NodeError.BadNode page) → IsBadLook shown root.now from stamp page }
-    ensures blames { (start : Start) (shown : List (List ℕ)) → P.shows pages.old start shown → (s : Store) (all : List Version) → StandsShown shown s all root.now → (page : ℕ) → result ≡ Err (NodeError.BadNode page) → ⊥ }
-    ensures below { (start : Start) (shown : List (List ℕ)) → P.shows pages.old start shown → (s : Store) (all : List Version) → StandsShown shown s all root.now → IfOk result (LooksBelow s.next) }
+    ensures blames { (start : Start) (shown : List (List ℕ)) → P.shows pages.old start shown → (s : Store) (all : List Version) → RepresentsShown shown s all root.now → (page : ℕ) → result ≡ Err (NodeError.BadNode page) → ⊥ }
+    ensures below { (start : Start) (shown : List (List ℕ)) → P.shows pages.old start shown → (s : Store) (all : List Version) → RepresentsShown shown s all root.now → IfOk result (LooksBelow s.next) }
     ensures point { IfOk result (LooksAt from stamp) }
     ensures onward { IfOk result (LooksOn from) }
     ensures refused { IfErr result (LookRefusal (P.down pages.old)) }
@@ -222,10 +222,10 @@ pub fn part<P: Pages>(
 ) -> Result<Parted, NodeError>
     requires has { HasKey root.now key }
     requires level { 1 ≤ root.now.level }
-    ensures part { (start : Start) (shown : List (List ℕ)) → P.shows pages.old start shown → (s : Store) (all : List Version) → IsRising all → StandsShown shown s all root.now → IfOk result (IsParted s.blocks all key from) }
+    ensures part { (start : Start) (shown : List (List ℕ)) → P.shows pages.old start shown → (s : Store) (all : List Version) → IsRising all → RepresentsShown shown s all root.now → IfOk result (IsParted s.blocks all key from) }
     ensures bad { (start : Start) (shown : List (List ℕ)) → P.shows pages.old start shown → (page : ℕ) → result ≡ Err (NodeError.BadNode page) → IsBadLook shown root.now key from page }
-    ensures blames { (start : Start) (shown : List (List ℕ)) → P.shows pages.old start shown → (s : Store) (all : List Version) → StandsShown shown s all root.now → (page : ℕ) → result ≡ Err (NodeError.BadNode page) → ⊥ }
-    ensures below { (start : Start) (shown : List (List ℕ)) → P.shows pages.old start shown → (s : Store) (all : List Version) → StandsShown shown s all root.now → IfOk result (PartsBelow s.next) }
+    ensures blames { (start : Start) (shown : List (List ℕ)) → P.shows pages.old start shown → (s : Store) (all : List Version) → RepresentsShown shown s all root.now → (page : ℕ) → result ≡ Err (NodeError.BadNode page) → ⊥ }
+    ensures below { (start : Start) (shown : List (List ℕ)) → P.shows pages.old start shown → (s : Store) (all : List Version) → RepresentsShown shown s all root.now → IfOk result (PartsBelow s.next) }
     ensures point { IfOk result (PartsAt key from) }
     ensures reported { IfOk result ReportsAll }
     ensures refused { IfErr result (LookRefusal (P.down pages.old)) }
@@ -254,10 +254,10 @@ pub fn descend<P: Pages>(
 ) -> Result<Descended, NodeError>
     requires has { HasKey root.now key }
     requires level { 1 ≤ root.now.level }
-    ensures descended { (start : Start) (shown : List (List ℕ)) → P.shows pages.old start shown → (s : Store) (all : List Version) → StandsShown shown s all root.now → IfOk result (IsDescended s.blocks all key stamp) }
+    ensures descended { (start : Start) (shown : List (List ℕ)) → P.shows pages.old start shown → (s : Store) (all : List Version) → RepresentsShown shown s all root.now → IfOk result (IsDescended s.blocks all key stamp) }
     ensures bad { (start : Start) (shown : List (List ℕ)) → P.shows pages.old start shown → (page : ℕ) → result ≡ Err (NodeError.BadNode page) → IsBadLook shown root.now key stamp page }
-    ensures blames { (start : Start) (shown : List (List ℕ)) → P.shows pages.old start shown → (s : Store) (all : List Version) → StandsShown shown s all root.now → (page : ℕ) → result ≡ Err (NodeError.BadNode page) → ⊥ }
-    ensures below { (start : Start) (shown : List (List ℕ)) → P.shows pages.old start shown → (s : Store) (all : List Version) → StandsShown shown s all root.now → IfOk result (DescendsBelow s.next) }
+    ensures blames { (start : Start) (shown : List (List ℕ)) → P.shows pages.old start shown → (s : Store) (all : List Version) → RepresentsShown shown s all root.now → (page : ℕ) → result ≡ Err (NodeError.BadNode page) → ⊥ }
+    ensures below { (start : Start) (shown : List (List ℕ)) → P.shows pages.old start shown → (s : Store) (all : List Version) → RepresentsShown shown s all root.now → IfOk result (DescendsBelow s.next) }
     ensures point { IfOk result (DescendsAt key stamp) }
     ensures refused { IfErr result (LookRefusal (P.down pages.old)) }
     ensures same { OnlyReads P.Pages pages.old pages.new (result ≡ Err NodeError.Fault) }

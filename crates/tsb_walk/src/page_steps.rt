@@ -9,7 +9,7 @@ ghost use Rattle.version_model.specs.Versions.{Version};
 ghost use Rattle.version_model.specs.Pages.{CurrentLeaf, ColumnNode, KeyNode};
 ghost use Rattle.tsb_node.specs.Columns.{ColumnInPage};
 ghost use Rattle.tsb_node.specs.Parts.{IsSpot};
-ghost use Rattle.tsb_node.specs.Views.{PageSays, keys_between};
+ghost use Rattle.tsb_node.specs.Views.{PageRepresents, keys_between};
 ghost use Rattle.tsb_walk.specs.Shown.{keys_at, HasKey};
 ghost use Rattle.tsb_walk.specs.inner.PageSteps.{IsChildAt, IsSpotOf, HasPoint};
 
@@ -51,8 +51,8 @@ fn child_place(place: &PagePlace, under: &Under) -> PagePlace
 /// exactly the place's level and keys, and not always then.
 pub fn child_in(page: &Page, place: &PagePlace, key: Key) -> Option<PagePlace>
     requires has { HasKey place.now key }
-    ensures child { (children : List ChildValue) → PageSays page.now (KeyNode place.now.level (keys_at place.now) children) → IfSome result (IsChildAt place.now children) }
-    ensures none { IfNone result ((children : List ChildValue) → PageSays page.now (KeyNode place.now.level (keys_at place.now) children) → ⊥) }
+    ensures child { (children : List ChildValue) → PageRepresents page.now (KeyNode place.now.level (keys_at place.now) children) → IfSome result (IsChildAt place.now children) }
+    ensures none { IfNone result ((children : List ChildValue) → PageRepresents page.now (KeyNode place.now.level (keys_at place.now) children) → ⊥) }
     ensures above { IfSome result (λ next. 1 < place.now.level) }
     ensures level { IfSome result (λ next. suc next.level ≡ place.now.level) }
     ensures has { IfSome result (λ next. HasKey next key) }
@@ -123,9 +123,9 @@ fn column_spot(place: &PagePlace, spot: &Spot, key: Key, stamp: Stamp) -> Option
 /// always then.
 pub fn spot_in(page: &Page, place: &PagePlace, key: Key, stamp: Stamp) -> Option<ColumnSpot>
     requires has { HasKey place.now key }
-    ensures spot { (parts : List PartValue) (start current : ℕ) → PageSays page.now (ColumnNode (keys_at place.now) parts start current)
+    ensures spot { (parts : List PartValue) (start current : ℕ) → PageRepresents page.now (ColumnNode (keys_at place.now) parts start current)
         → IfSome result (IsSpotOf place.now parts start current key stamp) }
-    ensures none { IfNone result ((parts : List PartValue) (start current : ℕ) → PageSays page.now (ColumnNode (keys_at place.now) parts start current) → ⊥) }
+    ensures none { IfNone result ((parts : List PartValue) (start current : ℕ) → PageRepresents page.now (ColumnNode (keys_at place.now) parts start current) → ⊥) }
     ensures point { IfSome result (HasPoint key stamp) }
 {
     let Ok(bounds) = column_head(page.octets()) else {
@@ -143,7 +143,7 @@ pub fn spot_in(page: &Page, place: &PagePlace, key: Key, stamp: Stamp) -> Option
 /// Whether a page may be the current leaf of a column's keys from a start on: it isn't if this returns false, but not always if it
 /// returns true.
 pub fn is_current_leaf(page: &Page, column: &PagePlace, start: Stamp) -> bool
-    ensures { (versions : List Version) → PageSays page.now (CurrentLeaf (keys_at column.now) start versions) → IsTrue result }
+    ensures { (versions : List Version) → PageRepresents page.now (CurrentLeaf (keys_at column.now) start versions) → IsTrue result }
 {
     match leaf_head(page.octets()) {
         Ok(bounds) => bounds.start == start && are_its_keys(&bounds, column),

@@ -3,9 +3,9 @@
 ghost use Rattle.std.specs.Prelude.{◌≡◌, ◌↔◌, ◌⊎◌, ◌≤◌, ℕ, List, IfOk, OnOk, IfErr, IsErrOf, Err, min, ◌+◌};
 ghost use Rattle.version_model.specs.Versions.{Version};
 ghost use Rattle.version_model.specs.Ranges.{IsPoint, range_of};
-ghost use Rattle.once_store.specs.Readers.{IsKept, capacity_of, reader_disk};
-ghost use Rattle.tsb_walk.specs.Inside.{KeepsInside};
-ghost use Rattle.tsb_walk.specs.Knowing.{ReadsWell, IsKnown, StandsKnown};
+ghost use Rattle.once_store.specs.Readers.{IsCached, capacity_of, reader_disk};
+ghost use Rattle.tsb_walk.specs.Inside.{CachesInside};
+ghost use Rattle.tsb_walk.specs.Knowing.{ReadsWell, IsKnown, RepresentsKnown};
 ghost use Rattle.tsb_walk.specs.Ways.{IsFit};
 ghost use Rattle.tsb_walk.specs.BlockWays.{AreKnownTo, IsBadBlock};
 ghost use Rattle.tsb_walk.specs.inner.Steps.{IsStep, GoesDown};
@@ -31,8 +31,8 @@ fn take_step<O: OnceDisk + Drop>(
     ensures unfit { ReadsWell O.OnceDisk reader.old seen.old → (octets : List ℕ) → IsKnown (O.known seen.old) (O.block_count (reader_disk reader.old)) place.now.part.block octets → (m : ℕ) → result ≡ Err (BlockError.Damaged m) → IsFit place.now octets key stamp → ⊥ }
     ensures number { (m : ℕ) → result ≡ Err (BlockError.Damaged m) → m ≡ place.now.part.block }
     ensures down { IfOk result (GoesDown place.now key stamp) }
-    ensures kept { OnOk result ((octets : List ℕ) × IsKept reader.new place.now.part.block octets) }
-    ensures inside { KeepsInside O.OnceDisk reader.old → KeepsInside O.OnceDisk reader.new }
+    ensures kept { OnOk result ((octets : List ℕ) × IsCached reader.new place.now.part.block octets) }
+    ensures inside { CachesInside O.OnceDisk reader.old → CachesInside O.OnceDisk reader.new }
     ensures same { O.honest_seen (reader_disk reader.old) seen.old → O.known seen.new ≡ O.known seen.old }
     ensures disk { reader_disk reader.new ≡ reader_disk reader.old }
     ensures capacity { capacity_of reader.new ≡ capacity_of reader.old }
@@ -60,14 +60,14 @@ pub fn leaf_place<O: OnceDisk + Drop>(
     stamp: Stamp,
 ) -> Result<Place, BlockError>
     requires point { IsPoint (range_of place.now.bounds) key stamp }
-    ensures leaf { (all : List Version) → StandsKnown O.OnceDisk reader.old seen.old all place.now → IfOk result (HasLeaf O.OnceDisk reader.new all) }
-    ensures reads { (all : List Version) → StandsKnown O.OnceDisk reader.old seen.old all place.now → ReadsWell O.OnceDisk reader.new seen.new }
-    ensures never { (all : List Version) → StandsKnown O.OnceDisk reader.old seen.old all place.now → (m : ℕ) → result ≡ Err (BlockError.Damaged m) → ⊥ }
+    ensures leaf { (all : List Version) → RepresentsKnown O.OnceDisk reader.old seen.old all place.now → IfOk result (HasLeaf O.OnceDisk reader.new all) }
+    ensures reads { (all : List Version) → RepresentsKnown O.OnceDisk reader.old seen.old all place.now → ReadsWell O.OnceDisk reader.new seen.new }
+    ensures never { (all : List Version) → RepresentsKnown O.OnceDisk reader.old seen.old all place.now → (m : ℕ) → result ≡ Err (BlockError.Damaged m) → ⊥ }
     ensures arrives { ReadsWell O.OnceDisk reader.old seen.old → AreKnownTo (O.known seen.old) (O.block_count (reader_disk reader.old)) place.now.part.block → IfOk result (Arrives O.OnceDisk reader.new (O.known seen.old) (O.block_count (reader_disk reader.old)) key stamp place.now) }
     ensures damaged { ReadsWell O.OnceDisk reader.old seen.old → AreKnownTo (O.known seen.old) (O.block_count (reader_disk reader.old)) place.now.part.block → (block : ℕ) → result ≡ Err (BlockError.Damaged block) → IsBadBlock (O.known seen.old) (O.block_count (reader_disk reader.old)) key stamp place.now block }
     ensures point { IfOk result (λ last. IsPoint (range_of last.bounds) key stamp) }
-    ensures kept { IfOk result (λ last. (octets : List ℕ) × IsKept reader.new last.part.block octets) }
-    ensures inside { KeepsInside O.OnceDisk reader.old → KeepsInside O.OnceDisk reader.new }
+    ensures kept { IfOk result (λ last. (octets : List ℕ) × IsCached reader.new last.part.block octets) }
+    ensures inside { CachesInside O.OnceDisk reader.old → CachesInside O.OnceDisk reader.new }
     ensures same { O.honest_seen (reader_disk reader.old) seen.old → O.known seen.new ≡ O.known seen.old }
     ensures disk { reader_disk reader.new ≡ reader_disk reader.old }
     ensures capacity { capacity_of reader.new ≡ capacity_of reader.old }

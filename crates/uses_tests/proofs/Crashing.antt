@@ -25,7 +25,7 @@ use Rattle.std.specs.Prelude.{IfSome}
 use Rattle.std.specs.Global.{Vec}
 use Rattle.disk_memory.specs.Replay.{state_of}
 use Rattle.disk_memory.specs.declared.call.Call.{Call as DiskCall}
-use Rattle.page_journal.specs.Identity.{HoldsNone}
+use Rattle.page_journal.specs.Identity.{HasNoJournal}
 use Rattle.page_journal.proofs.Creating.{other_none}
 use Rattle.route_model.specs.Admission.{Admitted, IsAdmission}
 use Rattle.interleaving_core.specs.declared.reply.BatchReply.{BatchReply}
@@ -105,7 +105,7 @@ takes_cut_apply erase once sound a z b e o pen tear result returned did closes r
 -- ---- an archive is created
 
 -- a crash leaves no journal on a new disk
-pub none_at_first : (calls : List DiskCall) (o : OnceState) (left : Left) → calls ≡ [] → LeftNow (state_of calls) o left → HoldsNone left.erase
+pub none_at_first : (calls : List DiskCall) (o : OnceState) (left : Left) → calls ≡ [] → LeftNow (state_of calls) o left → HasNoJournal left.erase
 none_at_first calls o left none now =
     let zero : left.erase 0 ≡ 0 = (subst (λ (l : List DiskCall). MayLeave (state_of l) left.erase) none now.erase) 0 (λ is. is) in
     other_none left.erase (λ r. omega (arith, r, zero))
@@ -118,13 +118,13 @@ opened_leads erase once e o pen a uses = subst (λ s. Leads {erase = erase} {onc
 
 -- A crash came inside that, on disks where it left no journal before, and both were opened then.
 pub cut_lives : {E O Pen Seen : Type 0} (erase : EraseGhosts E) (once : OnceGhosts O Pen Seen) (made : Settings) (e : E) (o : O) (pen : Pen) (f : E) (p : O) (new : Pen) (g : E) (q : O) (newer : Pen) (a : Archive E O Pen Seen erase once)
-    → ((left : Left) → LeftNow (erase.model e) (once.model pen) left → HoldsNone left.erase)
+    → ((left : Left) → LeftNow (erase.model e) (once.model pen) left → HasNoJournal left.erase)
     → ((left : Left) → LeftNow (erase.model f) (once.model new) left → LeftByCreation erase once made e o pen left) → p ≡ o
     → (l : Loses erase once f p new g q newer) → Uses (apart erase once g q newer) (opened ∷ []) (alone a)
-    → (HoldsNone l.left.erase → Leads {Seen = Seen} {erase = erase} {once = once} found (gone (once.block_count p) l.left) (off g q newer) → Leads {erase = erase} {once = once} opened (off g q newer) (on a) → ⊥)
+    → (HasNoJournal l.left.erase → Leads {Seen = Seen} {erase = erase} {once = once} found (gone (once.block_count p) l.left) (off g q newer) → Leads {erase = erase} {once = once} opened (off g q newer) (on a) → ⊥)
     → Lives made (lost ∷ found ∷ opened ∷ []) (alone a)
 cut_lives {E} {O} {Pen} {Seen} erase once made e o pen f p new g q newer a blank leaves same l opens law =
-    let no : HoldsNone l.left.erase → ⊥ = λ none. law none (l.begins, l.count, l.honest_erase, l.honest_once) (opened_leads erase once g q newer a opens) in
+    let no : HasNoJournal l.left.erase → ⊥ = λ none. law none (l.begins, l.count, l.honest_erase, l.honest_once) (opened_leads erase once g q newer a opens) in
     ⊎_elim
     (λ before. absurd (no (blank l.left before.0)))
     (λ other. ⊎_elim

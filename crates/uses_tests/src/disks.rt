@@ -2,7 +2,7 @@
 
 ghost use Rattle.std.specs.Prelude.{◌≡◌, ◌∷◌, [], IfSome, IfOk, IfErr};
 ghost use Rattle.disk_models.specs.Left.{Left, LeftNow};
-ghost use Rattle.page_journal.specs.Identity.{HoldsNone};
+ghost use Rattle.page_journal.specs.Identity.{HasNoJournal};
 ghost use Rattle.archive_pages.specs.Places.{AreSettings};
 ghost use Rattle.disk_memory.specs.Memory.{calls_of};
 ghost use Rattle.disk_memory.specs.Pen.{once_model};
@@ -141,7 +141,7 @@ pub(crate) fn cut_apply(alloc: Global, archive: Made, tear: Tear) -> Option<Next
 
 // New disks of `pages` pages and `blocks` blocks, which stop so.
 fn blank(alloc: Global, pages: u16, blocks: u64, stop: Stop) -> Option<Both>
-    ensures none { IfSome result (λ both. (left : Left) → LeftNow (state_of (calls_of both.erase)) (once_model both.pen) left → HoldsNone left.erase) }
+    ensures none { IfSome result (λ both. (left : Left) → LeftNow (state_of (calls_of both.erase)) (once_model both.pen) left → HasNoJournal left.erase) }
 {
     let mut erase = MemErase::new(alloc, u64::from(pages) * 16_384);
     let (once, mut pen) = MemOnce::new(alloc, blocks);

@@ -1,4 +1,4 @@
--- The versions that entries say.
+-- The versions that entries represent.
 use Rattle.std.proofs.Common.{◌≡◌, ℕ, ◌+◌, ◌<◌, List, [], ◌∷◌, ◌++◌, length, get_or, Option, Some, None, IsSome, slice_get, refl, sym, ◌∙◌, ap, subst, arith, inl, inr, Bor, Vec, Global, IsTrue, true, false, eqb, eq-eqb}
 use Rattle.version_model.specs.Versions.{Version, AsOf, IsRising}
 use Rattle.version_model.specs.Entries.{version_of, versions_of}

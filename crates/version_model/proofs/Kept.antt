@@ -4,7 +4,7 @@ use Rattle.std.proofs.lemmas.Bool.{cases_lt}
 use Rattle.std.proofs.lemmas.Option.{slice_get_within, same_Some}
 use Rattle.version_model.specs.Versions.{Version, Has, AsOf, IsRising, IsAbove}
 use Rattle.version_model.proofs.api.Pushed.{no_at_nil, Has-nil, Has-push_cases, Has-push_old, Has-push_new, IsRising-push}
-use Rattle.version_model.specs.Shows.{IsFrom, IsBelow, IsFromKey}
+use Rattle.version_model.specs.LeafVersions.{IsFrom, IsBelow, IsFromKey}
 
 pub record Keeps (P Q : Version → Type 0) (vs : List Version) (n : ℕ) (kept : List Version) : Type 0 where
   pub is_in : (v : Version) → Has kept v → (k : ℕ) × (k < n) × (slice_get vs k ≡ Some v)

@@ -11,7 +11,7 @@ pub mod TreeKept
 pub mod Children
 pub mod ChildrenTwo
 pub mod Put
-pub mod Standing
+pub mod Representing
 pub mod Counting
 pub mod Fits
 pub mod Later

@@ -1,13 +1,13 @@
--- What blocks say of a column's past, and how its parts stand for versions.
+-- What blocks represent of a column's past, and how its parts represent versions.
 use Rattle.std.specs.Prelude.{◌≡◌, ℕ, suc, ◌<◌, ◌≤◌, List, Option, Some, None, slice_get}
 use Rattle.version_model.specs.declared.part.Part.{Part}
 use Rattle.version_model.specs.declared.part.PartKind.TheVariants.{LeafBlock, ColumnBlock}
 use Rattle.version_model.specs.declared.part.Place.{Place}
 use Rattle.version_model.specs.Versions.{Version}
 use Rattle.version_model.specs.Ranges.{Range, range_of}
-use Rattle.version_model.specs.Shows.{Shows}
+use Rattle.version_model.specs.LeafVersions.{LeafRepresents}
 
--- what a settled block says: the versions of a leaf, or the parts of a column, each with the range that the block gives
+-- what a settled block represents: the versions of a leaf, or the parts of a column, each with the range that the block gives
 pub data BlockNode : Type 0 where
   OldLeaf : (range : Range) (versions : List Version) → BlockNode
   OldColumn : (range : Range) (parts : List Part) → BlockNode
@@ -42,18 +42,18 @@ pub record AreParts (r : Range) (parts : List Part) (block : ℕ) : Type 0 where
   pub lower : (i : ℕ) (part : Part) → slice_get parts i ≡ Some part → part.block < block
   pub inside : (s : Range) (part : Part) → IsPartOf r parts s part → (s.start < s.end) × (s.end ≤ r.end)
 
--- The part stands for the versions of the range: its block says a leaf that shows them, or a column each of whose parts stands for
+-- The part represents the versions of the range: its block represents a leaf that shows them, or a column each of whose parts represents
 -- the versions of its own range. The block may be of more keys than the range.
-pub data PartStands (blocks : ℕ → Option BlockNode) (all : List Version) : Range → Part → Type 0 where
-  by_leaf : (r : Range) (part : Part) (wide : Range) (versions : List Version) → part.kind ≡ LeafBlock → blocks part.block ≡ Some (OldLeaf wide versions) → IsWider wide r → Shows all r versions → PartStands blocks all r part
+pub data PartRepresents (blocks : ℕ → Option BlockNode) (all : List Version) : Range → Part → Type 0 where
+  by_leaf : (r : Range) (part : Part) (wide : Range) (versions : List Version) → part.kind ≡ LeafBlock → blocks part.block ≡ Some (OldLeaf wide versions) → IsWider wide r → LeafRepresents all r versions → PartRepresents blocks all r part
   by_parts : (r : Range) (part : Part) (wide : Range) (parts : List Part) → part.kind ≡ ColumnBlock → blocks part.block ≡ Some (OldColumn wide parts) → IsWider wide r → AreParts r parts part.block
-      → ((s : Range) (inner : Part) → IsPartOf r parts s inner → PartStands blocks all s inner)
-      → PartStands blocks all r part
+      → ((s : Range) (inner : Part) → IsPartOf r parts s inner → PartRepresents blocks all s inner)
+      → PartRepresents blocks all r part
 
--- the part at a place in the past stands for the versions of the place's range
-abbrev pub PlaceStands : (ℕ → Option BlockNode) → List Version → Place → Type 0
-PlaceStands blocks all place = PartStands blocks all (range_of place.bounds) place.part
+-- the part at a place in the past represents the versions of the place's range
+abbrev pub PlaceRepresents : (ℕ → Option BlockNode) → List Version → Place → Type 0
+PlaceRepresents blocks all place = PartRepresents blocks all (range_of place.bounds) place.part
 
--- each block that said something says the same still
+-- each block that represented something represents the same still
 abbrev pub Grows : (ℕ → Option BlockNode) → (ℕ → Option BlockNode) → Type 0
 Grows old new = (n : ℕ) (node : BlockNode) → old n ≡ Some node → new n ≡ Some node

@@ -21,7 +21,7 @@ abbrev pub sum_of : List ℕ → ℕ
 sum_of [] = 0
 sum_of (n ∷ ns) = n + sum_of ns
 
--- Every block of a part says a node that may stand there, and n is how many versions of the range they have: a leaf its own that are
+-- Every block of a part represents a node that may stand there, and n is how many versions of the range they have: a leaf its own that are
 -- of the range, so that no copy from before the start counts; a column those of its parts.
 pub data PartCounts (blocks : ℕ → Option BlockNode) : Range → Part → ℕ → Type 0 where
   leaf_counts : (r : Range) (part : Part) (wide : Range) (versions : List Version) → part.kind ≡ LeafBlock → blocks part.block ≡ Some (OldLeaf wide versions) → IsWider wide r → IsRising versions

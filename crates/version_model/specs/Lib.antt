@@ -1,6 +1,6 @@
 pub mod Versions
 pub mod Ranges
-pub mod Shows
+pub mod LeafVersions
 pub mod Looks
 pub mod Entries
 pub mod StampWords

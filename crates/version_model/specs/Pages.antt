@@ -1,11 +1,11 @@
--- What pages represent, and how the nodes of a tree stand for versions.
+-- What pages represent, and how the nodes of a tree represent versions.
 use Rattle.std.specs.Prelude.{◌≡◌, ℕ, suc, ◌<◌, ◌≤◌, ◌⊎◌, List, [], Option, Some, None, slice_get}
 use Rattle.version_model.specs.declared.part.Part.{Part}
 use Rattle.version_model.specs.declared.child.Child.{Child}
 use Rattle.version_model.specs.Versions.{Version, Has, IsAbove, IsRising}
 use Rattle.version_model.specs.Ranges.{Range, key_end, stamp_end}
-use Rattle.version_model.specs.Shows.{Shows}
-use Rattle.version_model.specs.Blocks.{BlockNode, IsPartOf, AreParts, PartStands}
+use Rattle.version_model.specs.LeafVersions.{LeafRepresents}
+use Rattle.version_model.specs.Blocks.{BlockNode, IsPartOf, AreParts, PartRepresents}
 
 -- the keys from `low` on and below `high`
 pub record Keys : Type 0 where
@@ -26,14 +26,14 @@ past_range keys start = record { low = keys.low; high = keys.high; start = 0; en
 abbrev pub current_range : Keys → ℕ → Range
 current_range keys start = record { low = keys.low; high = keys.high; start = start; end = stamp_end }
 
--- the parts stand for all versions before the start of the current leaf; a column that starts at the beginning has none
-pub record PastStands (blocks : ℕ → Option BlockNode) (next : ℕ) (all : List Version) (keys : Keys) (start : ℕ) (parts : List Part) : Type 0 where
+-- the parts represent all versions before the start of the current leaf; a column that starts at the beginning has none
+pub record PartsRepresent (blocks : ℕ → Option BlockNode) (next : ℕ) (all : List Version) (keys : Keys) (start : ℕ) (parts : List Part) : Type 0 where
   pub are_parts : ((parts ≡ []) × (start ≡ 0)) ⊎ AreParts (past_range keys start) parts next
-  pub stand : (s : Range) (part : Part) → IsPartOf (past_range keys start) parts s part → PartStands blocks all s part
+  pub stand : (s : Range) (part : Part) → IsPartOf (past_range keys start) parts s part → PartRepresents blocks all s part
 
--- A column stands for the versions of its keys: a page says it, another its current leaf, which shows the versions from its start
--- on; the parts stand for those before. The current leaf starts before any version to come.
-pub record ColumnStands (nodes : ℕ → Option PageNode) (limit : ℕ) (blocks : ℕ → Option BlockNode) (next : ℕ) (all : List Version) (keys : Keys) (page : ℕ) : Type 0 where
+-- A column represents the versions of its keys: a page represents it, another its current leaf, which shows the versions from its start
+-- on; the parts represent those before. The current leaf starts before any version to come.
+pub record ColumnRepresents (nodes : ℕ → Option PageNode) (limit : ℕ) (blocks : ℕ → Option BlockNode) (next : ℕ) (all : List Version) (keys : Keys) (page : ℕ) : Type 0 where
   pub parts : List Part
   pub current : ℕ
   pub start : ℕ
@@ -42,8 +42,8 @@ pub record ColumnStands (nodes : ℕ → Option PageNode) (limit : ℕ) (blocks 
   pub at : nodes page ≡ Some (ColumnNode keys parts start current)
   pub current_in_limit : current < limit
   pub at_current : nodes current ≡ Some (CurrentLeaf keys start versions)
-  pub shows : Shows all (current_range keys start) versions
-  pub past : PastStands blocks next all keys start parts
+  pub shows : LeafRepresents all (current_range keys start) versions
+  pub past : PartsRepresent blocks next all keys start parts
   pub started : (s : ℕ) → ((v : Version) → Has all v → v.stamp < s) → (start < s) ⊎ (start ≡ 0)
 
 -- the child's lowest key; without one, the high key
@@ -68,13 +68,13 @@ pub record AreChildren (keys : Keys) (children : List Child) : Type 0 where
   pub from_low : first.low ≡ keys.low
   pub inside : (inner : Keys) (child : Child) → IsChildOf keys children inner child → (keys.low ≤ inner.low) × (inner.low < inner.high) × (inner.high ≤ keys.high)
 
--- A page of a level stands for the versions of its keys: at level 1 a column, above it a key node each of whose children, one level
--- lower, stands for the versions of its own keys.
-pub data Stands (nodes : ℕ → Option PageNode) (limit : ℕ) (blocks : ℕ → Option BlockNode) (next : ℕ) (all : List Version) : ℕ → Keys → ℕ → Type 0 where
-  column : (keys : Keys) (page : ℕ) → ColumnStands nodes limit blocks next all keys page → Stands nodes limit blocks next all 1 keys page
+-- A page of a level represents the versions of its keys: at level 1 a column, above it a key node each of whose children, one level
+-- lower, represents the versions of its own keys.
+pub data Represents (nodes : ℕ → Option PageNode) (limit : ℕ) (blocks : ℕ → Option BlockNode) (next : ℕ) (all : List Version) : ℕ → Keys → ℕ → Type 0 where
+  column : (keys : Keys) (page : ℕ) → ColumnRepresents nodes limit blocks next all keys page → Represents nodes limit blocks next all 1 keys page
   key_node : (level : ℕ) (keys : Keys) (page : ℕ) (children : List Child) → page < limit → nodes page ≡ Some (KeyNode (suc level) keys children) → AreChildren keys children
-      → ((inner : Keys) (child : Child) → IsChildOf keys children inner child → Stands nodes limit blocks next all level inner child.page)
-      → Stands nodes limit blocks next all (suc level) keys page
+      → ((inner : Keys) (child : Child) → IsChildOf keys children inner child → Represents nodes limit blocks next all level inner child.page)
+      → Represents nodes limit blocks next all (suc level) keys page
 
 -- what the pages and the settled blocks represent, and up to where each are in use
 pub record Store : Type 0 where
@@ -83,20 +83,20 @@ pub record Store : Type 0 where
   pub blocks : ℕ → Option BlockNode
   pub next : ℕ
 
--- the page stands, by what a store says
-abbrev pub StandsIn : Store → List Version → ℕ → Keys → ℕ → Type 0
-StandsIn s all level keys page = Stands s.nodes s.limit s.blocks s.next all level keys page
+-- the page stands, by what a store represents
+abbrev pub RepresentsIn : Store → List Version → ℕ → Keys → ℕ → Type 0
+RepresentsIn s all level keys page = Represents s.nodes s.limit s.blocks s.next all level keys page
 
 -- all keys that there are
 abbrev pub all_keys : Keys
 all_keys = record { low = 0; high = key_end }
 
--- The tree with this root stands for all these versions: the root for those of all keys; they are in the order of their stamps, and
+-- The tree with this root represents all these versions: the root for those of all keys; they are in the order of their stamps, and
 -- their keys and stamps are keys and stamps. A tree has at most six levels of key nodes.
-pub record TreeStands (s : Store) (all : List Version) (root level : ℕ) : Type 0 where
+pub record TreeRepresents (s : Store) (all : List Version) (root level : ℕ) : Type 0 where
   pub some_level : 1 ≤ level
   pub few_levels : level ≤ 7
-  pub stands : StandsIn s all level all_keys root
+  pub represents_all : RepresentsIn s all level all_keys root
   pub rising : IsRising all
   pub in_keys : (v : Version) → Has all v → v.key < key_end
   pub in_time : (v : Version) → Has all v → v.stamp < stamp_end

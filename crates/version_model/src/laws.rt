@@ -7,10 +7,10 @@ ghost use Rattle.version_model.specs.declared.part.PartKind.TheVariants.{LeafBlo
 ghost use Rattle.version_model.specs.declared.child.Child.{Child};
 ghost use Rattle.version_model.specs.Versions.{Version, Has, AsOf, Found, Answers, IsRising, IsAbove, Adds, AddsLater};
 ghost use Rattle.version_model.specs.Ranges.{Range, IsKeyOf, IsPoint, until, since, below, from_key, StartsBefore, end_or, stamp_end};
-ghost use Rattle.version_model.specs.Shows.{Shows, IsBefore, IsFrom, IsBelow, IsFromKey};
+ghost use Rattle.version_model.specs.LeafVersions.{LeafRepresents, IsBefore, IsFrom, IsBelow, IsFromKey};
 ghost use Rattle.version_model.specs.Looks.{NoneWithin, Reached, IsReached, reached_to, is_of, IsPart};
-ghost use Rattle.version_model.specs.Blocks.{BlockNode, OldLeaf, OldColumn, PartStands, Grows};
-ghost use Rattle.version_model.specs.Pages.{Keys, KeyNode, PageNode, PastStands, Stands, Store, StandsIn, TreeStands, all_keys, past_range, current_range};
+ghost use Rattle.version_model.specs.Blocks.{BlockNode, OldLeaf, OldColumn, PartRepresents, Grows};
+ghost use Rattle.version_model.specs.Pages.{Keys, KeyNode, PageNode, PartsRepresent, Represents, Store, RepresentsIn, TreeRepresents, all_keys, past_range, current_range};
 ghost use Rattle.version_model.specs.Inserts.{KeepsUnder, Splits, Writes};
 ghost use Rattle.version_model.specs.Sizes.{octets, octets_below, IsSplitPoint, IsSingle, AreSmall};
 ghost use Rattle.version_model.specs.Counts.{PartCounts, NodeCounts, count_in};
@@ -18,26 +18,26 @@ ghost use Rattle.version_model.specs.Counts.{PartCounts, NodeCounts, count_in};
 /// A leaf answers as all versions do: a lookup at a point of its range, that no key has a value, the next key within its
 /// keys, and the versions of a key up to a stamp within its stamps.
 pub fn leaves_answer_as_all_do()
-    ensures look_up { (all leaf : List Version) (r : Range) (key s : ℕ) (answer : Option Found) → Shows all r leaf → IsPoint r key s
+    ensures look_up { (all leaf : List Version) (r : Range) (key s : ℕ) (answer : Option Found) → LeafRepresents all r leaf → IsPoint r key s
         → Answers leaf key s answer → Answers all key s answer }
-    ensures none { (all leaf : List Version) (r : Range) (s from to : ℕ) → Shows all r leaf → r.low ≤ from → to ≤ r.high → r.start ≤ s → s < r.end
+    ensures none { (all leaf : List Version) (r : Range) (s from to : ℕ) → LeafRepresents all r leaf → r.low ≤ from → to ≤ r.high → r.start ≤ s → s < r.end
         → NoneWithin leaf s from to → NoneWithin all s from to }
-    ensures part { (all leaf : List Version) (r : Range) (key from : ℕ) → Shows all r leaf → IsRising all → IsRising leaf → IsPoint r key from
+    ensures part { (all leaf : List Version) (r : Range) (key from : ℕ) → LeafRepresents all r leaf → IsRising all → IsRising leaf → IsPoint r key from
         → filter (is_of key from r.end) leaf ≡ filter (is_of key from r.end) all }
-    ensures next { (all leaf : List Version) (r : Range) (s from : ℕ) (reached : Reached) → Shows all r leaf → IsPoint r from s → reached_to reached ≤ r.high
+    ensures next { (all leaf : List Version) (r : Range) (s from : ℕ) (reached : Reached) → LeafRepresents all r leaf → IsPoint r from s → reached_to reached ≤ r.high
         → IsReached leaf s from reached → IsReached all s from reached }
-    ensures reported { (all leaf : List Version) (r : Range) (key from : ℕ) (reported : Option ℕ) → Shows all r leaf → IsRising all → IsRising leaf → IsPoint r key from
+    ensures reported { (all leaf : List Version) (r : Range) (key from : ℕ) (reported : Option ℕ) → LeafRepresents all r leaf → IsRising all → IsRising leaf → IsPoint r key from
         → from < end_or reported → end_or reported ≤ r.end → IsPart all key from (filter (is_of key from (end_or reported)) leaf) reported }
 {}
 
 /// What a leaf shows is shown by both sides of a time split, by both sides of a key split, and of fewer keys and an
 /// earlier end by the leaf itself. So a copy of each value that spans a time split is enough.
 pub fn splits_keep_what_is_shown()
-    ensures older { (all leaf side : List Version) (r : Range) (at : ℕ) → r.start ≤ at → at ≤ r.end → IsBefore leaf at side → Shows all r leaf → Shows all (until r at) side }
-    ensures newer { (all leaf side : List Version) (r : Range) (at : ℕ) → r.start ≤ at → at < r.end → IsFrom leaf at side → Shows all r leaf → Shows all (since r at) side }
-    ensures left { (all leaf side : List Version) (r : Range) (key : ℕ) → key ≤ r.high → IsBelow leaf key side → Shows all r leaf → Shows all (below r key) side }
-    ensures right { (all leaf side : List Version) (r : Range) (key : ℕ) → r.low ≤ key → IsFromKey leaf key side → Shows all r leaf → Shows all (from_key r key) side }
-    ensures cut { (all leaf : List Version) (r s : Range) → r.low ≤ s.low → s.high ≤ r.high → s.start ≡ r.start → s.end ≤ r.end → Shows all r leaf → Shows all s leaf }
+    ensures older { (all leaf side : List Version) (r : Range) (at : ℕ) → r.start ≤ at → at ≤ r.end → IsBefore leaf at side → LeafRepresents all r leaf → LeafRepresents all (until r at) side }
+    ensures newer { (all leaf side : List Version) (r : Range) (at : ℕ) → r.start ≤ at → at < r.end → IsFrom leaf at side → LeafRepresents all r leaf → LeafRepresents all (since r at) side }
+    ensures left { (all leaf side : List Version) (r : Range) (key : ℕ) → key ≤ r.high → IsBelow leaf key side → LeafRepresents all r leaf → LeafRepresents all (below r key) side }
+    ensures right { (all leaf side : List Version) (r : Range) (key : ℕ) → r.low ≤ key → IsFromKey leaf key side → LeafRepresents all r leaf → LeafRepresents all (from_key r key) side }
+    ensures cut { (all leaf : List Version) (r s : Range) → r.low ≤ s.low → s.high ≤ r.high → s.start ≡ r.start → s.end ≤ r.end → LeafRepresents all r leaf → LeafRepresents all s leaf }
 {}
 
 /// A copy of each value that spans a time split is needed: a leaf that answers from the split on as all versions do has it.
@@ -49,8 +49,8 @@ pub fn copies_are_needed()
 
 /// A later version is shown by the leaf that takes it, and changes nothing for a leaf of other keys or of earlier stamps.
 pub fn later_versions_are_shown()
-    ensures taken { (all new leaf more : List Version) (r : Range) (v : Version) → Adds all v new → Adds leaf v more → StartsBefore r v.stamp → Shows all r leaf → Shows new r more }
-    ensures elsewhere { (all new leaf : List Version) (r : Range) (v : Version) → Adds all v new → StartsBefore r v.stamp → (IsKeyOf r v.key → r.end ≤ v.stamp) → Shows all r leaf → Shows new r leaf }
+    ensures taken { (all new leaf more : List Version) (r : Range) (v : Version) → Adds all v new → Adds leaf v more → StartsBefore r v.stamp → LeafRepresents all r leaf → LeafRepresents new r more }
+    ensures elsewhere { (all new leaf : List Version) (r : Range) (v : Version) → Adds all v new → StartsBefore r v.stamp → (IsKeyOf r v.key → r.end ≤ v.stamp) → LeafRepresents all r leaf → LeafRepresents new r leaf }
 {}
 
 /// What was answered as of a stamp stays the answer when only later versions come.
@@ -79,39 +79,39 @@ pub fn rising_lists_are_one()
     ensures one { (vs ws : List Version) → IsRising vs → IsRising ws → ((x : Version) → Has vs x → Has ws x) → ((x : Version) → Has ws x → Has vs x) → vs ≡ ws }
 {}
 
-/// A part that stands goes on standing with more settled blocks, when a version comes that isn't before its end, and for
+/// A part that represents versions goes on representing them with more settled blocks, when a version comes that isn't before its end, and for
 /// fewer keys.
-pub fn parts_stand_on()
-    ensures grows { (old new : ℕ → Option BlockNode) (all : List Version) (r : Range) (part : Part) → Grows old new → PartStands old all r part → PartStands new all r part }
+pub fn parts_represent_on()
+    ensures grows { (old new : ℕ → Option BlockNode) (all : List Version) (r : Range) (part : Part) → Grows old new → PartRepresents old all r part → PartRepresents new all r part }
     ensures later { (blocks : ℕ → Option BlockNode) (all new : List Version) (v : Version) (r : Range) (part : Part) → Adds all v new → r.start < r.end → r.end ≤ v.stamp
-        → PartStands blocks all r part → PartStands blocks new r part }
+        → PartRepresents blocks all r part → PartRepresents blocks new r part }
     ensures cut { (blocks : ℕ → Option BlockNode) (all : List Version) (r s : Range) (part : Part) → r.low ≤ s.low → s.high ≤ r.high → s.start ≡ r.start → s.end ≡ r.end
-        → PartStands blocks all r part → PartStands blocks all s part }
+        → PartRepresents blocks all r part → PartRepresents blocks all s part }
 {}
 
 /// The past of a column goes on standing when a burnt leaf becomes its last part, when its parts move into one block,
 /// and for fewer keys.
-pub fn pasts_stand_on()
+pub fn pasts_represent_on()
     ensures pushed { (old new : ℕ → Option BlockNode) (next further : ℕ) (all : List Version) (keys : Keys) (start at block : ℕ) (parts : List Part) (versions : List Version)
         → Grows old new → start < at → next ≤ block → block < further
-        → new block ≡ Some (OldLeaf (until (current_range keys start) at) versions) → Shows all (until (current_range keys start) at) versions
-        → PastStands old next all keys start parts → PastStands new further all keys at (parts ++ record { start = start; kind = LeafBlock; block = block } ∷ []) }
+        → new block ≡ Some (OldLeaf (until (current_range keys start) at) versions) → LeafRepresents all (until (current_range keys start) at) versions
+        → PartsRepresent old next all keys start parts → PartsRepresent new further all keys at (parts ++ record { start = start; kind = LeafBlock; block = block } ∷ []) }
     ensures moved { (old new : ℕ → Option BlockNode) (next further : ℕ) (all : List Version) (keys : Keys) (start block : ℕ) (parts : List Part)
         → Grows old new → 0 < start → next ≤ block → block < further → new block ≡ Some (OldColumn (past_range keys start) parts)
-        → PastStands old next all keys start parts → PastStands new further all keys start (record { start = 0; kind = ColumnBlock; block = block } ∷ []) }
+        → PartsRepresent old next all keys start parts → PartsRepresent new further all keys start (record { start = 0; kind = ColumnBlock; block = block } ∷ []) }
     ensures cut { (blocks : ℕ → Option BlockNode) (next : ℕ) (all : List Version) (keys side : Keys) (start : ℕ) (parts : List Part) → keys.low ≤ side.low → side.high ≤ keys.high
-        → PastStands blocks next all keys start parts → PastStands blocks next all side start parts }
+        → PartsRepresent blocks next all keys start parts → PartsRepresent blocks next all side start parts }
 {}
 
-/// A page that stands goes on standing with more settled blocks, and when a version of other keys comes, whatever pages
-/// that don't lie under it say then.
-pub fn nodes_stand_on()
+/// A page that represents versions goes on representing them with more settled blocks, and when a version of other keys comes, whatever pages
+/// that don't lie under it represent then.
+pub fn nodes_represent_on()
     ensures grows { (nodes : ℕ → Option PageNode) (limit : ℕ) (old new : ℕ → Option BlockNode) (next further : ℕ) (all : List Version) (level : ℕ) (keys : Keys) (page : ℕ)
-        → Grows old new → next ≤ further → Stands nodes limit old next all level keys page → Stands nodes limit new further all level keys page }
+        → Grows old new → next ≤ further → Represents nodes limit old next all level keys page → Represents nodes limit new further all level keys page }
     ensures elsewhere { (s t : Store) (all new : List Version) (v : Version) (level : ℕ) (keys : Keys) (page : ℕ)
         → Adds all v new → IsAbove all v.stamp → Grows s.blocks t.blocks → s.next ≤ t.next → s.limit ≤ t.limit
         → keys.low < keys.high → (IsKeyOf (current_range keys 0) v.key → ⊥) → KeepsUnder s.nodes t.nodes s.limit level keys
-        → StandsIn s all level keys page → StandsIn t new level keys page }
+        → RepresentsIn s all level keys page → RepresentsIn t new level keys page }
 {}
 
 /// A key node takes a version as its child of the version's key does: if the child stays one, and if it becomes two and
@@ -140,10 +140,10 @@ pub fn key_splits_fit()
     ensures single { (leaf newer : List Version) (at : ℕ) → IsFrom leaf at newer → IsRising newer → ((v : Version) → Has leaf v → v.stamp ≤ at) → IsSingle newer }
 {}
 
-/// What is counted in a part that stands is how many versions its range has; what is counted under the root of a tree, how many
-/// versions the tree stands for. So copies count once.
+/// What is counted in a part that represents versions is how many versions its range has; what is counted under the root of a tree, how many
+/// versions the tree represents. So copies count once.
 pub fn versions_are_counted_once()
     ensures parts { (blocks : ℕ → Option BlockNode) (all : List Version) (r : Range) (part : Part) (n : ℕ) → IsRising all
-        → PartCounts blocks r part n → PartStands blocks all r part → n ≡ count_in all r }
-    ensures trees { (s : Store) (all : List Version) (root level n : ℕ) → NodeCounts s.nodes s.limit s.blocks s.next level all_keys root n → TreeStands s all root level → n ≡ length all }
+        → PartCounts blocks r part n → PartRepresents blocks all r part → n ≡ count_in all r }
+    ensures trees { (s : Store) (all : List Version) (root level n : ℕ) → NodeCounts s.nodes s.limit s.blocks s.next level all_keys root n → TreeRepresents s all root level → n ≡ length all }
 {}

@@ -4,7 +4,7 @@ ghost use Rattle.std.specs.Prelude.{◌≡◌, ◌<◌, ◌≤◌, ◌↔◌, �
 ghost use Rattle.version_model.specs.Versions.{Version, Answers, IsRising, IsAbove, found_at};
 ghost use Rattle.version_model.specs.Entries.{version_of, versions_of};
 ghost use Rattle.version_model.specs.Ranges.{end_or};
-ghost use Rattle.version_model.specs.Shows.{IsFrom, IsBelow, IsFromKey};
+ghost use Rattle.version_model.specs.LeafVersions.{IsFrom, IsBelow, IsFromKey};
 ghost use Rattle.version_model.specs.Looks.{IsLeastLive, is_of};
 ghost use Rattle.version_model.specs.Sizes.{octets, octets_below, IsSplitPoint};
 

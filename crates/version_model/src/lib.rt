@@ -35,9 +35,9 @@ pub use child::Child;
 pub use entry::Entry;
 pub use laws::{
     answers_stay, copies_are_needed, key_nodes_take_as_their_children_do, key_splits_fit,
-    later_versions_are_shown, leaves_answer_as_all_do, nodes_stand_on, parts_follow_one_another,
-    parts_stand_on, pasts_stand_on, rising_lists_are_one, splits_keep_what_is_shown,
-    versions_are_counted_once,
+    later_versions_are_shown, leaves_answer_as_all_do, nodes_represent_on,
+    parts_follow_one_another, parts_represent_on, pasts_represent_on, rising_lists_are_one,
+    splits_keep_what_is_shown, versions_are_counted_once,
 };
 pub use leaf::Leaf;
 pub use part::{Part, PartKind, Place};

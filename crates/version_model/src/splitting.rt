@@ -3,7 +3,7 @@
 ghost use Rattle.std.specs.Prelude.{◌≡◌, ◌<◌, ◌≤◌, ◌+◌, ◌↔◌, IsTrue, IfOk, IsSome, Some, length, slice_get};
 ghost use Rattle.version_model.specs.Versions.{Version, AsOf, IsRising};
 ghost use Rattle.version_model.specs.Entries.{versions_of};
-ghost use Rattle.version_model.specs.Shows.{IsFrom, IsBelow, IsFromKey};
+ghost use Rattle.version_model.specs.LeafVersions.{IsFrom, IsBelow, IsFromKey};
 ghost use Rattle.version_model.specs.Sizes.{octets, octets_below};
 
 use crate::entry::Entry;

@@ -8,50 +8,50 @@ use Rattle.version_model.specs.declared.bounds.Bounds.{Bounds}
 use Rattle.version_model.specs.declared.part.Part.{Part}
 use Rattle.version_model.specs.Versions.{Version}
 use Rattle.version_model.specs.Ranges.{until, stamp_end}
-use Rattle.version_model.specs.Shows.{Shows, IsFrom}
+use Rattle.version_model.specs.LeafVersions.{LeafRepresents, IsFrom}
 use Rattle.version_model.specs.Blocks.{BlockNode}
-use Rattle.version_model.specs.Pages.{Keys, PastStands, current_range}
-use Rattle.version_model.proofs.api.Shown.{Shows-cut, Shows-from}
-use Rattle.version_model.proofs.api.PastSplit.{PastStands-pushed, PastStands-moved}
+use Rattle.version_model.specs.Pages.{Keys, PartsRepresent, current_range}
+use Rattle.version_model.proofs.api.Shown.{LeafRepresents-cut, LeafRepresents-from}
+use Rattle.version_model.proofs.api.PastSplit.{PartsRepresent-pushed, PartsRepresent-moved}
 use Rattle.tsb_node.specs.Columns.{ColumnInPage, IsColumn, AreAscending, BeginsAt, CanBeOldColumn, starts_of}
 use Rattle.worm_migration.specs.declared.error.MigrationError.{MigrationError}
-use Rattle.worm_migration.specs.Settled.{ShelfSays, with_block}
+use Rattle.worm_migration.specs.Settled.{ShelfRepresents, with_block}
 use Rattle.worm_migration.specs.Shelves.{KeepsShelf, SettlesAs}
 use Rattle.worm_migration.specs.Columns.{ColumnHas, AreWholePast, old_leaf, leaf_part, old_column, column_part, up_to}
 use Rattle.worm_migration.proofs.Blocks.{with_at}
 
 -- the leaf in a block becomes the last part
 pub past_pushed : {O Pen Seen : Type 0} (device : Ghosts O Pen Seen) (old new : Shelf O Pen Seen) (n : ℕ) (keys : Keys) (start at : ℕ) (leaf : List Version) → device.honest (disk_of old) (pen_of old) → KeepsShelf device old new (Ok n)
-    → SettlesAs device old new n (old_leaf keys start at leaf) → start < at → (blocks : ℕ → Option BlockNode) (all : List Version) (parts : List Part) → ShelfSays device old blocks → Shows all (until (current_range keys start) at) leaf
-    → PastStands blocks (next_of old) all keys start parts → PastStands (with_block n (old_leaf keys start at leaf) blocks) (next_of new) all keys at (parts ++ leaf_part start n ∷ [])
-past_pushed device old new n keys start at leaf honest keeps settles forward blocks all parts says shows past =
-    PastStands-pushed blocks (with_block n (old_leaf keys start at leaf) blocks) (next_of old) (next_of new) all keys start at n parts leaf (settles.grows blocks says) forward
+    → SettlesAs device old new n (old_leaf keys start at leaf) → start < at → (blocks : ℕ → Option BlockNode) (all : List Version) (parts : List Part) → ShelfRepresents device old blocks → LeafRepresents all (until (current_range keys start) at) leaf
+    → PartsRepresent blocks (next_of old) all keys start parts → PartsRepresent (with_block n (old_leaf keys start at leaf) blocks) (next_of new) all keys at (parts ++ leaf_part start n ∷ [])
+past_pushed device old new n keys start at leaf honest keeps settles forward blocks all parts represents_node shows past =
+    PartsRepresent-pushed blocks (with_block n (old_leaf keys start at leaf) blocks) (next_of old) (next_of new) all keys start at n parts leaf (settles.grows blocks represents_node) forward
     (keeps.puts honest).blank.forward (omega (arith, keeps.next)) (with_at n (old_leaf keys start at leaf) blocks) shows past
 
 -- the same of a call's answer, where it is one
 pub past_pushed_if : {O Pen Seen : Type 0} (device : Ghosts O Pen Seen) (old new : Shelf O Pen Seen) (result : Result ℕ MigrationError) (keys : Keys) (start at : ℕ) (leaf : List Version) → device.honest (disk_of old) (pen_of old) → KeepsShelf device old new result
     → IfOk result (λ n. SettlesAs device old new n (old_leaf keys start at leaf)) → start < at
-    → IfOk result (λ n. (blocks : ℕ → Option BlockNode) (all : List Version) (parts : List Part) → ShelfSays device old blocks → Shows all (until (current_range keys start) at) leaf
-    → PastStands blocks (next_of old) all keys start parts → PastStands (with_block n (old_leaf keys start at leaf) blocks) (next_of new) all keys at (parts ++ leaf_part start n ∷ []))
-past_pushed_if device old new (Ok n) keys start at leaf honest keeps settles forward = λ blocks all parts says shows past. past_pushed device old new n keys start at leaf honest keeps settles forward blocks all parts says shows past
+    → IfOk result (λ n. (blocks : ℕ → Option BlockNode) (all : List Version) (parts : List Part) → ShelfRepresents device old blocks → LeafRepresents all (until (current_range keys start) at) leaf
+    → PartsRepresent blocks (next_of old) all keys start parts → PartsRepresent (with_block n (old_leaf keys start at leaf) blocks) (next_of new) all keys at (parts ++ leaf_part start n ∷ []))
+past_pushed_if device old new (Ok n) keys start at leaf honest keeps settles forward = λ blocks all parts represents_node shows past. past_pushed device old new n keys start at leaf honest keeps settles forward blocks all parts represents_node shows past
 past_pushed_if device old new (Err e) keys start at leaf honest keeps settles forward = tt
 
 -- the column with that part and the leaf that stays
 pub column_split : {O Pen Seen : Type 0} (device : Ghosts O Pen Seen) (old new : Shelf O Pen Seen) (n : ℕ) (keys : Keys) (start at : ℕ) (leaf newer : List Version) → device.honest (disk_of old) (pen_of old) → KeepsShelf device old new (Ok n)
-    → SettlesAs device old new n (old_leaf keys start at leaf) → start < at → at < stamp_end → IsFrom leaf at newer → (blocks : ℕ → Option BlockNode) (all : List Version) (parts : List Part) → ShelfSays device old blocks
+    → SettlesAs device old new n (old_leaf keys start at leaf) → start < at → at < stamp_end → IsFrom leaf at newer → (blocks : ℕ → Option BlockNode) (all : List Version) (parts : List Part) → ShelfRepresents device old blocks
     → ColumnHas blocks (next_of old) all keys start parts leaf → ColumnHas (with_block n (old_leaf keys start at leaf) blocks) (next_of new) all keys at (parts ++ leaf_part start n ∷ []) newer
-column_split device old new n keys start at leaf newer honest keeps settles forward in_time from blocks all parts says has = record {
-  shows = Shows-from all (current_range keys start) leaf newer at (omega arith) in_time from has.shows;
-  past = past_pushed device old new n keys start at leaf honest keeps settles forward blocks all parts says
-      (Shows-cut all (current_range keys start) (until (current_range keys start) at) leaf (omega arith) (omega arith) refl (omega arith) has.shows) has.past;
+column_split device old new n keys start at leaf newer honest keeps settles forward in_time from blocks all parts represents_node has = record {
+  shows = LeafRepresents-from all (current_range keys start) leaf newer at (omega arith) in_time from has.shows;
+  past = past_pushed device old new n keys start at leaf honest keeps settles forward blocks all parts represents_node
+      (LeafRepresents-cut all (current_range keys start) (until (current_range keys start) at) leaf (omega arith) (omega arith) refl (omega arith) has.shows) has.past;
 }
 
 -- all parts become one
 pub past_moved : {O Pen Seen : Type 0} (device : Ghosts O Pen Seen) (old new : Shelf O Pen Seen) (n : ℕ) (keys : Keys) (at : ℕ) (parts : List Part) → device.honest (disk_of old) (pen_of old) → KeepsShelf device old new (Ok n)
-    → SettlesAs device old new n (old_column keys at parts) → 0 < at → (blocks : ℕ → Option BlockNode) (all : List Version) → ShelfSays device old blocks
-    → PastStands blocks (next_of old) all keys at parts → PastStands (with_block n (old_column keys at parts) blocks) (next_of new) all keys at (column_part n ∷ [])
-past_moved device old new n keys at parts honest keeps settles some blocks all says past =
-    PastStands-moved blocks (with_block n (old_column keys at parts) blocks) (next_of old) (next_of new) all keys at n parts (settles.grows blocks says) some
+    → SettlesAs device old new n (old_column keys at parts) → 0 < at → (blocks : ℕ → Option BlockNode) (all : List Version) → ShelfRepresents device old blocks
+    → PartsRepresent blocks (next_of old) all keys at parts → PartsRepresent (with_block n (old_column keys at parts) blocks) (next_of new) all keys at (column_part n ∷ [])
+past_moved device old new n keys at parts honest keeps settles some blocks all represents_node past =
+    PartsRepresent-moved blocks (with_block n (old_column keys at parts) blocks) (next_of old) (next_of new) all keys at n parts (settles.grows blocks represents_node) some
     (keeps.puts honest).blank.forward (omega (arith, keeps.next)) (with_at n (old_column keys at parts) blocks) past
 
 all_front : (P : ℕ → Type 0) (ns : List ℕ) (at : ℕ) → AllByRecursion P (ns ++ at ∷ []) → AllByRecursion P ns × P at

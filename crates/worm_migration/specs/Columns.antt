@@ -5,16 +5,16 @@ use Rattle.version_model.specs.declared.part.Part.{Part}
 use Rattle.version_model.specs.declared.part.PartKind.TheVariants.{LeafBlock, ColumnBlock}
 use Rattle.version_model.specs.Versions.{Version}
 use Rattle.version_model.specs.Ranges.{until}
-use Rattle.version_model.specs.Shows.{Shows}
+use Rattle.version_model.specs.LeafVersions.{LeafRepresents}
 use Rattle.version_model.specs.Blocks.{BlockNode, OldLeaf, OldColumn}
-use Rattle.version_model.specs.Pages.{Keys, PastStands, past_range, current_range}
+use Rattle.version_model.specs.Pages.{Keys, PartsRepresent, past_range, current_range}
 use Rattle.tsb_node.specs.Nodes.{AreInOrder}
 use Rattle.tsb_node.specs.Columns.{AreAscending, BeginsAt, starts_of}
 
 -- a column's parts and its current leaf have the versions of its keys: the leaf those from its start on, the parts those before
 pub record ColumnHas (blocks : ℕ → Option BlockNode) (next : ℕ) (all : List Version) (keys : Keys) (start : ℕ) (parts : List Part) (leaf : List Version) : Type 0 where
-  pub shows : Shows all (current_range keys start) leaf
-  pub past : PastStands blocks next all keys start parts
+  pub shows : LeafRepresents all (current_range keys start) leaf
+  pub past : PartsRepresent blocks next all keys start parts
 
 -- the leaf of these keys that begins at `start`, as it was until a later stamp, in a block
 abbrev pub old_leaf : Keys → ℕ → ℕ → List Version → BlockNode

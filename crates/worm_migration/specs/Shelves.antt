@@ -8,7 +8,7 @@ use Rattle.once_store.specs.Shelves.{AllTried, AreTriedBelow, IsFirstBlank, Spen
 use Rattle.version_model.specs.Blocks.{BlockNode, Grows as BlocksGrow}
 use Rattle.worm_migration.specs.declared.error.MigrationError.{MigrationError}
 use Rattle.worm_migration.specs.declared.error.MigrationError.TheVariants.{Fault, OnceFull, OutOfMemory}
-use Rattle.worm_migration.specs.Settled.{HasSettledAs, ShelfSays, with_block}
+use Rattle.worm_migration.specs.Settled.{HasSettledAs, ShelfRepresents, with_block}
 
 -- the number of the block that a result names, or the error
 abbrev pub reported : {A : Type 0} → (A → ℕ) → Result A MigrationError → Result ℕ MigrationError
@@ -47,10 +47,10 @@ pub record KeepsShelf {O Pen Seen : Type 0} (device : Ghosts O Pen Seen) (old ne
   pub counted : IsErrOf result Fault → device.pen_fault_count (pen_of new) ≡ min (device.pen_fault_count (pen_of old) + 1) 18446744073709551615
   pub puts : device.honest (disk_of old) (pen_of old) → PutsBlock (device.block_count (disk_of old)) (next_of old) (next_of new) (device.model (pen_of old)) (device.model (pen_of new)) result
 
--- The block is settled and says the node. Whatever the settled blocks of before say, it is none of them, and they say the same still
--- when it says its node.
+-- The block is settled and represents the node. Whatever the settled blocks of before represent, it is none of them, and they represent the same still
+-- when it represents its node.
 pub record SettlesAs {O Pen Seen : Type 0} (device : Ghosts O Pen Seen) (old new : Shelf O Pen Seen) (n : ℕ) (node : BlockNode) : Type 0 where
   pub settled : HasSettledAs device new n node
-  pub fresh : (blocks : ℕ → Option BlockNode) → ShelfSays device old blocks → blocks n ≡ None
-  pub says : (blocks : ℕ → Option BlockNode) → ShelfSays device old blocks → ShelfSays device new (with_block n node blocks)
-  pub grows : (blocks : ℕ → Option BlockNode) → ShelfSays device old blocks → BlocksGrow blocks (with_block n node blocks)
+  pub fresh : (blocks : ℕ → Option BlockNode) → ShelfRepresents device old blocks → blocks n ≡ None
+  pub represents_node : (blocks : ℕ → Option BlockNode) → ShelfRepresents device old blocks → ShelfRepresents device new (with_block n node blocks)
+  pub grows : (blocks : ℕ → Option BlockNode) → ShelfRepresents device old blocks → BlocksGrow blocks (with_block n node blocks)

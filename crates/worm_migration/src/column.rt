@@ -4,10 +4,10 @@ ghost use Rattle.std.specs.Prelude.{◌≡◌, ◌∷◌, [], ℕ, List, Option,
 ghost use Rattle.once_store.specs.Shelves.{disk_of, next_of, pen_of};
 ghost use Rattle.version_model.specs.Versions.{Version};
 ghost use Rattle.version_model.specs.Blocks.{BlockNode};
-ghost use Rattle.version_model.specs.Pages.{PastStands};
+ghost use Rattle.version_model.specs.Pages.{PartsRepresent};
 ghost use Rattle.tsb_node.specs.Views.{keys_between};
 ghost use Rattle.worm_migration.specs.Columns.{AreWholePast, column_part, old_column};
-ghost use Rattle.worm_migration.specs.Settled.{ShelfSays, with_block};
+ghost use Rattle.worm_migration.specs.Settled.{ShelfRepresents, with_block};
 ghost use Rattle.worm_migration.specs.Shelves.{KeepsShelf, SettlesAs, reported};
 
 use crate::error::MigrationError;
@@ -33,9 +33,9 @@ pub fn migrate_column<O: OnceDisk + Drop>(
     ensures settled { O.honest (disk_of shelf.old) (pen_of shelf.old)
         → IfOk result (λ part. SettlesAs O.OnceDisk shelf.old shelf.new part.block (old_column (keys_between bounds.now) at parts.now)) }
     ensures past { O.honest (disk_of shelf.old) (pen_of shelf.old)
-        → IfOk result (λ part. (blocks : ℕ → Option BlockNode) (all : List Version) → ShelfSays O.OnceDisk shelf.old blocks
-        → PastStands blocks (next_of shelf.old) all (keys_between bounds.now) at parts.now
-        → PastStands (with_block part.block (old_column (keys_between bounds.now) at parts.now) blocks) (next_of shelf.new) all (keys_between bounds.now) at (part ∷ [])) }
+        → IfOk result (λ part. (blocks : ℕ → Option BlockNode) (all : List Version) → ShelfRepresents O.OnceDisk shelf.old blocks
+        → PartsRepresent blocks (next_of shelf.old) all (keys_between bounds.now) at parts.now
+        → PartsRepresent (with_block part.block (old_column (keys_between bounds.now) at parts.now) blocks) (next_of shelf.new) all (keys_between bounds.now) at (part ∷ [])) }
 {
     let past = Bounds {
         low: bounds.low,

@@ -5,14 +5,14 @@ ghost use Rattle.once_store.specs.Shelves.{disk_of, next_of, pen_of};
 ghost use Rattle.version_model.specs.declared.part.Part.{Part};
 ghost use Rattle.version_model.specs.Versions.{Version};
 ghost use Rattle.version_model.specs.Ranges.{until};
-ghost use Rattle.version_model.specs.Shows.{IsFrom, Shows};
+ghost use Rattle.version_model.specs.LeafVersions.{IsFrom, LeafRepresents};
 ghost use Rattle.version_model.specs.Blocks.{BlockNode};
-ghost use Rattle.version_model.specs.Pages.{PastStands, current_range};
+ghost use Rattle.version_model.specs.Pages.{PartsRepresent, current_range};
 ghost use Rattle.version_model.specs.Sizes.{octets};
 ghost use Rattle.tsb_node.specs.Leaves.{CanBeLeaf, IsLeafPage, LeafNode};
 ghost use Rattle.tsb_node.specs.Views.{keys_between};
 ghost use Rattle.worm_migration.specs.Columns.{ColumnHas, leaf_part, old_leaf};
-ghost use Rattle.worm_migration.specs.Settled.{ShelfSays, with_block};
+ghost use Rattle.worm_migration.specs.Settled.{ShelfRepresents, with_block};
 ghost use Rattle.worm_migration.specs.Shelves.{KeepsShelf, SettlesAs, reported};
 
 use crate::error::MigrationError;
@@ -38,9 +38,9 @@ pub fn settle_leaf_page<O: OnceDisk + Drop>(
     ensures settled { O.honest (disk_of shelf.old) (pen_of shelf.old) → (leaf : LeafNode) → IsLeafPage leaf page.now → leaf.bounds.start < at
         → IfOk result (λ n. SettlesAs O.OnceDisk shelf.old shelf.new n (old_leaf (keys_between leaf.bounds) leaf.bounds.start at leaf.versions)) }
     ensures past { O.honest (disk_of shelf.old) (pen_of shelf.old) → (leaf : LeafNode) → IsLeafPage leaf page.now → leaf.bounds.start < at
-        → IfOk result (λ n. (blocks : ℕ → Option BlockNode) (all : List Version) (parts : List Part) → ShelfSays O.OnceDisk shelf.old blocks → Shows all (until (current_range (keys_between leaf.bounds) leaf.bounds.start) at) leaf.versions
-        → PastStands blocks (next_of shelf.old) all (keys_between leaf.bounds) leaf.bounds.start parts
-        → PastStands (with_block n (old_leaf (keys_between leaf.bounds) leaf.bounds.start at leaf.versions) blocks) (next_of shelf.new) all (keys_between leaf.bounds) at (parts ++ leaf_part leaf.bounds.start n ∷ [])) }
+        → IfOk result (λ n. (blocks : ℕ → Option BlockNode) (all : List Version) (parts : List Part) → ShelfRepresents O.OnceDisk shelf.old blocks → LeafRepresents all (until (current_range (keys_between leaf.bounds) leaf.bounds.start) at) leaf.versions
+        → PartsRepresent blocks (next_of shelf.old) all (keys_between leaf.bounds) leaf.bounds.start parts
+        → PartsRepresent (with_block n (old_leaf (keys_between leaf.bounds) leaf.bounds.start at leaf.versions) blocks) (next_of shelf.new) all (keys_between leaf.bounds) at (parts ++ leaf_part leaf.bounds.start n ∷ [])) }
 {
     let mut block = Block::new(alloc)?;
     seal_leaf(page, at, &mut block);
@@ -63,9 +63,9 @@ pub fn settle_leaf<O: OnceDisk + Drop>(
     ensures settled { O.honest (disk_of shelf.old) (pen_of shelf.old)
         → IfOk result (λ n. SettlesAs O.OnceDisk shelf.old shelf.new n (old_leaf (keys_between bounds.now) bounds.now.start at leaf.now)) }
     ensures past { O.honest (disk_of shelf.old) (pen_of shelf.old)
-        → IfOk result (λ n. (blocks : ℕ → Option BlockNode) (all : List Version) (parts : List Part) → ShelfSays O.OnceDisk shelf.old blocks → Shows all (until (current_range (keys_between bounds.now) bounds.now.start) at) leaf.now
-        → PastStands blocks (next_of shelf.old) all (keys_between bounds.now) bounds.now.start parts
-        → PastStands (with_block n (old_leaf (keys_between bounds.now) bounds.now.start at leaf.now) blocks) (next_of shelf.new) all (keys_between bounds.now) at (parts ++ leaf_part bounds.now.start n ∷ [])) }
+        → IfOk result (λ n. (blocks : ℕ → Option BlockNode) (all : List Version) (parts : List Part) → ShelfRepresents O.OnceDisk shelf.old blocks → LeafRepresents all (until (current_range (keys_between bounds.now) bounds.now.start) at) leaf.now
+        → PartsRepresent blocks (next_of shelf.old) all (keys_between bounds.now) bounds.now.start parts
+        → PartsRepresent (with_block n (old_leaf (keys_between bounds.now) bounds.now.start at leaf.now) blocks) (next_of shelf.new) all (keys_between bounds.now) at (parts ++ leaf_part bounds.now.start n ∷ [])) }
 {
     let mut page = Page::new(alloc)?;
     write_leaf(&mut page, bounds, leaf.entries());
@@ -98,7 +98,7 @@ pub fn migrate_leaf<O: OnceDisk + Drop>(
     ensures size { IfOk result (λ migrated. octets migrated.newer ≤ octets leaf.now) }
     ensures same { IfOk result (λ migrated. length migrated.newer ≡ length leaf.now → migrated.newer ≡ leaf.now) }
     ensures column { O.honest (disk_of shelf.old) (pen_of shelf.old)
-        → IfOk result (λ migrated. (blocks : ℕ → Option BlockNode) (all : List Version) (parts : List Part) → ShelfSays O.OnceDisk shelf.old blocks
+        → IfOk result (λ migrated. (blocks : ℕ → Option BlockNode) (all : List Version) (parts : List Part) → ShelfRepresents O.OnceDisk shelf.old blocks
         → ColumnHas blocks (next_of shelf.old) all (keys_between bounds.now) bounds.now.start parts leaf.now
         → ColumnHas (with_block migrated.block (old_leaf (keys_between bounds.now) bounds.now.start at leaf.now) blocks) (next_of shelf.new) all (keys_between bounds.now) at (parts ++ leaf_part bounds.now.start migrated.block ∷ []) migrated.newer) }
 {

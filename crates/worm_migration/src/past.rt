@@ -4,13 +4,13 @@ ghost use Rattle.std.specs.Prelude.{◌≡◌, ◌+◌, ◌<◌, ◌^◌, ◌∷
 ghost use Rattle.once_store.specs.Shelves.{disk_of, next_of, pen_of};
 ghost use Rattle.version_model.specs.Versions.{Version};
 ghost use Rattle.version_model.specs.Ranges.{until};
-ghost use Rattle.version_model.specs.Shows.{Shows};
+ghost use Rattle.version_model.specs.LeafVersions.{LeafRepresents};
 ghost use Rattle.version_model.specs.Blocks.{BlockNode};
-ghost use Rattle.version_model.specs.Pages.{PastStands, current_range};
+ghost use Rattle.version_model.specs.Pages.{PartsRepresent, current_range};
 ghost use Rattle.tsb_node.specs.Leaves.{IsLeafPage, LeafNode};
 ghost use Rattle.tsb_node.specs.Views.{keys_between};
 ghost use Rattle.worm_migration.specs.Columns.{leaf_part, old_leaf};
-ghost use Rattle.worm_migration.specs.Settled.{ShelfSays, with_block};
+ghost use Rattle.worm_migration.specs.Settled.{ShelfRepresents, with_block};
 ghost use Rattle.worm_migration.specs.Shelves.{KeepsShelf, SettlesAs};
 
 use crate::error::MigrationError;
@@ -45,9 +45,9 @@ pub fn settle_part<O: OnceDisk + Drop>(
     ensures pushed { IfOk result (λ n. parts.new.items ≡ parts.old.items ++ leaf_part start n ∷ []) }
     ensures kept { OnErr result (parts.new.items ≡ parts.old.items) }
     ensures past { O.honest (disk_of shelf.old) (pen_of shelf.old) → (leaf : LeafNode) → IsLeafPage leaf page.now → leaf.bounds.start ≡ start → start < at
-        → IfOk result (λ n. (blocks : ℕ → Option BlockNode) (all : List Version) → ShelfSays O.OnceDisk shelf.old blocks → Shows all (until (current_range (keys_between leaf.bounds) start) at) leaf.versions
-        → PastStands blocks (next_of shelf.old) all (keys_between leaf.bounds) start parts.old.items
-        → PastStands (with_block n (old_leaf (keys_between leaf.bounds) start at leaf.versions) blocks) (next_of shelf.new) all (keys_between leaf.bounds) at parts.new.items) }
+        → IfOk result (λ n. (blocks : ℕ → Option BlockNode) (all : List Version) → ShelfRepresents O.OnceDisk shelf.old blocks → LeafRepresents all (until (current_range (keys_between leaf.bounds) start) at) leaf.versions
+        → PartsRepresent blocks (next_of shelf.old) all (keys_between leaf.bounds) start parts.old.items
+        → PartsRepresent (with_block n (old_leaf (keys_between leaf.bounds) start at leaf.versions) blocks) (next_of shelf.new) all (keys_between leaf.bounds) at parts.new.items) }
 {
     parts.reserve(1)?;
     let block = settle_leaf_page(shelf, alloc, page, at)?;

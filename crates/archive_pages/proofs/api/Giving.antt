@@ -10,7 +10,7 @@ use Rattle.interleaving_core.specs.Steps.{given}
 use Rattle.interleaving_core.proofs.api.Right.{right_given}
 use Rattle.archive_head.specs.declared.lane.Lane.{Lane}
 use Rattle.archive_head.specs.Head.{Contents}
-use Rattle.intake.specs.Ring.{octets_for, Gains, Holds, Stands}
+use Rattle.intake.specs.Ring.{octets_for, Gains, RingRepresents, RepresentsAlone}
 use Rattle.archive_pages.specs.declared.settings.Settings.{Settings}
 use Rattle.archive_pages.specs.Places.{ring_of}
 use Rattle.archive_pages.specs.Represented.{TreeOn, IsFramed, HeadRepresents}
@@ -35,17 +35,17 @@ lane_is_given lane before batch kept is =
 -- Where the collector's ring gained what is kept of a batch, and no page of another owner changed, the history was given the batch.
 pub shows_given : (Tree : TreeOn) (s : Settings) (settled : ℕ → List ℕ → Type 0) → IsFramed Tree settled → (shows : List (List ℕ) → Type 0) (head : Contents) (old : List (List ℕ)) (h : History) (c : ℕ) (batch : List Admitted) (kept : Kept) (lane : Lane) (i : Intake)
     → HeadRepresents Tree s settled head old h → AllByRecursion IsAdmission batch → HasLane head c lane → slice_get h.intakes c ≡ Some i → IsKeptOf i.mark batch kept
-    → ((waits : List Admitted) → Holds old (ring_of s c lane) waits → Gains shows old (ring_of s c (lane_with lane kept)) (waits ++ kept.timely))
+    → ((waits : List Admitted) → RingRepresents old (ring_of s c lane) waits → Gains shows old (ring_of s c (lane_with lane kept)) (waits ++ kept.timely))
     → Shows Tree s settled shows (with_lane head c (lane_with lane kept)) (given h c batch)
 shows_given Tree s settled framed shows head old h c batch kept lane i b valid at here is gains =
     let own = b.lanes c lane i at here in
     let gained = gains (part c (waiting h)) own.holds in
     let used = lane.used + octets_for kept.timely in
     let same = lane_is_given lane i.mark batch kept is in
-    let stands : Stands gained.pages (record (ring_of s c lane) { used = used }) (part c (waiting h) ++ timely admitted_time i.mark [] batch) = subst (λ (l : List Admitted). Stands gained.pages (record (ring_of s c lane) { used = used }) (part c (waiting h) ++ l)) is.items gained.stands in
+    let represents_all : RepresentsAlone gained.pages (record (ring_of s c lane) { used = used }) (part c (waiting h) ++ timely admitted_time i.mark [] batch) = subst (λ (l : List Admitted). RepresentsAlone gained.pages (record (ring_of s c lane) { used = used }) (part c (waiting h) ++ l)) is.items gained.represents_all in
     record {
       pages = gained.pages;
       shown = gained.shown;
       head_represents = subst (λ (l : Lane). HeadRepresents Tree s settled (with_lane head c l) gained.pages (given h c batch)) (sym same)
-          (head_represents_given Tree s settled framed head old gained.pages h c batch lane i used b (right_given h c batch valid b.right) at here (record { count = gained.changes.count; below = gained.changes.below; above = gained.changes.above }) stands);
+          (head_represents_given Tree s settled framed head old gained.pages h c batch lane i used b (right_given h c batch valid b.right) at here (record { count = gained.changes.count; below = gained.changes.below; above = gained.changes.above }) represents_all);
     }

@@ -10,11 +10,11 @@ use Rattle.interleaving_core.specs.Steps.{changed, moved}
 use Rattle.route_history.specs.Kept.{timed, AreVersions}
 use Rattle.archive_head.specs.declared.lane.Lane.{Lane}
 use Rattle.archive_head.specs.Head.{Contents}
-use Rattle.intake.specs.Ring.{entry, Holds}
+use Rattle.intake.specs.Ring.{entry, RingRepresents}
 use Rattle.intake.proofs.api.Leaving.{holds_popped, is_ring_popped}
 use Rattle.archive_pages.specs.declared.settings.Settings.{Settings}
 use Rattle.archive_pages.specs.Places.{SamePages, ring_low, ring_of}
-use Rattle.archive_pages.specs.Represented.{TreeOn, LaneStands, HeadRepresents, last_time}
+use Rattle.archive_pages.specs.Represented.{TreeOn, LaneRepresents, HeadRepresents, last_time}
 use Rattle.archive_pages.specs.Changes.{next_change, head_moved, lane_popped, Takes}
 use Rattle.archive_pages.proofs.Lanes.{lanes_changed, lane_framed, ring_before_tree}
 use Rattle.archive_pages.proofs.Timing.{timed_part, timed_whole, versions_more, last_time-append}
@@ -22,7 +22,7 @@ use Rattle.archive_pages.proofs.Timing.{timed_part, timed_whole, versions_more, 
 moved_with : (Tree : TreeOn) (s : Settings) (settled few : ℕ → List ℕ → Type 0) (head : Contents) (some fresh block root : ℕ) (lanes : List Lane) (old new : List (List ℕ)) (h g : History) (next : Placed Admitted)
     → (b : HeadRepresents Tree s few head old h) → IsHistory g → g.intakes ≡ h.intakes → timed (applied g) ≡ timed (applied h) ++ next_change some next
     → Takes Tree s settled head (head_moved head some next g.some fresh block root lanes) some next b.versions old new → length lanes ≡ length head.lanes
-    → ((k : ℕ) (l : Lane) (j : Intake) → slice_get lanes k ≡ Some l → slice_get g.intakes k ≡ Some j → LaneStands s new k l j (part k (waiting g)))
+    → ((k : ℕ) (l : Lane) (j : Intake) → slice_get lanes k ≡ Some l → slice_get g.intakes k ≡ Some j → LaneRepresents s new k l j (part k (waiting g)))
     → HeadRepresents Tree s settled (head_moved head some next g.some fresh block root lanes) new g
 moved_with Tree s settled few head some fresh block root lanes old new h g next b right is changes t len stand =
     record {
@@ -75,13 +75,13 @@ head_represents_whole Tree s settled few head fresh block root old new h next la
     let n = b.lanes_number in
     let own = lane_framed s old new c lane i (part c (waiting h)) t.changes.count (beyond c (let w = slice_get_within head.lanes c lane at in omega arith)) (b.lanes c lane i at there) in
     let first : part c (waiting h) ≡ next.item ∷ part c later = ap (part c) here ∙ rw (eq-eqb c c refl) refl in
-    let held = subst (Holds new (ring_of s c lane)) first own.holds in
+    let held = subst (RingRepresents new (ring_of s c lane)) first own.holds in
     let fits : length (entry next.item) ≤ lane.used = (let size = held.size in let both = length-append (entry next.item) (flat_map entry (part c later)) in omega arith) in
     let place = is_ring_popped (length new) (ring_of s c lane) next.item fits own.place in
     let holds = holds_popped new (ring_of s c lane) next.item (part c later) own.place.start own.place.used held in
     moved_with Tree s settled few head h.some fresh block root (slice_set head.lanes c lane') old new h g next b right refl (timed_whole h next later here le) t (length-set head.lanes c lane')
     (lanes_changed s old new h g c (λ j. j) head.lanes lane' i (sym (changed_none c h.intakes)) there (slice_get_within head.lanes c lane at) b.lanes
-    (record { offered = own.offered; admitted = own.admitted; mark = own.mark; place = place; holds = subst (λ l. Holds new (ring_of s c lane') (part c l)) (sym waits) holds })
+    (record { offered = own.offered; admitted = own.admitted; mark = own.mark; place = place; holds = subst (λ l. RingRepresents new (ring_of s c lane') (part c l)) (sym waits) holds })
     t.changes.count
     (λ k ne lt. beyond k (omega arith))
     (λ k j ne had. ap (part k) waits ∙ sym (ap (part k) here ∙ rw (ne_eqb c k (λ e. ne (sym e))) refl)))

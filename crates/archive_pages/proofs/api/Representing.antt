@@ -9,10 +9,10 @@ use Rattle.route_meaning.specs.Holds.{admitted_time}
 use Rattle.route_meaning.specs.History.{Intake, History, IsHistory, waiting}
 use Rattle.sequencer.specs.Late.{timely}
 use Rattle.interleaving_core.specs.Steps.{with_batch, with_mark, given, marked}
-use Rattle.route_history.specs.Kept.{timed, Kept}
+use Rattle.route_history.specs.Kept.{timed, HaveVersions}
 use Rattle.archive_head.specs.declared.lane.Lane.{Lane}
 use Rattle.archive_head.specs.Head.{Contents, head_octets, IsHead}
-use Rattle.intake.specs.Ring.{page_at, ChangesOnly, Holds, Stands}
+use Rattle.intake.specs.Ring.{page_at, ChangesOnly, RingRepresents, RepresentsAlone}
 use Rattle.archive_pages.specs.declared.settings.Settings.{Settings}
 use Rattle.archive_pages.specs.Places.{ring_of, tree_low}
 use Rattle.archive_pages.specs.Represented.{TreeOn, IsFramed, IsGrowing, HeadRepresents, PagesRepresent, last_time}
@@ -76,13 +76,13 @@ head_represents_marked Tree s settled head pages h c mark lane i b right at here
       number = length_changed c (with_mark mark) h.intakes ∙ b.number;
       lanes_number = length-set head.lanes c (record lane { mark = mark }) ∙ b.lanes_number;
       lanes = lanes_changed s pages pages h g c (with_mark mark) head.lanes (record lane { mark = mark }) i refl here (slice_get_within head.lanes c lane at) b.lanes
-          (record { offered = own.offered; admitted = own.admitted; mark = refl; place = own.place; holds = subst (Holds pages (ring_of s c lane)) (ap (part c) (sym waits)) own.holds })
+          (record { offered = own.offered; admitted = own.admitted; mark = refl; place = own.place; holds = subst (RingRepresents pages (ring_of s c lane)) (ap (part c) (sym waits)) own.holds })
           refl (λ k ne lt n ge below. refl) (λ k j ne there. ap (part k) waits);
       begun = b.begun;
       numbered = b.numbered ∙ ap (λ ps. length (timed ps)) (sym same);
       last = b.last ∙ ap (λ ps. last_time 0 (timed ps)) (sym same);
       versions = b.versions;
-      kept = subst (λ ps. Kept ps b.versions) (sym same) b.kept;
+      kept = subst (λ ps. HaveVersions ps b.versions) (sym same) b.kept;
       tree = b.tree;
     }
 
@@ -91,7 +91,7 @@ head_represents_marked Tree s settled head pages h c mark lane i b right at here
 -- The collector's ring gained what isn't late, and no page of another owner changed.
 pub head_represents_given : (Tree : TreeOn) (s : Settings) (settled : ℕ → List ℕ → Type 0) → IsFramed Tree settled → (head : Contents) (old new : List (List ℕ)) (h : History) (c : ℕ) (batch : List Admitted) (lane : Lane) (i : Intake) (used : ℕ)
     → HeadRepresents Tree s settled head old h → IsHistory (given h c batch) → slice_get head.lanes c ≡ Some lane → slice_get h.intakes c ≡ Some i
-    → ChangesOnly (ring_of s c lane) old new → Stands new (record (ring_of s c lane) { used = used }) (part c (waiting h) ++ timely admitted_time i.mark [] batch)
+    → ChangesOnly (ring_of s c lane) old new → RepresentsAlone new (record (ring_of s c lane) { used = used }) (part c (waiting h) ++ timely admitted_time i.mark [] batch)
     → HeadRepresents Tree s settled (with_lane head c (lane_given lane i.mark batch used)) new (given h c batch)
 head_represents_given Tree s settled framed head old new h c batch lane i used b right at here changes ring =
     let g = given h c batch in
@@ -112,7 +112,7 @@ head_represents_given Tree s settled framed head old new h c batch lane i used b
             admitted = (let a = own.admitted in let l = length-append i.admitted (timely admitted_time i.mark [] batch) in omega arith);
             mark = refl;
             place = ring.place;
-            holds = subst (Holds new (record (ring_of s c lane) { used = used })) (sym (waits_given h c batch b.right right i here)) ring.holds;
+            holds = subst (RingRepresents new (record (ring_of s c lane) { used = used })) (sym (waits_given h c batch b.right right i here)) ring.holds;
           })
           changes.count
           (λ k ne lt. elim (cases_lt k c) [
@@ -124,6 +124,6 @@ head_represents_given Tree s settled framed head old new h c batch lane i used b
       numbered = b.numbered ∙ ap (λ ps. length (timed ps)) (sym same);
       last = b.last ∙ ap (λ ps. last_time 0 (timed ps)) (sym same);
       versions = b.versions;
-      kept = subst (λ ps. Kept ps b.versions) (sym same) b.kept;
+      kept = subst (λ ps. HaveVersions ps b.versions) (sym same) b.kept;
       tree = framed (tree_low s) head.root head.fresh head.block _ b.versions old new changes.count (λ n le. changes.above n (omega arith)) b.tree;
     }

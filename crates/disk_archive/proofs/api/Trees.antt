@@ -19,9 +19,9 @@ pub tree_framed : (count : ℕ) (settled : ℕ → List ℕ → Type 0) → IsFr
 tree_framed count settled low root fresh block next_stamp versions old new len same t = record {
   level = t.level;
   store = t.store;
-  says = λ page node here. elim (cases_lt page low) [
+  represents_node = λ page node here. elim (cases_lt page low) [
     | inl lt ↦ absurd (not_own node (sym (t.own page lt) ∙ here))
-    | inr ge ↦ (let s = t.says page node here in record { octets = s.octets; at = same_page old new page s.octets len (same page ge) s.at; says = s.says })
+    | inr ge ↦ (let s = t.represents_node page node here in record { octets = s.octets; at = same_page old new page s.octets len (same page ge) s.at; represents_node = s.represents_node })
   ];
   own = t.own;
   limit = t.limit;
@@ -34,10 +34,10 @@ pub tree_grows : (count : ℕ) → IsGrowing (TreeLocated count)
 tree_grows count few many more low root fresh block next_stamp versions pages t = record {
   level = t.level;
   store = t.store;
-  says = t.says;
+  represents_node = t.represents_node;
   own = t.own;
   limit = t.limit;
-  blocks = λ n node here. (let b = t.blocks n node here in record { inside = b.inside; octets = b.octets; here = more n b.octets b.here; says = b.says });
+  blocks = λ n node here. (let b = t.blocks n node here in record { inside = b.inside; octets = b.octets; here = more n b.octets b.here; represents_node = b.represents_node });
   next = t.next;
   has = t.has;
 }

@@ -8,7 +8,7 @@ use Rattle.page_tx.specs.Start.{Start}
 use Rattle.route_model.specs.Admission.{Admitted}
 use Rattle.route_meaning.specs.Holds.{time_of}
 use Rattle.route_meaning.specs.Merged.{Placed, IsRising}
-use Rattle.route_history.specs.Kept.{Kept}
+use Rattle.route_history.specs.Kept.{HaveVersions}
 use Rattle.tsb_walk.specs.declared.error.NodeError.{NodeError}
 use Rattle.tsb_walk.specs.declared.error.NodeError.TheVariants as nodes
 use Rattle.tsb_walk.specs.Knowing.{ReadsWell}
@@ -60,4 +60,4 @@ pub record HasTree {P : Type 0} (pages : Ghosts P) (held : P) {O Pen Seen : Type
   pub versions : List Version
   pub located : TreeLocated (device.block_count (reader_disk reader)) shown (known_in (device.known seen)) low root fresh block stamp versions
   pub timely : IsRising time_of ps
-  pub kept : Kept ps versions
+  pub kept : HaveVersions ps versions

@@ -40,5 +40,5 @@ reported (Ok tx) = Ok tt
 reported (Err refused) = Err refused.error
 
 -- whatever a crash now leaves on the disk represents these pages
-abbrev pub Means : ℕ → List ℕ → DiskState → List (List ℕ) → Type 0
-Means homes note s pages = (c : ℕ → ℕ) → MayLeave s c → Recovers homes note c pages
+abbrev pub CrashRepresents : ℕ → List ℕ → DiskState → List (List ℕ) → Type 0
+CrashRepresents homes note s pages = (c : ℕ → ℕ) → MayLeave s c → Recovers homes note c pages

@@ -3,7 +3,7 @@ use Rattle.std.specs.Prelude.{ℕ, List, Option}
 use Rattle.page_tx.specs.declared.pages.Pages.{Ghosts}
 use Rattle.page_tx.specs.Start.{Start}
 use Rattle.route_meaning.specs.History.{History, IsHistory, applied}
-use Rattle.route_history.specs.Kept.{Kept}
+use Rattle.route_history.specs.Kept.{HaveVersions}
 use Rattle.route_history.specs.declared.rows_turn.RowsTurn.{RowsTurn}
 use Rattle.route_history.specs.declared.rows_turn.RowsTurn.TheVariants as rows
 use Rattle.route_history.specs.declared.events_turn.EventsTurn.{EventsTurn}
@@ -40,4 +40,4 @@ pub record HasPages {P : Type 0} (pages : Ghosts P) (held : P) (count : ℕ) (kn
   pub stamp : ℕ
   pub versions : List Version
   pub located : TreeLocated count shown (is_known known) low root fresh block stamp versions
-  pub kept : Kept (applied h) versions
+  pub kept : HaveVersions (applied h) versions

@@ -2,13 +2,13 @@
 use Rattle.std.proofs.Common.{◌<◌, ◌≤◌, ℕ, ◌+◌, ◌-◌, ◌∷◌, List, length, arith}
 use Rattle.route_model.specs.Admission.{Admitted}
 use Rattle.intake.specs.declared.ring.Ring.{Ring}
-use Rattle.intake.specs.Ring.{entry, size_of, wrapped, Holds, IsRing}
+use Rattle.intake.specs.Ring.{entry, size_of, wrapped, RingRepresents, IsRing}
 use Rattle.intake.proofs.Wrapping.{wrapped_low}
 use Rattle.intake.proofs.Entries.{holds_later}
 
 -- the ring of which the first admission is gone holds the others
-pub holds_popped : (pages : List (List ℕ)) (ring : Ring) (a : Admitted) (rest : List Admitted) → ring.first < size_of ring → ring.used ≤ size_of ring → Holds pages ring (a ∷ rest)
-    → Holds pages (record ring { first = wrapped (size_of ring) (ring.first + length (entry a)); used = ring.used - length (entry a) }) rest
+pub holds_popped : (pages : List (List ℕ)) (ring : Ring) (a : Admitted) (rest : List Admitted) → ring.first < size_of ring → ring.used ≤ size_of ring → RingRepresents pages ring (a ∷ rest)
+    → RingRepresents pages (record ring { first = wrapped (size_of ring) (ring.first + length (entry a)); used = ring.used - length (entry a) }) rest
 holds_popped pages ring a rest start used h = holds_later pages ring a rest start used h
 
 -- and is one still

@@ -3,7 +3,7 @@ use Rattle.std.specs.Prelude.{◌≡◌, ◌<◌, ◌≤◌, ℕ, zero, suc, ◌
 use Rattle.page_journal.specs.Layout.{Image}
 use Rattle.page_journal.specs.Recovers.{laid}
 use Rattle.intake.specs.declared.ring.Ring.{Ring}
-use Rattle.intake.specs.Ring.{page_at, wrapped, size_of, StandsIn}
+use Rattle.intake.specs.Ring.{page_at, wrapped, size_of, HasOctets}
 
 -- the numbers of n pages of a ring, from one on
 abbrev pub numbers_from : ℕ → ℕ → ℕ → ℕ → List ℕ
@@ -26,7 +26,7 @@ Covers ring begun n octets = (k : ℕ) → k < octets → image_of ring.count be
 -- If octets are in a ring with the old images laid over its pages, these follow them with the new ones.
 abbrev pub Writes : Ring → List ℕ → List Image → List Image → Type 0
 Writes ring octets old new = (pages : List (List ℕ)) (stood : List ℕ) → ring.low + ring.count ≤ length pages → length stood ≡ ring.used
-    → StandsIn (laid old pages) ring stood → StandsIn (laid new pages) ring (stood ++ octets)
+    → HasOctets (laid old pages) ring stood → HasOctets (laid new pages) ring (stood ++ octets)
 
 -- octets are all that the k-th page has on which they lie, from a place in the first of these pages on
 abbrev pub Fills : ℕ → ℕ → ℕ → Type 0

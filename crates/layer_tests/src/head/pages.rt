@@ -186,7 +186,7 @@ const LIMITS: [(usize, u64, bool); 5] = [
 #[test]
 fn a_time_and_a_mark_have_their_limits(rt: HostRuntime) {
     for (place, number, expected) in &LIMITS {
-        let stands = stands_with(rt.alloc(), *place, *number);
-        be_at(&rt, stands == Some(*expected), "a limit", *number);
+        let represents_all = stands_with(rt.alloc(), *place, *number);
+        be_at(&rt, represents_all == Some(*expected), "a limit", *number);
     }
 }

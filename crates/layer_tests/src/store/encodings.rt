@@ -116,8 +116,8 @@ fn refused(fault: ReadFault) -> Option<bool> {
 /// Writes again what a page says, where it is a leaf. Whether it is one.
 fn leaf_again(alloc: Global, page: &Page, fresh: &mut Page) -> Option<bool> {
     match leaf_of_page(alloc, page) {
-        Ok(said) => {
-            write_leaf(fresh, &said.bounds, &said.entries);
+        Ok(decoded) => {
+            write_leaf(fresh, &decoded.bounds, &decoded.entries);
             Some(true)
         }
         Err(fault) => refused(fault),
@@ -126,8 +126,8 @@ fn leaf_again(alloc: Global, page: &Page, fresh: &mut Page) -> Option<bool> {
 
 fn column_again(alloc: Global, page: &Page, fresh: &mut Page) -> Option<bool> {
     match column_of_page(alloc, page) {
-        Ok(said) => {
-            write_column(fresh, &said.bounds, &said.parts, said.current);
+        Ok(decoded) => {
+            write_column(fresh, &decoded.bounds, &decoded.parts, decoded.current);
             Some(true)
         }
         Err(fault) => refused(fault),
@@ -136,8 +136,8 @@ fn column_again(alloc: Global, page: &Page, fresh: &mut Page) -> Option<bool> {
 
 fn key_node_again(alloc: Global, page: &Page, fresh: &mut Page) -> Option<bool> {
     match key_node_of_page(alloc, page) {
-        Ok(said) => {
-            write_key_node(fresh, said.level, &said.bounds, &said.children);
+        Ok(decoded) => {
+            write_key_node(fresh, decoded.level, &decoded.bounds, &decoded.children);
             Some(true)
         }
         Err(fault) => refused(fault),
@@ -156,18 +156,18 @@ fn page_again(alloc: Global, kind: Kind, page: &Page, fresh: &mut Page) -> Optio
 /// Writes again what a block says, where it is a leaf. Whether it is one.
 fn leaf_block_again(alloc: Global, block: &Block, fresh: &mut Block) -> Option<bool> {
     match leaf_of_block(alloc, block) {
-        Ok(said) => {
-            let Some(end) = said.bounds.end else {
+        Ok(decoded) => {
+            let Some(end) = decoded.bounds.end else {
                 return None;
             };
             let bounds = Bounds {
-                low: said.bounds.low,
-                high: said.bounds.high,
-                start: said.bounds.start,
+                low: decoded.bounds.low,
+                high: decoded.bounds.high,
+                start: decoded.bounds.start,
                 end: None,
             };
             let mut page = Page::new(alloc).ok()?;
-            write_leaf(&mut page, &bounds, &said.entries);
+            write_leaf(&mut page, &bounds, &decoded.entries);
             seal_leaf(&page, end, fresh);
             Some(true)
         }
@@ -177,8 +177,8 @@ fn leaf_block_again(alloc: Global, block: &Block, fresh: &mut Block) -> Option<b
 
 fn column_block_again(alloc: Global, block: &Block, fresh: &mut Block) -> Option<bool> {
     match column_of_block(alloc, block) {
-        Ok(said) => {
-            write_old_column(fresh, &said.bounds, &said.parts);
+        Ok(decoded) => {
+            write_old_column(fresh, &decoded.bounds, &decoded.parts);
             Some(true)
         }
         Err(fault) => refused(fault),

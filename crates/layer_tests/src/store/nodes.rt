@@ -56,13 +56,13 @@ fn is_pushed(page: &mut Page, stamp: Stamp, value: Option<&[u8; 2]>) -> bool {
 
 /// Whether a leaf that begins with the bounds of a page gets its octets by two pushes.
 fn is_written(alloc: Global, expected: &Page) -> Option<bool> {
-    let said = leaf_of_page(alloc, expected).ok()?;
-    let bounds = said.bounds.low == key_of(0)
-        && said.bounds.high == Some(key_of(9))
-        && said.bounds.start == Stamp::new(0, 0)
-        && said.bounds.end.is_none();
+    let decoded = leaf_of_page(alloc, expected).ok()?;
+    let bounds = decoded.bounds.low == key_of(0)
+        && decoded.bounds.high == Some(key_of(9))
+        && decoded.bounds.start == Stamp::new(0, 0)
+        && decoded.bounds.end.is_none();
     let mut page = Page::new(alloc).ok()?;
-    start_leaf(&mut page, &said.bounds);
+    start_leaf(&mut page, &decoded.bounds);
     Some(
         bounds
             && is_pushed(&mut page, Stamp::new(258, 3), Some(&[170, 187]))

@@ -56,7 +56,7 @@ SharedIn f OutOfMemory = Unit {0}
 SharedIn f NotAJournal = ⊥
 
 -- the slot has what a post leaves, whether or not its gate is open
-pub record HoldsPost (homes : ℕ) (f : ℕ → ℕ) (slot : ℕ) : Type 0 where
+pub record HasPost (homes : ℕ) (f : ℕ → ℕ) (slot : ℕ) : Type 0 where
   pub some : 0 < image_count f slot
   pub few : image_count f slot ≤ 31
   pub inside : AreBelow homes (pages_of (images f slot))
@@ -64,7 +64,7 @@ pub record HoldsPost (homes : ℕ) (f : ℕ → ℕ) (slot : ℕ) : Type 0 where
 
 -- the page reported is the header of one of these slots, which has no post
 abbrev pub BadIn : ℕ → (ℕ → ℕ) → List ℕ → OpenError → Type 0
-BadIn homes f slots (BadNode page) = (slot : ℕ) × IsListed slot slots × (page ≡ 2 + 33 * slot) × (¬ HoldsPost homes f slot)
+BadIn homes f slots (BadNode page) = (slot : ℕ) × IsListed slot slots × (page ≡ 2 + 33 * slot) × (¬ HasPost homes f slot)
 BadIn homes f slots Fault = Unit {0}
 BadIn homes f slots OutOfMemory = Unit {0}
 BadIn homes f slots NotAJournal = ⊥

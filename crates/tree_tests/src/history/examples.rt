@@ -27,7 +27,7 @@ impl Example {
     }
 
     /// A peer says something at a time. Whether it is kept.
-    fn says(&mut self, time: u32, peer: Peer, said: Said) -> bool {
+    fn represents_node(&mut self, time: u32, peer: Peer, said: Said) -> bool {
         match change_of(self.alloc, peer, said) {
             Some(change) => self.store.apply(moment_of(time), &change).is_some(),
             None => false,
@@ -72,10 +72,10 @@ fn wide_prefix(third: u8, length: u8) -> Prefix {
 fn says_wide(example: &mut Example) -> bool {
     let peer = peer_of(0, 65001);
     let other = Prefix::containing(Address::V4([32, 1, 13, 184]), 32);
-    example.says(5, peer, Said::Announces(wide_prefix(7, 48), 2))
-        && example.says(5, peer, Said::Announces(wide_prefix(0, 32), 1))
-        && example.says(5, peer, Said::Announces(other, 4))
-        && example.says(6, peer, Said::Announces(wide_prefix(0, 0), 3))
+    example.represents_node(5, peer, Said::Announces(wide_prefix(7, 48), 2))
+        && example.represents_node(5, peer, Said::Announces(wide_prefix(0, 32), 1))
+        && example.represents_node(5, peer, Said::Announces(other, 4))
+        && example.represents_node(6, peer, Said::Announces(wide_prefix(0, 0), 3))
 }
 
 #[test]
@@ -98,8 +98,8 @@ fn a_route_is_found_by_an_address_that_it_covers(rt: HostRuntime) {
 /// Two peers announce 10.1.0.0/16. Whether that is kept.
 fn say_both(example: &mut Example) -> bool {
     let set = Prefix::containing(Address::V4([10, 1, 2, 3]), 16);
-    example.says(5, peer_of(0, 65001), Said::Announces(set, 1))
-        && example.says(5, peer_of(1, 65001), Said::Announces(set, 2))
+    example.represents_node(5, peer_of(0, 65001), Said::Announces(set, 1))
+        && example.represents_node(5, peer_of(1, 65001), Said::Announces(set, 2))
 }
 
 #[test]
@@ -131,12 +131,12 @@ fn bits_past_the_length_of_a_prefix_count_for_nothing(rt: HostRuntime) {
 fn say_an_end(example: &mut Example) -> bool {
     let peer = peer_of(0, 65001);
     let first = prefix_of(0, 0, 16);
-    example.says(7, peer, Said::Announces(first, 1))
-        && example.says(7, peer, Said::Announces(prefix_of(1, 0, 16), 2))
-        && example.says(7, peer_of(0, 65002), Said::Announces(first, 3))
-        && example.says(8, peer, Said::Ends)
-        && example.says(8, peer, Said::Announces(first, 4))
-        && example.says(9, peer, Said::Withdraws(first))
+    example.represents_node(7, peer, Said::Announces(first, 1))
+        && example.represents_node(7, peer, Said::Announces(prefix_of(1, 0, 16), 2))
+        && example.represents_node(7, peer_of(0, 65002), Said::Announces(first, 3))
+        && example.represents_node(8, peer, Said::Ends)
+        && example.represents_node(8, peer, Said::Announces(first, 4))
+        && example.represents_node(9, peer, Said::Withdraws(first))
 }
 
 /// A moment, and all rows.
@@ -204,7 +204,7 @@ fn table_of(alloc: Global, count: u16) -> Option<Example> {
     for number in 0..count {
         let [high, low] = number.to_be_bytes();
         let prefix = prefix_of(high, low, 24);
-        if !example.says(5, peer_of(0, 65001), Said::Announces(prefix, 1)) {
+        if !example.represents_node(5, peer_of(0, 65001), Said::Announces(prefix, 1)) {
             return None;
         }
     }
@@ -283,7 +283,7 @@ fn an_answer_has_256_rows_and_reports_whether_more_follow(rt: HostRuntime) {
 fn ends_of(alloc: Global) -> Option<Example> {
     let mut example = Example::new(alloc)?;
     for time in 0..257u32 {
-        if !example.says(time, peer_of(0, 65001), Said::Ends) {
+        if !example.represents_node(time, peer_of(0, 65001), Said::Ends) {
             return None;
         }
     }

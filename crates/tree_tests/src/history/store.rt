@@ -248,7 +248,7 @@ impl Past {
 
 impl Versions for ListStore {
     // Of a store of tests nothing is proved.
-    ghost stands = { λ store blocks all. ⊥ };
+    ghost represents_all = { λ store blocks all. ⊥ };
 
     fn next(&mut self, from: Key, stamp: Stamp) -> Result<Looked, NodeError> {
         if let Some(place) = self.past

@@ -59,7 +59,7 @@ fn value_in(blocks: &mut Blocks, place: &Place, key: u8, stamp: u64) -> [u64; 3]
 }
 
 /// Whether blocks say it at each n-th stamp of all, and at the last one.
-fn says(blocks: &mut Blocks, rows: &[Row], span: &Span, n: u64) -> bool {
+fn represents_node(blocks: &mut Blocks, rows: &[Row], span: &Span, n: u64) -> bool {
     let place = place_of(span);
     for stamp in span.from..span.to {
         let is_asked = stamp.checked_rem(n) == Some(0) || stamp.saturating_add(1) == span.to;
@@ -79,7 +79,7 @@ pub(super) fn is_part(
     n: u64,
 ) -> bool {
     match Blocks::of(alloc, shelf, 2) {
-        Some(mut blocks) => says(&mut blocks, rows, &span, n),
+        Some(mut blocks) => represents_node(&mut blocks, rows, &span, n),
         None => false,
     }
 }

@@ -168,8 +168,8 @@ fn a_full_column_becomes_one_block_and_so_once_more(rt: HostRuntime) {
         full.block == 648 && shelf.next() == 649,
         "the block after 648 leaves",
     );
-    let says = is_part(alloc, &mut shelf, &rows, until(full, 648), 1);
-    be(&rt, says, "what it says");
+    let represents_node = is_part(alloc, &mut shelf, &rows, until(full, 648), 1);
+    be(&rt, represents_node, "what it represents_node");
     // The block is the first part of a column that becomes a block.
     let later = later_part(alloc, &mut shelf, &rows, full).expect(&rt, "a later column");
     be(
@@ -177,8 +177,8 @@ fn a_full_column_becomes_one_block_and_so_once_more(rt: HostRuntime) {
         later.block == 652 && shelf.next() == 653,
         "the block after three leaves more",
     );
-    let says = is_part(alloc, &mut shelf, &rows, until(later, 651), 25);
-    be(&rt, says, "what it says");
+    let represents_node = is_part(alloc, &mut shelf, &rows, until(later, 651), 25);
+    be(&rt, represents_node, "what it represents_node");
 }
 
 /// Whether a column in a page isn't migrated since the disk of two blocks is full.
@@ -200,9 +200,9 @@ fn a_column_of_one_part_becomes_a_block(rt: HostRuntime) {
     let page = column_page(alloc, &[(start, kind, block)], 8).expect(&rt, "a column");
     let part = migrated(alloc, &mut shelf, &page).expect(&rt, "a column");
     let part = part.expect(&rt, "a block");
-    let says = is_part(alloc, &mut shelf, &rows, until(part, 8), 1);
-    be(&rt, says, "what the column says");
-    let says = is_part(alloc, &mut shelf, &rows, until(leaf_part(0, block), 8), 1);
-    be(&rt, says, "what the leaf says");
+    let represents_node = is_part(alloc, &mut shelf, &rows, until(part, 8), 1);
+    be(&rt, represents_node, "what the column represents_node");
+    let represents_node = is_part(alloc, &mut shelf, &rows, until(leaf_part(0, block), 8), 1);
+    be(&rt, represents_node, "what the leaf represents_node");
     be(&rt, is_full(alloc, &mut shelf, &page), "a full disk");
 }

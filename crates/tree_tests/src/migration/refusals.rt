@@ -31,7 +31,7 @@ fn split_block(
 }
 
 /// Whether a part says what the table says before stamp 9.
-fn says(alloc: Global, shelf: &mut Shelf<MemOnce>, part: Part) -> bool {
+fn represents_node(alloc: Global, shelf: &mut Shelf<MemOnce>, part: Part) -> bool {
     let span = Span {
         part,
         from: 0,
@@ -65,10 +65,14 @@ fn a_full_disk_refuses_and_stays(rt: HostRuntime) {
     be(&rt, shelf.next() == 2 && shelf.faults() == 0, "no fault");
     be(
         &rt,
-        says(alloc, &mut shelf, leaf_part(0, 0)),
+        represents_node(alloc, &mut shelf, leaf_part(0, 0)),
         "the first block",
     );
-    be(&rt, says(alloc, &mut shelf, leaf_part(0, 1)), "the second");
+    be(
+        &rt,
+        represents_node(alloc, &mut shelf, leaf_part(0, 1)),
+        "the second",
+    );
 }
 
 /// A shelf of eight blocks, where this call fails.
@@ -88,7 +92,7 @@ fn fails_once(alloc: Global, failure: OnceFailure, spent: u64) -> Option<bool> {
             && is_spent
             && again == Ok(spent)
             && shelf.faults() == 1
-            && says(alloc, &mut shelf, leaf_part(0, spent)),
+            && represents_node(alloc, &mut shelf, leaf_part(0, spent)),
     )
 }
 
@@ -131,7 +135,7 @@ fn column_fails_once(alloc: Global, failure: OnceFailure, spent: u64) -> Option<
             && is_spent
             && part.block == spent
             && shelf.faults() == 1
-            && says(alloc, &mut shelf, part),
+            && represents_node(alloc, &mut shelf, part),
     )
 }
 

@@ -1,8 +1,8 @@
 -- What is returned of one column.
 use Rattle.std.specs.Prelude.{◌≡◌, ℕ, ◌+◌, List, Option}
-use Rattle.tsb_node.specs.declared.column_said.ColumnSaid.{ColumnSaid}
+use Rattle.tsb_node.specs.declared.decoded_column.DecodedColumn.{DecodedColumn}
 use Rattle.tsb_walk.specs.declared.page_place.PagePlace.{PagePlace}
-use Rattle.tsb_walk.specs.Shown.{Says, keys_at}
+use Rattle.tsb_walk.specs.Shown.{RepresentsNode, keys_at}
 use Rattle.tsb_walk.specs.PageWays.{IsNoColumn, IsNoLeaf}
 use Rattle.version_model.specs.declared.part.Part.{Part}
 use Rattle.version_model.specs.Versions.{Version}
@@ -13,25 +13,25 @@ use Rattle.tsb_check.specs.declared.in_use.InUse.{InUse}
 use Rattle.tsb_check.specs.InUse.{IsColumnUsed, IsColumnUnused}
 use Rattle.tsb_check.specs.Pages.{past_of}
 
--- a page says the column at a place
+-- a page represents the column at a place
 pub record IsColumnAt (shown : List (List ℕ)) (place : PagePlace) : Type 0 where
   pub parts : List Part
   pub start : ℕ
   pub current : ℕ
-  pub says : Says shown place.page (ColumnNode (keys_at place) parts start current)
+  pub represents_node : RepresentsNode shown place.page (ColumnNode (keys_at place) parts start current)
 
--- a page says this column at a place, and n versions are of its keys in its current leaf, from the start on
-pub record HasCurrent (shown : List (List ℕ)) (place : PagePlace) (said : ColumnSaid) (n : ℕ) : Type 0 where
-  pub says : Says shown place.page (ColumnNode (keys_at place) said.parts.items said.current.start said.current.page)
+-- a page represents this column at a place, and n versions are of its keys in its current leaf, from the start on
+pub record HasCurrent (shown : List (List ℕ)) (place : PagePlace) (decoded : DecodedColumn) (n : ℕ) : Type 0 where
+  pub represents_node : RepresentsNode shown place.page (ColumnNode (keys_at place) decoded.parts.items decoded.current.start decoded.current.page)
   pub versions : List Version
-  pub leaf : Says shown said.current.page (CurrentLeaf (keys_at place) said.current.start versions)
-  pub is : n ≡ count_in versions (current_range (keys_at place) said.current.start)
+  pub leaf : RepresentsNode shown decoded.current.page (CurrentLeaf (keys_at place) decoded.current.start versions)
+  pub is : n ≡ count_in versions (current_range (keys_at place) decoded.current.start)
 
 -- a count of its versions returns n
 pub record ReportsColumn (shown : List (List ℕ)) (known : ℕ → Option (List ℕ)) (count : ℕ) (place : PagePlace) (n : ℕ) : Type 0 where
   pub column : IsColumnAt shown place
   pub versions : List Version
-  pub leaf : Says shown column.current (CurrentLeaf (keys_at place) column.start versions)
+  pub leaf : RepresentsNode shown column.current (CurrentLeaf (keys_at place) column.start versions)
   pub past : ℕ
   pub counted : AreCounted known count (past_of place column.parts column.start) past
   pub is : n ≡ reported (past + count_in versions (current_range (keys_at place) column.start))
@@ -51,12 +51,12 @@ pub record IsDamagedIn (shown : List (List ℕ)) (known : ℕ → Option (List �
   pub column : IsColumnAt shown place
   pub damage : MeetDamage known count (past_of place column.parts column.start) block
 
--- a page says the column, and all that the column uses is in use
+-- a page represents the column, and all that the column uses is in use
 pub record IsUsedColumn (shown : List (List ℕ)) (in_use : InUse) (place : PagePlace) : Type 0 where
   pub column : IsColumnAt shown place
   pub used : IsColumnUsed in_use place.page column.parts column.current
 
--- a page says the column, and not all that it uses is in use, for which this page is at fault
+-- a page represents the column, and not all that it uses is in use, for which this page is at fault
 pub record IsUnusedColumn (shown : List (List ℕ)) (in_use : InUse) (place : PagePlace) (page : ℕ) : Type 0 where
   pub column : IsColumnAt shown place
   pub unused : IsColumnUnused in_use place.page column.parts column.current page

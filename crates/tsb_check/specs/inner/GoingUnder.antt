@@ -1,7 +1,7 @@
 -- How far a count of a tree has come.
 use Rattle.std.specs.Prelude.{◌≡◌, ℕ, ◌+◌, ◌^◌, ◌<◌, ◌≤◌, ◌⊎◌, List, [], ◌∷◌, ◌++◌, Option}
 use Rattle.tsb_walk.specs.declared.page_place.PagePlace.{PagePlace}
-use Rattle.tsb_walk.specs.Shown.{Says, keys_at}
+use Rattle.tsb_walk.specs.Shown.{RepresentsNode, keys_at}
 use Rattle.tsb_walk.specs.PageWays.{IsNoKeyNode}
 use Rattle.version_model.specs.declared.child.Child.{Child}
 use Rattle.version_model.specs.Pages.{KeyNode}
@@ -19,12 +19,12 @@ pub record CountsOnUnder (shown : List (List ℕ)) (known : ℕ → Option (List
 -- from places that are left to others a page is taken: a column leaves no more, a key node the places of its children
 abbrev pub AreLeftBy : List (List ℕ) → PagePlace → List PagePlace → List PagePlace → Type 0
 AreLeftBy shown place left left' = ((place.level ≡ 1) × (left' ≡ left))
-    ⊎ ((children : List Child) × Says shown place.page (KeyNode place.level (keys_at place) children) × (left' ≡ left ++ places_under place children))
+    ⊎ ((children : List Child) × RepresentsNode shown place.page (KeyNode place.level (keys_at place) children) × (left' ≡ left ++ places_under place children))
 
 -- n versions are counted of a column; none of a key node, whose children's places are left
 abbrev pub IsPlaceTaken : List (List ℕ) → (ℕ → Option (List ℕ)) → ℕ → PagePlace → List PagePlace → List PagePlace → ℕ → Type 0
 IsPlaceTaken shown known count place left left' n = ((place.level ≡ 1) × ReportsColumn shown known count place n × (left' ≡ left))
-    ⊎ ((children : List Child) × Says shown place.page (KeyNode place.level (keys_at place) children) × (left' ≡ left ++ places_under place children) × (n ≡ 0))
+    ⊎ ((children : List Child) × RepresentsNode shown place.page (KeyNode place.level (keys_at place) children) × (left' ≡ left ++ places_under place children) × (n ≡ 0))
 
 -- a page of a column isn't what it is to be, or that of a key node
 abbrev pub IsPlaceBad : List (List ℕ) → PagePlace → ℕ → Type 0

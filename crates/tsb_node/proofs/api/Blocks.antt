@@ -6,7 +6,7 @@ use Rattle.version_model.specs.Blocks.{BlockNode}
 use Rattle.tsb_node.specs.Leaves.{LeafNode, BeginsAsLeaf, IsLeafBlock, entries}
 use Rattle.tsb_node.specs.Columns.{ColumnInBlock, IsColumnBlock, part_octets}
 use Rattle.tsb_node.specs.Parts.{BeginsAsOldColumn}
-use Rattle.tsb_node.specs.Views.{BlockSays}
+use Rattle.tsb_node.specs.Views.{BlockRepresents}
 use Rattle.tsb_node.proofs.NodeLaws.{block_made, block_digest}
 use Rattle.tsb_node.proofs.Leaves.{begins_block}
 use Rattle.tsb_node.proofs.LeafReading.{leaf_header, leaf_begun, leaf_block}
@@ -43,6 +43,6 @@ one_leaf a b octets p q = leaf_one a b octets p q
 pub one_column : (a b : ColumnInBlock) (octets : List ℕ) → BeginsAsOldColumn a octets → BeginsAsOldColumn b octets → a ≡ b
 one_column a b octets p q = old_column_one a b octets p q
 
--- a block says one thing at most
-pub one_said : (octets : List ℕ) (a b : BlockNode) → BlockSays octets a → BlockSays octets b → a ≡ b
-one_said octets a b p q = block_one octets a b p q
+-- a block represents one thing at most
+pub one_decoded : (octets : List ℕ) (a b : BlockNode) → BlockRepresents octets a → BlockRepresents octets b → a ≡ b
+one_decoded octets a b p q = block_one octets a b p q

@@ -1,4 +1,4 @@
--- Pages, and what they say in the words of the tree.
+-- Pages, and what they represent in the words of the tree.
 use Rattle.std.proofs.Common.{◌≡◌, ℕ, List, replicate}
 use Rattle.version_model.specs.Ranges.{high_or}
 use Rattle.version_model.specs.Blocks.{IsPartOf}
@@ -11,14 +11,14 @@ use Rattle.tsb_node.specs.Columns.{ColumnInPage, IsColumnPage}
 use Rattle.tsb_node.specs.KeyNodes.{KeyNodeInPage, IsKeyNodePage}
 use Rattle.tsb_node.specs.Children.{BeginsAsKeyNode, IsUnder}
 use Rattle.tsb_node.specs.Parts.{BeginsAsColumn, IsSpot}
-use Rattle.tsb_node.specs.Views.{PageSays, keys_between}
+use Rattle.tsb_node.specs.Views.{PageRepresents, keys_between}
 use Rattle.tsb_node.proofs.Leaves.{begins_page}
 use Rattle.tsb_node.proofs.OneNode.{page_one}
 use Rattle.tsb_node.proofs.ViewLaws.{child_is_of, spot_part}
 
--- a page says one thing at most
-pub one_said : (octets : List ℕ) (a b : PageNode) → PageSays octets a → PageSays octets b → a ≡ b
-one_said octets a b p q = page_one octets a b p q
+-- a page represents one thing at most
+pub one_decoded : (octets : List ℕ) (a b : PageNode) → PageRepresents octets a → PageRepresents octets b → a ≡ b
+one_decoded octets a b p q = page_one octets a b p q
 
 pub leaf_begins : (leaf : LeafNode) (octets : List ℕ) → IsLeafPage leaf octets → BeginsAsLeaf leaf octets
 leaf_begins leaf octets is = begins_page leaf octets is

@@ -1,4 +1,4 @@
--- What the last entry of each key says.
+-- What the last entry of each key represents.
 use Rattle.std.specs.Prelude.{ℕ, ◌≤◌, List, Option, Some, None, IsSome, option_map}
 use Rattle.std.specs.BTreeMap.{BTreeMap, get}
 use Rattle.std.specs.Ordering.{nat_cmp}

@@ -6,10 +6,10 @@ use Rattle.version_model.specs.declared.child.Child.{Child}
 use Rattle.version_model.specs.Versions.{Version}
 use Rattle.version_model.specs.Ranges.{IsKeyOf}
 use Rattle.version_model.specs.Blocks.{BlockNode}
-use Rattle.version_model.specs.Pages.{Keys, PageNode, ColumnNode, KeyNode, Stands, key_node, IsChildOf, AreChildren, child_keys, low_or, current_range, Store, column}
+use Rattle.version_model.specs.Pages.{Keys, PageNode, ColumnNode, KeyNode, Represents, key_node, IsChildOf, AreChildren, child_keys, low_or, current_range, Store, column}
 use Rattle.version_model.specs.Inserts.{KeepsOthers}
 use Rattle.version_model.specs.inner.Children.{Inserts}
-use Rattle.version_model.proofs.api.TreeKept.{Elsewhere, stands_kept}
+use Rattle.version_model.proofs.api.TreeKept.{Elsewhere, represents_kept}
 
 -- there is an element before one that is there
 get_before : {X : Type 0} (xs : List X) (i : ℕ) (y : X) → slice_get xs (suc i) ≡ Some y → (x : X) × (slice_get xs i ≡ Some x)
@@ -39,48 +39,48 @@ module _ (keys : Keys) (children : List Child) (are : AreChildren keys children)
 
 module _ (nodes nodes' : ℕ → Option PageNode) (limit limit' : ℕ) (old old' : ℕ → Option BlockNode) (next next' : ℕ) (all new : List Version) (v : Version) (else' : Elsewhere nodes nodes' limit limit' old old' next next' all new v) where
   -- the other children stand on
-  pub others_stand : (level : ℕ) (keys : Keys) (children : List Child) (inner : Keys) (child : Child) → AreChildren keys children → (place : IsChildOf keys children inner child) → IsKeyOf (current_range inner 0) v.key → KeepsOthers nodes nodes' limit level inner
-      → (s : Keys) (other : Child) (is : IsChildOf keys children s other) → (is.place < place.place) ⊎ (place.place < is.place) → Stands nodes limit old next all level s other.page → Stands nodes' limit' old' next' new level s other.page
-  others_stand level keys children inner child are place of_key keeps s other is apart_places stands =
+  pub others_represent_all : (level : ℕ) (keys : Keys) (children : List Child) (inner : Keys) (child : Child) → AreChildren keys children → (place : IsChildOf keys children inner child) → IsKeyOf (current_range inner 0) v.key → KeepsOthers nodes nodes' limit level inner
+      → (s : Keys) (other : Child) (is : IsChildOf keys children s other) → (is.place < place.place) ⊎ (place.place < is.place) → Represents nodes limit old next all level s other.page → Represents nodes' limit' old' next' new level s other.page
+  others_represent_all level keys children inner child are place of_key keeps s other is apart_places represents_all =
       let apart_keys : (s.high ≤ inner.low) ⊎ (inner.high ≤ s.low) = elim apart_places [
         | inl lt ↦ inl (disjoint keys children are s inner other child is place lt)
         | inr gt ↦ inr (disjoint keys children are inner s child other place is gt)
       ] in
       let inside = are.inside s other is in
-      stands_kept nodes nodes' limit limit' old old' next next' all new v else' level s other.page inside.1
+      represents_kept nodes nodes' limit limit' old old' next next' all new v else' level s other.page inside.1
       (λ k. elim apart_keys [ inl a ↦ omega (arith, k.high, of_key.low) | inr b ↦ omega (arith, k.low, of_key.high) ])
       (λ p node in_limit at located. keeps p node in_limit at (λ under. elim apart_keys [ inl a ↦ omega (arith, under.low, located.high, located.nonempty) | inr b ↦ omega (arith, under.high, located.low, located.nonempty) ]))
-      stands
+      represents_all
 
   -- a child that took the version and stayed one
   pub key_node_one : (level : ℕ) (keys : Keys) (page : ℕ) (children : List Child) (inner : Keys) (child : Child) → page < limit → nodes page ≡ Some (KeyNode (suc level) keys children) → AreChildren keys children
       → (place : IsChildOf keys children inner child) → IsKeyOf (current_range inner 0) v.key → KeepsOthers nodes nodes' limit level inner
-      → ((s : Keys) (other : Child) → IsChildOf keys children s other → Stands nodes limit old next all level s other.page)
-      → Stands nodes' limit' old' next' new level inner child.page
-      → Stands nodes' limit' old' next' new (suc level) keys page
+      → ((s : Keys) (other : Child) → IsChildOf keys children s other → Represents nodes limit old next all level s other.page)
+      → Represents nodes' limit' old' next' new level inner child.page
+      → Represents nodes' limit' old' next' new (suc level) keys page
   key_node_one level keys page children inner child in_limit at are place of_key keeps stand became =
       key_node level keys page children (omega (arith, else'.limit_grows)) (keeps page _ in_limit at (λ under. omega (arith, under.no_higher))) are
       (λ s other is. elim (cases_order is.place place.place) [
         | inl same ↦ (let one : other ≡ child = same_Some other child (sym is.at ∙ subst (λ i. slice_get children i ≡ Some child) (sym same) place.at) in
             let keys_same : s ≡ inner = sym is.range ∙ ap (λ i. child_keys keys children i other) same ∙ ap (child_keys keys children place.place) one ∙ place.range in
             rw (one, keys_same) became)
-        | inr apart_places ↦ others_stand level keys children inner child are place of_key keeps s other is apart_places (stand s other is)
+        | inr apart_places ↦ others_represent_all level keys children inner child are place of_key keeps s other is apart_places (stand s other is)
       ])
 
-pub record KeyStands (nodes : ℕ → Option PageNode) (limit : ℕ) (old : ℕ → Option BlockNode) (next : ℕ) (all : List Version) (level : ℕ) (keys : Keys) (page : ℕ) (children : List Child) : Type 0 where
+pub record KeyRepresents (nodes : ℕ → Option PageNode) (limit : ℕ) (old : ℕ → Option BlockNode) (next : ℕ) (all : List Version) (level : ℕ) (keys : Keys) (page : ℕ) (children : List Child) : Type 0 where
   pub in_limit : page < limit
   pub at : nodes page ≡ Some (KeyNode (suc level) keys children)
   pub are : AreChildren keys children
-  pub stand : (inner : Keys) (child : Child) → IsChildOf keys children inner child → Stands nodes limit old next all level inner child.page
+  pub stand : (inner : Keys) (child : Child) → IsChildOf keys children inner child → Represents nodes limit old next all level inner child.page
 
 -- a page that reads as a key node and stands is one of its level, and its children stand
 module _ (nodes : ℕ → Option PageNode) (limit : ℕ) (old : ℕ → Option BlockNode) (next : ℕ) (all : List Version) where
-  pub key_stands : (m : ℕ) (keys : Keys) (page : ℕ) (level : ℕ) (wide : Keys) (children : List Child) → nodes page ≡ Some (KeyNode (suc level) wide children) → Stands nodes limit old next all m keys page
-      → (m ≡ suc level) × KeyStands nodes limit old next all level keys page children
-  key_stands _ _ _ level wide children at (column keys page c) =
+  pub key_represents : (m : ℕ) (keys : Keys) (page : ℕ) (level : ℕ) (wide : Keys) (children : List Child) → nodes page ≡ Some (KeyNode (suc level) wide children) → Represents nodes limit old next all m keys page
+      → (m ≡ suc level) × KeyRepresents nodes limit old next all level keys page children
+  key_represents _ _ _ level wide children at (column keys page c) =
       let node : ColumnNode keys c.parts c.start c.current ≡ KeyNode (suc level) wide children = same_Some _ _ (sym c.at ∙ at) in
       absurd (cc)
-  key_stands _ _ _ level wide children at (key_node level' keys page children' in_limit at' are stand) =
+  key_represents _ _ _ level wide children at (key_node level' keys page children' in_limit at' are stand) =
       let node : KeyNode (suc level') keys children' ≡ KeyNode (suc level) wide children = same_Some _ _ (sym at' ∙ at) in
       let l : suc level' ≡ suc level = cc in
       let l' : level' ≡ level = omega arith in
@@ -107,8 +107,8 @@ module _ (s t : Store) (v : Version) (level page : ℕ) (wide : Keys) (children 
     grows = inserts.grows;
     next_grows = inserts.next_grows;
     limit_grows = inserts.limit_grows;
-    stands = λ all new keys of_key above adds stands.
-        (let k = (key_stands s.nodes s.limit s.blocks s.next all (suc level) keys page level wide children at stands).1 in
+    represents_all = λ all new keys of_key above adds represents_all.
+        (let k = (key_represents s.nodes s.limit s.blocks s.next all (suc level) keys page level wide children at represents_all).1 in
         let inner : Keys = child_keys keys children i child in
         let place : IsChildOf keys children inner child = record { place = i; at = at_child; range = refl } in
         let in_child : IsKeyOf (current_range inner 0) v.key = record { low = from; high = below_end keys.high (slice_get children (suc i)) refl of_key.high } in
@@ -116,9 +116,9 @@ module _ (s t : Store) (v : Version) (level page : ℕ) (wide : Keys) (children 
         (record { adds = adds; above = above; grows = inserts.grows; next_grows = inserts.next_grows; limit_grows = inserts.limit_grows })
         level keys page children inner child k.in_limit k.at k.are place in_child
         (inserts.others all inner (k.stand inner child place)) k.stand
-        (inserts.stands all new inner in_child above adds (k.stand inner child place)));
-    others = λ all keys stands p node in_limit at_node never.
-        (let k = (key_stands s.nodes s.limit s.blocks s.next all (suc level) keys page level wide children at stands).1 in
+        (inserts.represents_all all new inner in_child above adds (k.stand inner child place)));
+    others = λ all keys represents_all p node in_limit at_node never.
+        (let k = (key_represents s.nodes s.limit s.blocks s.next all (suc level) keys page level wide children at represents_all).1 in
         let inner : Keys = child_keys keys children i child in
         let place : IsChildOf keys children inner child = record { place = i; at = at_child; range = refl } in
         let h = k.are.inside inner child place in

@@ -6,7 +6,7 @@ use Rattle.std.proofs.lemmas.Option.{same_Some, none-some, slice_get_within}
 use Rattle.version_model.specs.declared.child.Child.{Child}
 use Rattle.version_model.specs.Versions.{Version}
 use Rattle.version_model.specs.Blocks.{BlockNode}
-use Rattle.version_model.specs.Pages.{Keys, PageNode, KeyNode, Stands, column, key_node, IsChildOf, AreChildren, child_keys, low_or}
+use Rattle.version_model.specs.Pages.{Keys, PageNode, KeyNode, Represents, column, key_node, IsChildOf, AreChildren, child_keys, low_or}
 use Rattle.version_model.specs.Inserts.{LocatedUnder}
 
 pub get-insert_below : {X : Type 0} (xs : List X) (i k : ℕ) (y : X) → k < i → i ≤ length xs → slice_get (insert xs i y) k ≡ slice_get xs k
@@ -31,8 +31,8 @@ module _ (nodes nodes' : ℕ → Option PageNode) (limit limit' : ℕ) (old : �
   abbrev pub SameUnder : ℕ → Keys → Type 0
   SameUnder level keys = (page : ℕ) (node : PageNode) → page < limit → nodes page ≡ Some node → LocatedUnder level keys node → nodes' page ≡ Some node
 
-  pub stands_framed : (level : ℕ) (keys : Keys) (page : ℕ) → keys.low < keys.high → SameUnder level keys → Stands nodes limit old next all level keys page → Stands nodes' limit' old next all level keys page
-  stands_framed _ _ _ nonempty same (column keys page c) = column keys page (record {
+  pub represents_framed : (level : ℕ) (keys : Keys) (page : ℕ) → keys.low < keys.high → SameUnder level keys → Represents nodes limit old next all level keys page → Represents nodes' limit' old next all level keys page
+  represents_framed _ _ _ nonempty same (column keys page c) = column keys page (record {
     parts = c.parts;
     current = c.current;
     start = c.start;
@@ -45,10 +45,10 @@ module _ (nodes nodes' : ℕ → Option PageNode) (limit limit' : ℕ) (old : �
     past = c.past;
     started = c.started;
   })
-  stands_framed _ _ _ nonempty same (key_node level keys page children in_limit at are stand) =
+  represents_framed _ _ _ nonempty same (key_node level keys page children in_limit at are stand) =
       key_node level keys page children (omega arith) (same page _ in_limit at (record { no_higher = omega arith; low = omega arith; nonempty = nonempty; high = omega arith })) are
       (λ inner child is. (let h = are.inside inner child is in
-      stands_framed level inner child.page h.1
+      represents_framed level inner child.page h.1
       (λ p node in_limit' at' located. same p node in_limit' at' (record { no_higher = omega (arith, located.no_higher); low = omega (arith, located.low, h.0); nonempty = located.nonempty; high = omega (arith, located.high, h.2) }))
       (stand inner child is)))
 
@@ -113,11 +113,11 @@ module _ (nodes nodes' : ℕ → Option PageNode) (limit limit' : ℕ) (old : �
   pub key_node_written : (level : ℕ) (keys : Keys) (page : ℕ) (children : List Child) → page < limit' → AreChildren keys children
       → ((p : ℕ) (node : PageNode) → p < limit → nodes p ≡ Some node → LocatedUnder level keys node → nodes' p ≡ Some node)
       → nodes' page ≡ Some (KeyNode (suc level) keys children)
-      → ((inner : Keys) (child : Child) → IsChildOf keys children inner child → Stands nodes limit old next all level inner child.page)
-      → Stands nodes' limit' old next all (suc level) keys page
+      → ((inner : Keys) (child : Child) → IsChildOf keys children inner child → Represents nodes limit old next all level inner child.page)
+      → Represents nodes' limit' old next all (suc level) keys page
   key_node_written level keys page children in_limit are same at stand = key_node level keys page children in_limit at are
       (λ inner child is. (let h = are.inside inner child is in
-      stands_framed nodes nodes' limit limit' old next all grows level inner child.page h.1
+      represents_framed nodes nodes' limit limit' old next all grows level inner child.page h.1
       (λ p node in_limit' at' located. same p node in_limit' at' (record { no_higher = located.no_higher; low = omega (arith, located.low, h.0); nonempty = located.nonempty; high = omega (arith, located.high, h.2) }))
       (stand inner child is)))
 

@@ -1,4 +1,4 @@
--- Where the parts stand for versions, what is counted is how many versions there are.
+-- Where the parts represent versions, what is counted is how many versions there are.
 use Rattle.std.proofs.Common.{◌≡◌, ℕ, suc, ◌+◌, ◌<◌, ◌≤◌, ◌⊎◌, inl, inr, List, [], ◌∷◌, length, filter, Option, Some, slice_get, refl, sym, ◌∙◌, ap, arith, Bool, true, false, nat_le, nat_lt, ◌&&◌}
 use Rattle.std.proofs.lemmas.Bool.{and_parts, and_from, leb-true, ltb-true, le-leb, lt-ltb, cases_Bool, cases_lt}
 use Rattle.std.proofs.lemmas.Option.{none-some}
@@ -6,13 +6,13 @@ use Rattle.version_model.specs.declared.part.Part.{Part}
 use Rattle.version_model.specs.declared.child.Child.{Child}
 use Rattle.version_model.specs.Versions.{Version, Has, IsRising}
 use Rattle.version_model.specs.Ranges.{Range, stamp_end}
-use Rattle.version_model.specs.Shows.{Shows}
-use Rattle.version_model.specs.Blocks.{BlockNode, PartStands, AreParts, range_at, start_or}
-use Rattle.version_model.specs.Pages.{Keys, PageNode, Stands, PastStands, past_range, current_range, AreChildren, child_keys, low_or, Store, TreeStands, all_keys}
+use Rattle.version_model.specs.LeafVersions.{LeafRepresents}
+use Rattle.version_model.specs.Blocks.{BlockNode, PartRepresents, AreParts, range_at, start_or}
+use Rattle.version_model.specs.Pages.{Keys, PageNode, Represents, PartsRepresent, past_range, current_range, AreChildren, child_keys, low_or, Store, TreeRepresents, all_keys}
 use Rattle.version_model.proofs.api.LooksShown.{rising_one, filter_has, has_filter, filter_rising}
 use Rattle.version_model.specs.Counts.{is_within, count_in, sum_of, PartCounts, leaf_counts, parts_count, NodeCounts, column_counts, children_count, all_stamps}
-use Rattle.version_model.proofs.api.Standing.{leaf_stands, column_stands, shows_both, ShowsBoth}
-use Rattle.version_model.proofs.api.Children.{key_stands}
+use Rattle.version_model.proofs.api.Representing.{leaf_represents_all, column_represents_all, shows_both, RepresentsBoth}
+use Rattle.version_model.proofs.api.Children.{key_represents}
 
 pub record IsWithin (r : Range) (v : Version) : Type 0 where
   pub low : r.low ≤ v.key
@@ -39,7 +39,7 @@ within_no r v never = elim (cases_Bool (is_within r v)) [
 ]
 
 -- a leaf has as many versions of its range as there are
-pub leaf_count : (all : List Version) (r : Range) (leaf : List Version) → Shows all r leaf → IsRising all → IsRising leaf → count_in leaf r ≡ count_in all r
+pub leaf_count : (all : List Version) (r : Range) (leaf : List Version) → LeafRepresents all r leaf → IsRising all → IsRising leaf → count_in leaf r ≡ count_in all r
 leaf_count all r leaf shows rising rising_leaf =
     let p = is_within r in
     ap length (rising_one (filter p leaf) (filter p all) (filter_rising p leaf rising_leaf) (filter_rising p all rising)
@@ -113,19 +113,19 @@ follow_of r parts block are = record { fit = λ i part at. (let h = are.inside (
 start_of : (r : Range) (parts : List Part) (block : ℕ) → AreParts r parts block → start_or r.end (slice_get parts 0) ≡ r.start
 start_of r parts block are = ap (start_or r.end) are.at_first ∙ are.from_start
 
--- what is counted in a part that stands is how many versions its range has
-pub part_counted : (old : ℕ → Option BlockNode) (all : List Version) → IsRising all → (r : Range) (part : Part) (n : ℕ) → PartCounts old r part n → PartStands old all r part → n ≡ count_in all r
-part_counted old all rising _ _ _ (leaf_counts r part wide versions kind at covers rising_leaf) stands =
-    leaf_count all r versions (leaf_stands old all r part wide versions at stands).shows rising rising_leaf
-part_counted old all rising _ _ _ (parts_count r part wide parts ns kind at covers are same each) stands =
-    let cs = column_stands old all r part wide parts at stands in
+-- what is counted in a part that represents versions is how many versions its range has
+pub part_counted : (old : ℕ → Option BlockNode) (all : List Version) → IsRising all → (r : Range) (part : Part) (n : ℕ) → PartCounts old r part n → PartRepresents old all r part → n ≡ count_in all r
+part_counted old all rising _ _ _ (leaf_counts r part wide versions kind at covers rising_leaf) represents_all =
+    leaf_count all r versions (leaf_represents_all old all r part wide versions at represents_all).shows rising rising_leaf
+part_counted old all rising _ _ _ (parts_count r part wide parts ns kind at covers are same each) represents_all =
+    let cs = column_represents_all old all r part wide parts at represents_all in
     parts_sum all r parts ns same (follow_of r parts part.block are)
     (λ i inner m at_i at_n. part_counted old all rising (range_at r parts i inner) inner m (each i inner m at_i at_n) (cs.stand (range_at r parts i inner) inner (record { place = i; at = at_i; range = refl })))
     ∙ ap (λ s. count_in all (span r s r.end)) (start_of r parts part.block are)
 
 past_counted : (old : ℕ → Option BlockNode) (next : ℕ) (all : List Version) → IsRising all → (k : Keys) (start : ℕ) (parts : List Part) (ns : List ℕ) → ((parts ≡ []) × (start ≡ 0)) ⊎ AreParts (past_range k start) parts next → length ns ≡ length parts
     → ((i : ℕ) (inner : Part) (n : ℕ) → slice_get parts i ≡ Some inner → slice_get ns i ≡ Some n → PartCounts old (range_at (past_range k start) parts i inner) inner n)
-    → PastStands old next all k start parts → sum_of ns ≡ count_in all (past_range k start)
+    → PartsRepresent old next all k start parts → sum_of ns ≡ count_in all (past_range k start)
 past_counted old next all rising k start parts ns are same each past =
     let r = past_range k start in
     let counted : (i : ℕ) (inner : Part) (m : ℕ) → slice_get parts i ≡ Some inner → slice_get ns i ≡ Some m → m ≡ count_in all (range_at r parts i inner) =
@@ -180,14 +180,14 @@ follow_keys : (k : Keys) (children : List Child) → AreChildren k children → 
 follow_keys k children are = record { fit = λ i child at. (let h = are.inside (child_keys k children i child) child (record { place = i; at = at; range = refl }) in (omega (arith, h.1), h.2)) }
 
 -- what is counted under a page that stands is how many versions its keys have
-pub node_counted : (nodes : ℕ → Option PageNode) (limit : ℕ) (old : ℕ → Option BlockNode) (next : ℕ) (all : List Version) → IsRising all → (level : ℕ) (k : Keys) (page n : ℕ) → NodeCounts nodes limit old next level k page n → Stands nodes limit old next all level k page → n ≡ count_in all (all_stamps k)
-node_counted nodes limit old next all rising _ _ _ _ (column_counts k page parts current start versions ns in_limit current_in_limit in_time at at_current rising_leaf are same each) stands =
-    let both : ShowsBoth nodes limit old next all k parts start versions = shows_both nodes limit old next all 1 k k k page parts current start start versions refl at at_current stands in
+pub node_counted : (nodes : ℕ → Option PageNode) (limit : ℕ) (old : ℕ → Option BlockNode) (next : ℕ) (all : List Version) → IsRising all → (level : ℕ) (k : Keys) (page n : ℕ) → NodeCounts nodes limit old next level k page n → Represents nodes limit old next all level k page → n ≡ count_in all (all_stamps k)
+node_counted nodes limit old next all rising _ _ _ _ (column_counts k page parts current start versions ns in_limit current_in_limit in_time at at_current rising_leaf are same each) represents_all =
+    let both : RepresentsBoth nodes limit old next all k parts start versions = shows_both nodes limit old next all 1 k k k page parts current start start versions refl at at_current represents_all in
     let past = past_counted old next all rising k start parts ns are same each both.past in
     let leaf = leaf_count all (current_range k start) versions both.shows rising rising_leaf in
     omega (arith, past, leaf, count_split all (all_stamps k) 0 start (stamp_end) (omega arith) in_time)
-node_counted nodes limit old next all rising _ _ _ _ (children_count level k page children ns in_limit at are same each) stands =
-    let st = (key_stands nodes limit old next all (suc level) k page level k children at stands).1 in
+node_counted nodes limit old next all rising _ _ _ _ (children_count level k page children ns in_limit at are same each) represents_all =
+    let st = (key_represents nodes limit old next all (suc level) k page level k children at represents_all).1 in
     children_sum all k children ns same (follow_keys k children are)
     (λ i child m at_i at_n. node_counted nodes limit old next all rising level (child_keys k children i child) child.page m (each i child m at_i at_n) (st.stand (child_keys k children i child) child (record { place = i; at = at_i; range = refl })))
     ∙ ap (λ a. count_in all (among (all_stamps k) a k.high)) (ap (low_or k.high) are.at_first ∙ are.from_low)
@@ -196,8 +196,8 @@ filter_all : (p : Version → Bool) (vs : List Version) → ((v : Version) → H
 filter_all p [] all = refl
 filter_all p (v ∷ vs) all = rw (all v (record { place = 0; is = refl })) (ap (λ t. v ∷ t) (filter_all p vs (λ w h. all w (record { place = suc h.place; is = h.is }))))
 
--- what is counted under the root of a tree is how many versions it stands for
-pub tree_counted : (s : Store) (all : List Version) (root level n : ℕ) → NodeCounts s.nodes s.limit s.blocks s.next level all_keys root n → TreeStands s all root level → n ≡ length all
+-- what is counted under the root of a tree is how many versions it represents
+pub tree_counted : (s : Store) (all : List Version) (root level n : ℕ) → NodeCounts s.nodes s.limit s.blocks s.next level all_keys root n → TreeRepresents s all root level → n ≡ length all
 tree_counted s all root level n counts tree =
-    node_counted s.nodes s.limit s.blocks s.next all tree.rising level all_keys root n counts tree.stands
+    node_counted s.nodes s.limit s.blocks s.next all tree.rising level all_keys root n counts tree.represents_all
     ∙ ap length (filter_all (is_within (all_stamps all_keys)) all (λ v h. within_yes (all_stamps all_keys) v (record { low = omega arith; high = tree.in_keys v h; start = omega arith; end = tree.in_time v h })))

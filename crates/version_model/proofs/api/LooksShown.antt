@@ -4,7 +4,7 @@ use Rattle.std.proofs.lemmas.Bool.{and_parts, and_from, eqb-true, leb-true, ltb-
 use Rattle.std.proofs.lemmas.Option.{same_Some}
 use Rattle.version_model.specs.Versions.{Version, Has, IsRising}
 use Rattle.version_model.specs.Ranges.{Range, IsKeyOf, IsPoint, key_end, until, end_or}
-use Rattle.version_model.specs.Shows.{Shows}
+use Rattle.version_model.specs.LeafVersions.{LeafRepresents}
 use Rattle.version_model.specs.Looks.{NoneWithin, Reached, At, Past, End, IsReached, reached_to, is_of, IsPart}
 use Rattle.version_model.proofs.api.Pushed.{Has-nil}
 use Rattle.version_model.proofs.api.Shown.{answers_shown}
@@ -101,7 +101,7 @@ pub filter_rising : (p : Version → Bool) (vs : List Version) → IsRising vs �
 filter_rising p [] rising = rising
 filter_rising p (v ∷ vs) rising = filter-rising_cons p v vs (p v) refl rising (filter_rising p vs (rising_tail v vs rising))
 
--- what the test says
+-- what the test represents
 pub is_of_true : (key from to : ℕ) (v : Version) → is_of key from to v ≡ true → (v.key ≡ key) × (from ≤ v.stamp) × (v.stamp < to)
 is_of_true key from to v is =
     let both = and_parts (nat_eq v.key key) (nat_le from v.stamp && nat_lt v.stamp to) is in
@@ -117,7 +117,7 @@ is_of_no key from to v never = elim (cases_Bool (is_of key from to v)) [
   | inr is ↦ is
 ]
 
-module _ (all : List Version) (r : Range) (leaf : List Version) (shows : Shows all r leaf) where
+module _ (all : List Version) (r : Range) (leaf : List Version) (shows : LeafRepresents all r leaf) where
   -- the versions of a key in the leaf from a stamp of its range on are those of the key up to the range's end
   pub part_shown : (key from : ℕ) → IsKeyOf r key → r.start ≤ from → IsRising all → IsRising leaf → filter (is_of key from r.end) leaf ≡ filter (is_of key from r.end) all
   part_shown key from k after rising_all rising_leaf =
@@ -143,7 +143,7 @@ module _ (all : List Version) (r : Range) (leaf : List Version) (shows : Shows a
   next_shown s from End point within h = none_shown s from key_end point.low within point.start point.end h
 
 -- a leaf that shows a range shows it up to an earlier end
-until_shown : (all : List Version) (r : Range) (leaf : List Version) (at : ℕ) → at ≤ r.end → Shows all r leaf → Shows all (until r at) leaf
+until_shown : (all : List Version) (r : Range) (leaf : List Version) (at : ℕ) → at ≤ r.end → LeafRepresents all r leaf → LeafRepresents all (until r at) leaf
 until_shown all r leaf at upto shows = record {
   whole = λ v h k from below. shows.whole v h (record { low = k.low; high = k.high }) from (omega arith);
   true_ones = λ v h k below. shows.true_ones v h (record { low = k.low; high = k.high }) (omega arith);
@@ -152,7 +152,7 @@ until_shown all r leaf at upto shows = record {
 }
 
 -- the versions of a key in the leaf, from a stamp of its range on up to one that it returns, are those of the key
-pub reported_shown : (all : List Version) (r : Range) (leaf : List Version) (shows : Shows all r leaf) (key from : ℕ) (reported : Option ℕ) → IsPoint r key from → IsRising all → IsRising leaf
+pub reported_shown : (all : List Version) (r : Range) (leaf : List Version) (shows : LeafRepresents all r leaf) (key from : ℕ) (reported : Option ℕ) → IsPoint r key from → IsRising all → IsRising leaf
     → from < end_or reported → end_or reported ≤ r.end → IsPart all key from (filter (is_of key from (end_or reported)) leaf) reported
 reported_shown all r leaf shows key from reported point rising rising_leaf above within = record {
   above = above;

@@ -5,11 +5,11 @@ use Rattle.version_model.specs.declared.part.Part.{Part}
 use Rattle.version_model.specs.declared.part.PartKind.TheVariants.{LeafBlock, ColumnBlock}
 use Rattle.version_model.specs.Versions.{Version}
 use Rattle.version_model.specs.Ranges.{Range}
-use Rattle.version_model.specs.Shows.{Shows}
-use Rattle.version_model.specs.Blocks.{BlockNode, OldLeaf, OldColumn, PartStands, by_leaf, by_parts, IsPartOf, AreParts, range_at, start_or, Grows}
-use Rattle.version_model.specs.Pages.{Keys, PastStands, past_range}
+use Rattle.version_model.specs.LeafVersions.{LeafRepresents}
+use Rattle.version_model.specs.Blocks.{BlockNode, OldLeaf, OldColumn, PartRepresents, by_leaf, by_parts, IsPartOf, AreParts, range_at, start_or, Grows}
+use Rattle.version_model.specs.Pages.{Keys, PartsRepresent, past_range}
 use Rattle.version_model.proofs.api.Pushed.{get-push}
-use Rattle.version_model.proofs.api.PastKept.{PartStands-grows}
+use Rattle.version_model.proofs.api.PastKept.{PartRepresents-grows}
 use Rattle.version_model.proofs.api.TreeKept.{no_part}
 
 -- the last part used to end where the new one starts
@@ -30,8 +30,8 @@ first_pushed (z ∷ rest) p = (z, refl, inl refl)
 module _ (old old' : ℕ → Option BlockNode) (next next' : ℕ) (all : List Version) (keys : Keys) (start at block : ℕ) (parts : List Part) (versions : List Version)
     (grows : Grows old old') (forward : start < at) (new_block : next ≤ block) (in_next : block < next')
     (burnt : old' block ≡ Some (OldLeaf (record { low = keys.low; high = keys.high; start = start; end = at }) versions))
-    (shows : Shows all (record { low = keys.low; high = keys.high; start = start; end = at }) versions)
-    (past : PastStands old next all keys start parts) where
+    (shows : LeafRepresents all (record { low = keys.low; high = keys.high; start = start; end = at }) versions)
+    (past : PartsRepresent old next all keys start parts) where
   new_part : Part
   new_part = record { start = start; kind = LeafBlock; block = block }
 
@@ -52,8 +52,8 @@ module _ (old old' : ℕ → Option BlockNode) (next next' : ℕ) (all : List Ve
             inr (fresh.1, sym is.range ∙ ap (λ e. record { low = keys.low; high = keys.high; start = part.start; end = e }) last ∙ ap (λ b. record { low = keys.low; high = keys.high; start = b; end = at }) first))
       ]
 
-  new_stands : PartStands old' all (record { low = keys.low; high = keys.high; start = start; end = at }) (record { start = start; kind = LeafBlock; block = block })
-  new_stands = by_leaf _ _ (record { low = keys.low; high = keys.high; start = start; end = at }) versions refl burnt (record { low = omega arith; high = omega arith; start = refl; end = refl }) shows
+  new_represents : PartRepresents old' all (record { low = keys.low; high = keys.high; start = start; end = at }) (record { start = start; kind = LeafBlock; block = block })
+  new_represents = by_leaf _ _ (record { low = keys.low; high = keys.high; start = start; end = at }) versions refl burnt (record { low = omega arith; high = omega arith; start = refl; end = refl }) shows
 
   inside_old : (s : Range) (part : Part) → IsPartOf (past_range keys start) parts s part → (s.start < s.end) × (s.end ≤ at)
   inside_old s part is = elim past.are_parts [
@@ -88,8 +88,8 @@ module _ (old old' : ℕ → Option BlockNode) (next next' : ℕ) (all : List Ve
   ]
 
   -- the leaf of a time split becomes the last part
-  pub PastStands-pushed : PastStands old' next' all keys at (parts ++ record { start = start; kind = LeafBlock; block = block } ∷ [])
-  PastStands-pushed =
+  pub PartsRepresent-pushed : PartsRepresent old' next' all keys at (parts ++ record { start = start; kind = LeafBlock; block = block } ∷ [])
+  PartsRepresent-pushed =
       let p : Part = record { start = start; kind = LeafBlock; block = block } in
       let first = first_pushed parts p in
       record {
@@ -101,8 +101,8 @@ module _ (old old' : ℕ → Option BlockNode) (next next' : ℕ) (all : List Ve
           inside = λ s part is. inside_pushed s part (old_or_new s part is);
         });
         stand = λ s part is. elim (old_or_new s part is) [
-          | inl was ↦ PartStands-grows old old' all grows s part (past.stand s part was)
-          | inr fresh ↦ rw (fresh.0, fresh.1) new_stands
+          | inl was ↦ PartRepresents-grows old old' all grows s part (past.stand s part was)
+          | inr fresh ↦ rw (fresh.0, fresh.1) new_represents
         ];
       }
 
@@ -110,11 +110,11 @@ module _ (old old' : ℕ → Option BlockNode) (next next' : ℕ) (all : List Ve
 module _ (old old' : ℕ → Option BlockNode) (next next' : ℕ) (all : List Version) (keys : Keys) (start block : ℕ) (parts : List Part)
     (grows : Grows old old') (some : 0 < start) (new_block : next ≤ block) (in_next : block < next')
     (burnt : old' block ≡ Some (OldColumn (past_range keys start) parts))
-    (past : PastStands old next all keys start parts) where
-  moved_stands : AreParts (past_range keys start) parts next → PartStands old' all (past_range keys start) (record { start = 0; kind = ColumnBlock; block = block })
-  moved_stands are = by_parts _ _ (past_range keys start) parts refl burnt (record { low = omega arith; high = omega arith; start = refl; end = refl })
+    (past : PartsRepresent old next all keys start parts) where
+  moved_represents : AreParts (past_range keys start) parts next → PartRepresents old' all (past_range keys start) (record { start = 0; kind = ColumnBlock; block = block })
+  moved_represents are = by_parts _ _ (past_range keys start) parts refl burnt (record { low = omega arith; high = omega arith; start = refl; end = refl })
       (record { first = are.first; at_first = are.at_first; from_start = are.from_start; lower = λ i part is. omega (arith, are.lower i part is); inside = are.inside })
-      (λ s inner is. PartStands-grows old old' all grows s inner (past.stand s inner is))
+      (λ s inner is. PartRepresents-grows old old' all grows s inner (past.stand s inner is))
 
   one : Part
   one = record { start = 0; kind = ColumnBlock; block = block }
@@ -127,8 +127,8 @@ module _ (old old' : ℕ → Option BlockNode) (next next' : ℕ) (all : List Ve
   range_one s part is = (let h = is_one is.place part is.at in
       sym is.range ∙ ap (λ i. range_at (past_range keys start) (record { start = 0; kind = ColumnBlock; block = block } ∷ []) i part) h.0 ∙ ap (λ b. record { low = keys.low; high = keys.high; start = b; end = start }) (ap (λ (x : Part). x.start) h.1))
 
-  pub PastStands-moved : PastStands old' next' all keys start (record { start = 0; kind = ColumnBlock; block = block } ∷ [])
-  PastStands-moved = record {
+  pub PartsRepresent-moved : PartsRepresent old' next' all keys start (record { start = 0; kind = ColumnBlock; block = block } ∷ [])
+  PartsRepresent-moved = record {
     are_parts = inr (record {
       first = record { start = 0; kind = ColumnBlock; block = block };
       at_first = refl;
@@ -138,6 +138,6 @@ module _ (old old' : ℕ → Option BlockNode) (next next' : ℕ) (all : List Ve
     });
     stand = λ s part is. elim past.are_parts [
       | inl none ↦ absurd (omega (arith, none.1))
-      | inr are ↦ rw ((is_one is.place part is.at).1, range_one s part is) (moved_stands are)
+      | inr are ↦ rw ((is_one is.place part is.at).1, range_one s part is) (moved_represents are)
     ];
   }

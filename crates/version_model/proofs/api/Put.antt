@@ -6,10 +6,10 @@ use Rattle.std.proofs.lemmas.Option.{same_Some}
 use Rattle.version_model.specs.declared.child.Child.{Child}
 use Rattle.version_model.specs.Versions.{Version, IsAbove, Adds}
 use Rattle.version_model.specs.Ranges.{IsKeyOf}
-use Rattle.version_model.specs.Pages.{Keys, PageNode, KeyNode, Store, StandsIn, IsChildOf, child_keys, low_or, current_range}
+use Rattle.version_model.specs.Pages.{Keys, PageNode, KeyNode, Store, RepresentsIn, IsChildOf, child_keys, low_or, current_range}
 use Rattle.version_model.specs.Inserts.{LocatedUnder, KeepsOthers, Splits, Writes}
 use Rattle.version_model.specs.inner.Children.{Inserts}
-use Rattle.version_model.proofs.api.Children.{key_stands, KeyStands, others_stand, Inserts-child}
+use Rattle.version_model.proofs.api.Children.{key_represents, KeyRepresents, others_represent_all, Inserts-child}
 use Rattle.version_model.proofs.api.ChildrenTwo.{other_or_two, AreChildren-insert, key_node_written}
 
 module _ (s t u : Store) (v : Version) (level page : ℕ) (wide : Keys) (children : List Child) (i : ℕ) (child new : Child)
@@ -20,9 +20,9 @@ module _ (s t u : Store) (v : Version) (level page : ℕ) (wide : Keys) (childre
   under_end high None is lt = lt
   under_end high (Some c) is lt = up_to c is
 
-  module _ (all : List Version) (keys : Keys) (stands : StandsIn s all (suc level) keys page) where
-    k : KeyStands s.nodes s.limit s.blocks s.next all level keys page children
-    k = (key_stands s.nodes s.limit s.blocks s.next all (suc level) keys page level wide children at stands).1
+  module _ (all : List Version) (keys : Keys) (represents_all : RepresentsIn s all (suc level) keys page) where
+    k : KeyRepresents s.nodes s.limit s.blocks s.next all level keys page children
+    k = (key_represents s.nodes s.limit s.blocks s.next all (suc level) keys page level wide children at represents_all).1
 
     place : IsChildOf keys children (child_keys keys children i child) child
     place = record { place = i; at = at_child; range = refl }
@@ -51,12 +51,12 @@ module _ (s t u : Store) (v : Version) (level page : ℕ) (wide : Keys) (childre
       | inr ne ↦ writes.others p ne ∙ at_node
     ]
 
-    put_stands : (after : List Version) → IsKeyOf (current_range keys 0) v.key → IsAbove all v.stamp → Adds all v after → StandsIn u after (suc level) keys page
+    put_represents : (after : List Version) → IsKeyOf (current_range keys 0) v.key → IsAbove all v.stamp → Adds all v after → RepresentsIn u after (suc level) keys page
     unfolding place
-    put_stands after of_key above adds =
+    put_represents after of_key above adds =
         let inner : Keys = child_keys keys children i child in
         let in_child : IsKeyOf (current_range inner 0) v.key = record { low = from; high = under_end keys.high (slice_get children (suc i)) refl of_key.high } in
-        let two = splits.stands all after inner in_child above adds (k.stand inner child place) in
+        let two = splits.represents_all all after inner in_child above adds (k.stand inner child place) in
         let children' : List Child = insert children (suc i) new in
         rw (writes.blocks, writes.next)
         (key_node_written t.nodes u.nodes t.limit u.limit t.blocks t.next after (let h : t.limit ≤ u.limit = omega (arith, writes.limit) in h) level keys page children'
@@ -65,7 +65,7 @@ module _ (s t u : Store) (v : Version) (level page : ℕ) (wide : Keys) (childre
         same_under
         (rw (← same_keys) writes.at)
         (λ r other is. elim (other_or_two keys children i child new at_child two.0 two.1 k.are r other is) [
-          | inl was ↦ others_stand s.nodes t.nodes s.limit t.limit s.blocks t.blocks s.next t.next all after v
+          | inl was ↦ others_represent_all s.nodes t.nodes s.limit t.limit s.blocks t.blocks s.next t.next all after v
               (record { adds = adds; above = above; grows = splits.grows; next_grows = splits.next_grows; limit_grows = splits.limit_grows })
               level keys children inner child k.are place in_child keeps r other was.0 was.1 (k.stand r other was.0)
           | inr halves ↦ elim halves [
@@ -79,14 +79,14 @@ module _ (s t u : Store) (v : Version) (level page : ℕ) (wide : Keys) (childre
     grows = rw writes.blocks splits.grows;
     next_grows = omega (arith, writes.next, splits.next_grows);
     limit_grows = omega (arith, writes.limit, splits.limit_grows);
-    stands = λ all after keys of_key above adds stands. put_stands all keys stands after of_key above adds;
-    others = λ all keys stands. put_others all keys stands;
+    represents_all = λ all after keys of_key above adds represents_all. put_represents all keys represents_all after of_key above adds;
+    others = λ all keys represents_all. put_others all keys represents_all;
   }
 
 -- a child that stayed one
 pub Splits-child : (s t : Store) (v : Version) (level page : ℕ) (wide : Keys) (children : List Child) (i : ℕ) (child : Child) → s.nodes page ≡ Some (KeyNode (suc level) wide children) → slice_get children i ≡ Some child → child.low ≤ v.key
     → ((c : Child) → slice_get children (suc i) ≡ Some c → v.key < c.low) → Splits s t v level child.page None → Splits s t v (suc level) page None
 Splits-child s t v level page wide children i child at at_child from up_to splits =
-    let one : Inserts s t v level child.page = record { grows = splits.grows; next_grows = splits.next_grows; limit_grows = splits.limit_grows; stands = splits.stands; others = splits.others } in
+    let one : Inserts s t v level child.page = record { grows = splits.grows; next_grows = splits.next_grows; limit_grows = splits.limit_grows; represents_all = splits.represents_all; others = splits.others } in
     let all = Inserts-child s t v level page wide children i child at at_child from up_to one in
-    record { grows = all.grows; next_grows = all.next_grows; limit_grows = all.limit_grows; stands = all.stands; others = all.others }
+    record { grows = all.grows; next_grows = all.next_grows; limit_grows = all.limit_grows; represents_all = all.represents_all; others = all.others }

@@ -4,13 +4,13 @@ use Rattle.std.proofs.lemmas.Bool.{cases_lt}
 use Rattle.std.specs.Option.{is_some}
 use Rattle.version_model.specs.Versions.{Version, Has, AsOf, Found, found_version, Answers, Adds}
 use Rattle.version_model.specs.Ranges.{Range, IsKeyOf, until, since, below, from_key, StartsBefore}
-use Rattle.version_model.specs.Shows.{Shows, IsBefore, IsFrom, IsBelow, IsFromKey}
+use Rattle.version_model.specs.LeafVersions.{LeafRepresents, IsBefore, IsFrom, IsBelow, IsFromKey}
 
 -- a key of the range, named by another word for it
 key_along : (r : Range) (k l : ℕ) → l ≡ k → IsKeyOf r k → IsKeyOf r l
 key_along r k l e h = record { low = omega (arith, h.low); high = omega (arith, h.high) }
 
-module _ (all : List Version) (r : Range) (leaf : List Version) (shows : Shows all r leaf) where
+module _ (all : List Version) (r : Range) (leaf : List Version) (shows : LeafRepresents all r leaf) where
   -- what the leaf has of a key of the range up to a stamp is true
   pub holds_in_leaf : (key s : ℕ) (v : Version) → IsKeyOf r key → s < r.end → Has leaf v → AsOf all key s v → AsOf leaf key s v
   holds_in_leaf key s v k e has h = record {
@@ -68,8 +68,8 @@ module _ (all : List Version) (r : Range) (leaf : List Version) (shows : Shows a
   answers_shown key s None k from e none = λ v h. no_value key s k from e none v h v.value refl
 
 -- a leaf that is cut to fewer keys, and to an earlier end, shows what is left of its range
-pub Shows-cut : (all : List Version) (r s : Range) (leaf : List Version) → r.low ≤ s.low → s.high ≤ r.high → s.start ≡ r.start → s.end ≤ r.end → Shows all r leaf → Shows all s leaf
-Shows-cut all r s leaf low high start end shows =
+pub LeafRepresents-cut : (all : List Version) (r s : Range) (leaf : List Version) → r.low ≤ s.low → s.high ≤ r.high → s.start ≡ r.start → s.end ≤ r.end → LeafRepresents all r leaf → LeafRepresents all s leaf
+LeafRepresents-cut all r s leaf low high start end shows =
     let wider : (k : ℕ) → IsKeyOf s k → IsKeyOf r k = λ k h. record { low = omega (arith, h.low); high = omega (arith, h.high) } in
     record {
       whole = λ v has k from before. shows.whole v has (wider v.key k) (omega arith) (omega arith);
@@ -79,8 +79,8 @@ Shows-cut all r s leaf low high start end shows =
     }
 
 -- a time split: the older part shows the range up to the split
-pub Shows-before : (all : List Version) (r : Range) (leaf older : List Version) (at : ℕ) → r.start ≤ at → at ≤ r.end → IsBefore leaf at older → Shows all r leaf → Shows all (until r at) older
-Shows-before all r leaf older at from upto is shows = record {
+pub LeafRepresents-before : (all : List Version) (r : Range) (leaf older : List Version) (at : ℕ) → r.start ≤ at → at ≤ r.end → IsBefore leaf at older → LeafRepresents all r leaf → LeafRepresents all (until r at) older
+LeafRepresents-before all r leaf older at from upto is shows = record {
   whole = λ v has k late before. is.each v (shows.whole v has (record { low = k.low; high = k.high }) late (omega arith)) before;
   true_ones = λ v has k before. shows.true_ones v (is.is_in v has) (record { low = k.low; high = k.high }) (omega arith);
   copies = λ v has k before. shows.copies v (is.is_in v has) (record { low = k.low; high = k.high }) before;
@@ -88,8 +88,8 @@ Shows-before all r leaf older at from upto is shows = record {
 }
 
 -- a time split: the newer part shows the range from the split on
-pub Shows-from : (all : List Version) (r : Range) (leaf newer : List Version) (at : ℕ) → r.start ≤ at → at < r.end → IsFrom leaf at newer → Shows all r leaf → Shows all (since r at) newer
-Shows-from all r leaf newer at from upto is shows =
+pub LeafRepresents-from : (all : List Version) (r : Range) (leaf newer : List Version) (at : ℕ) → r.start ≤ at → at < r.end → IsFrom leaf at newer → LeafRepresents all r leaf → LeafRepresents all (since r at) newer
+LeafRepresents-from all r leaf newer at from upto is shows =
     let here : (k : ℕ) → IsKeyOf (since r at) k → IsKeyOf r k = λ k h. record { low = h.low; high = h.high } in
     record {
       whole = λ v has k late before. is.each v (shows.whole v has (here v.key k) (omega arith) before) late;
@@ -99,8 +99,8 @@ Shows-from all r leaf newer at from upto is shows =
     }
 
 -- a key split: each side shows its keys
-pub Shows-below : (all : List Version) (r : Range) (leaf left : List Version) (key : ℕ) → key ≤ r.high → IsBelow leaf key left → Shows all r leaf → Shows all (below r key) left
-Shows-below all r leaf left key upto is shows =
+pub LeafRepresents-below : (all : List Version) (r : Range) (leaf left : List Version) (key : ℕ) → key ≤ r.high → IsBelow leaf key left → LeafRepresents all r leaf → LeafRepresents all (below r key) left
+LeafRepresents-below all r leaf left key upto is shows =
     let here : (k : ℕ) → IsKeyOf (below r key) k → IsKeyOf r k = λ k h. record { low = h.low; high = omega (arith, h.high) } in
     record {
       whole = λ v has k late before. is.each v (shows.whole v has (here v.key k) late before) k.high;
@@ -109,8 +109,8 @@ Shows-below all r leaf left key upto is shows =
       spanning = λ v k before h some. is.each v (shows.spanning v (here v.key k) before h some) k.high;
     }
 
-pub Shows-from_key : (all : List Version) (r : Range) (leaf right : List Version) (key : ℕ) → r.low ≤ key → IsFromKey leaf key right → Shows all r leaf → Shows all (from_key r key) right
-Shows-from_key all r leaf right key from is shows =
+pub LeafRepresents-from_key : (all : List Version) (r : Range) (leaf right : List Version) (key : ℕ) → r.low ≤ key → IsFromKey leaf key right → LeafRepresents all r leaf → LeafRepresents all (from_key r key) right
+LeafRepresents-from_key all r leaf right key from is shows =
     let here : (k : ℕ) → IsKeyOf (from_key r key) k → IsKeyOf r k = λ k h. record { low = omega (arith, h.low); high = h.high } in
     record {
       whole = λ v has k late before. is.each v (shows.whole v has (here v.key k) late before) k.low;
@@ -147,8 +147,8 @@ start_before r s t (inl h) before = h
 start_before r s t (inr h) before = absurd (omega arith)
 
 -- a new version outside the range changes nothing there
-pub Shows-outside : (all new : List Version) (r : Range) (leaf : List Version) (v : Version) → Adds all v new → StartsBefore r v.stamp → (IsKeyOf r v.key → r.end ≤ v.stamp) → Shows all r leaf → Shows new r leaf
-Shows-outside all new r leaf v adds starts outside shows = record {
+pub LeafRepresents-outside : (all new : List Version) (r : Range) (leaf : List Version) (v : Version) → Adds all v new → StartsBefore r v.stamp → (IsKeyOf r v.key → r.end ≤ v.stamp) → LeafRepresents all r leaf → LeafRepresents new r leaf
+LeafRepresents-outside all new r leaf v adds starts outside shows = record {
   whole = λ w has k late before. elim (adds.same w has) [
     | inl old ↦ shows.whole w old k late before
     | inr is ↦ absurd (omega (arith, ap (λ (y : Version). y.stamp) is, outside (key_along r w.key v.key (ap (λ (y : Version). y.key) (sym is)) k)))
@@ -159,8 +159,8 @@ Shows-outside all new r leaf v adds starts outside shows = record {
 }
 
 -- a new version of the range is added to its leaf
-pub Shows-adds : (all new : List Version) (r : Range) (leaf leaf' : List Version) (v : Version) → Adds all v new → Adds leaf v leaf' → StartsBefore r v.stamp → Shows all r leaf → Shows new r leaf'
-Shows-adds all new r leaf leaf' v adds adds' starts shows = record {
+pub LeafRepresents-adds : (all new : List Version) (r : Range) (leaf leaf' : List Version) (v : Version) → Adds all v new → Adds leaf v leaf' → StartsBefore r v.stamp → LeafRepresents all r leaf → LeafRepresents new r leaf'
+LeafRepresents-adds all new r leaf leaf' v adds adds' starts shows = record {
   whole = λ w has k late before. elim (adds.same w has) [
     | inl old ↦ adds'.keeps w (shows.whole w old k late before)
     | inr is ↦ subst (Has leaf') (sym is) adds'.has

@@ -5,7 +5,7 @@ use Rattle.std.proofs.lemmas.Bool.{cases_lt, cases_eq}
 use Rattle.std.proofs.lemmas.Bool.Decides.{nat_tests}
 use Rattle.std.proofs.lemmas.Option.{same_Some, none-some}
 use Rattle.version_model.specs.Versions.{Version, Has, AsOf, IsRising}
-use Rattle.version_model.specs.Shows.{IsFrom}
+use Rattle.version_model.specs.LeafVersions.{IsFrom}
 use Rattle.version_model.specs.Sizes.{entry_octets, total, octets, entry_octets_below, octets_below, FewBelow, IsSingle, AreSmall}
 
 drop_suc : (vs : List Version) (i : ℕ) (v : Version) → slice_get vs i ≡ Some v → drop i vs ≡ v ∷ drop (suc i) vs

@@ -4,7 +4,7 @@ use Rattle.std.proofs.lemmas.List.{length-set}
 use Rattle.std.specs.Vec.Iter.{into_iter_items}
 use Rattle.page_journal.specs.Layout.{Image, pages_of}
 use Rattle.page_journal.specs.Recovers.{laid, AreBelow, IsListed}
-use Rattle.buffer_pool.specs.Held.{HoldsPages}
+use Rattle.buffer_pool.specs.Held.{CachesPages}
 use Rattle.buffer_pool.proofs.held.take_all.Goals as goal
 
 no_images : (l : List Image) → length l ≡ 0 → l ≡ []
@@ -42,4 +42,4 @@ returns-clause-holds c map below held =
     let step = c.in-None.ensures.steps in
     let now = so_far.0 in
     let gone : into_iter_items c.loop-n.n-iterator ≡ [] = no_images (into_iter_items c.loop-n.n-iterator) (omega (arith, c.loop-n.n-iterator.rest.ok, step.0)) in
-    subst (HoldsPages c.loop-n.committed c.loop-n.cached) (ap (λ (l : List Image). laid l now) (sym gone) ∙ so_far.2) so_far.1
+    subst (CachesPages c.loop-n.committed c.loop-n.cached) (ap (λ (l : List Image). laid l now) (sym gone) ∙ so_far.2) so_far.1

@@ -14,20 +14,20 @@ use Rattle.disk_archive.proofs.answering.answer_by.Goals as goal
 
 pub returns-in_err-root-clause-blames : goal.returns-in_err-root-clause-blames
 returns-in_err-root-clause-blames g c ps t =
-    let b = c.root_of.ensures.blames t.start t.shown t.located.store t.versions t.located.level t.shows t.located.says t.located.has.stands in
+    let b = c.root_of.ensures.blames t.start t.shown t.located.store t.versions t.located.level t.shows t.located.represents_node t.located.has.represents_all in
     search (rules, b)
 
 pub returns-in_ok-answer-in-Rows-clause-answer : goal.returns-in_ok-answer-in-Rows-clause-answer
 returns-in_ok-answer-in-Rows-clause-answer g c ps t =
-    let stands = c.in_ok-root.ensures.stands t.start t.shown t.located.store t.versions t.located.level t.shows t.located.says t.located.has.stands in
-    let read = tree_read g.P.Pages c.args.pages.now c.root_of.new.pages g.O.OnceDisk c.args.reader.now c.args.seen.now c.args.head.now.root c.args.head.now.fresh c.args.head.now.block c.args.burnt c.requires.burnt ps t c.in_ok-root.root c.root_of.ensures.reads stands in
+    let represents_all = c.in_ok-root.ensures.represents_all t.start t.shown t.located.store t.versions t.located.level t.shows t.located.represents_node t.located.has.represents_all in
+    let read = tree_read g.P.Pages c.args.pages.now c.root_of.new.pages g.O.OnceDisk c.args.reader.now c.args.seen.now c.args.head.now.root c.args.head.now.fresh c.args.head.now.block c.args.burnt c.requires.burnt ps t c.in_ok-root.root c.root_of.ensures.reads represents_all in
     let reported = c.in_ok-answer-in-Rows.ensures.answer t.versions ps read (c.versions_report.ensures.rows ps t.versions c.in-Rows.question.moment t.timely t.kept) in
     subst (λ (q : Query). IsAnswered ps q (Rows c.in_ok-answer-in-Rows.answer)) (sym c.in-Rows.is) reported
 
 pub returns-in_err-answer-in-Rows-clause-blames : goal.returns-in_err-answer-in-Rows-clause-blames
 returns-in_err-answer-in-Rows-clause-blames g c ps t =
-    let stands = c.in_ok-root.ensures.stands t.start t.shown t.located.store t.versions t.located.level t.shows t.located.says t.located.has.stands in
-    let read = tree_read g.P.Pages c.args.pages.now c.root_of.new.pages g.O.OnceDisk c.args.reader.now c.args.seen.now c.args.head.now.root c.args.head.now.fresh c.args.head.now.block c.args.burnt c.requires.burnt ps t c.in_ok-root.root c.root_of.ensures.reads stands in
+    let represents_all = c.in_ok-root.ensures.represents_all t.start t.shown t.located.store t.versions t.located.level t.shows t.located.represents_node t.located.has.represents_all in
+    let read = tree_read g.P.Pages c.args.pages.now c.root_of.new.pages g.O.OnceDisk c.args.reader.now c.args.seen.now c.args.head.now.root c.args.head.now.fresh c.args.head.now.block c.args.burnt c.requires.burnt ps t c.in_ok-root.root c.root_of.ensures.reads represents_all in
     let b : IfErr c.rows.result (λ e. BlamesNone (ask_of_node e)) = if_err ask_of_node NodeBlamesNone BlamesNone c.rows.result ask_blames (c.rows.ensures.blames t.versions read) in
     search (rules, b)
 
@@ -39,15 +39,15 @@ returns-in_err-answer-in-Rows-clause-refused g c =
 
 pub returns-in_ok-answer-in-Events-clause-answer : goal.returns-in_ok-answer-in-Events-clause-answer
 returns-in_ok-answer-in-Events-clause-answer g c ps t =
-    let stands = c.in_ok-root.ensures.stands t.start t.shown t.located.store t.versions t.located.level t.shows t.located.says t.located.has.stands in
-    let read = tree_read g.P.Pages c.args.pages.now c.root_of.new.pages g.O.OnceDisk c.args.reader.now c.args.seen.now c.args.head.now.root c.args.head.now.fresh c.args.head.now.block c.args.burnt c.requires.burnt ps t c.in_ok-root.root c.root_of.ensures.reads stands in
+    let represents_all = c.in_ok-root.ensures.represents_all t.start t.shown t.located.store t.versions t.located.level t.shows t.located.represents_node t.located.has.represents_all in
+    let read = tree_read g.P.Pages c.args.pages.now c.root_of.new.pages g.O.OnceDisk c.args.reader.now c.args.seen.now c.args.head.now.root c.args.head.now.fresh c.args.head.now.block c.args.burnt c.requires.burnt ps t c.in_ok-root.root c.root_of.ensures.reads represents_all in
     let reported = c.in_ok-answer-in-Events.ensures.answer t.versions ps read (c.versions_report.ensures.events ps t.versions c.in-Events.question t.timely t.kept c.encoded_len-len.ensures.valid c.address-address.ensures.valid) in
     subst (λ (q : Query). IsAnswered ps q (Events c.in_ok-answer-in-Events.answer)) (sym c.in-Events.is) reported
 
 pub returns-in_err-answer-in-Events-clause-blames : goal.returns-in_err-answer-in-Events-clause-blames
 returns-in_err-answer-in-Events-clause-blames g c ps t =
-    let stands = c.in_ok-root.ensures.stands t.start t.shown t.located.store t.versions t.located.level t.shows t.located.says t.located.has.stands in
-    let read = tree_read g.P.Pages c.args.pages.now c.root_of.new.pages g.O.OnceDisk c.args.reader.now c.args.seen.now c.args.head.now.root c.args.head.now.fresh c.args.head.now.block c.args.burnt c.requires.burnt ps t c.in_ok-root.root c.root_of.ensures.reads stands in
+    let represents_all = c.in_ok-root.ensures.represents_all t.start t.shown t.located.store t.versions t.located.level t.shows t.located.represents_node t.located.has.represents_all in
+    let read = tree_read g.P.Pages c.args.pages.now c.root_of.new.pages g.O.OnceDisk c.args.reader.now c.args.seen.now c.args.head.now.root c.args.head.now.fresh c.args.head.now.block c.args.burnt c.requires.burnt ps t c.in_ok-root.root c.root_of.ensures.reads represents_all in
     let b : IfErr c.events.result (λ e. BlamesNone (ask_of_node e)) = if_err ask_of_node NodeBlamesNone BlamesNone c.events.result ask_blames (c.events.ensures.blames t.versions read) in
     search (rules, b)
 
@@ -59,26 +59,26 @@ returns-in_err-answer-in-Events-clause-refused g c =
 
 pub returns-in_ok-answer-in-Rows-clause-keeps : goal.returns-in_ok-answer-in-Rows-clause-keeps
 returns-in_ok-answer-in-Rows-clause-keeps g c ps t =
-    let stands = c.in_ok-root.ensures.stands t.start t.shown t.located.store t.versions t.located.level t.shows t.located.says t.located.has.stands in
-    let read = tree_read g.P.Pages c.args.pages.now c.root_of.new.pages g.O.OnceDisk c.args.reader.now c.args.seen.now c.args.head.now.root c.args.head.now.fresh c.args.head.now.block c.args.burnt c.requires.burnt ps t c.in_ok-root.root c.root_of.ensures.reads stands in
+    let represents_all = c.in_ok-root.ensures.represents_all t.start t.shown t.located.store t.versions t.located.level t.shows t.located.represents_node t.located.has.represents_all in
+    let read = tree_read g.P.Pages c.args.pages.now c.root_of.new.pages g.O.OnceDisk c.args.reader.now c.args.seen.now c.args.head.now.root c.args.head.now.fresh c.args.head.now.block c.args.burnt c.requires.burnt ps t c.in_ok-root.root c.root_of.ensures.reads represents_all in
     (c.rows.ensures.stays t.versions read).well
 
 pub returns-in_err-answer-in-Rows-clause-keeps : goal.returns-in_err-answer-in-Rows-clause-keeps
 returns-in_err-answer-in-Rows-clause-keeps g c ps t =
-    let stands = c.in_ok-root.ensures.stands t.start t.shown t.located.store t.versions t.located.level t.shows t.located.says t.located.has.stands in
-    let read = tree_read g.P.Pages c.args.pages.now c.root_of.new.pages g.O.OnceDisk c.args.reader.now c.args.seen.now c.args.head.now.root c.args.head.now.fresh c.args.head.now.block c.args.burnt c.requires.burnt ps t c.in_ok-root.root c.root_of.ensures.reads stands in
+    let represents_all = c.in_ok-root.ensures.represents_all t.start t.shown t.located.store t.versions t.located.level t.shows t.located.represents_node t.located.has.represents_all in
+    let read = tree_read g.P.Pages c.args.pages.now c.root_of.new.pages g.O.OnceDisk c.args.reader.now c.args.seen.now c.args.head.now.root c.args.head.now.fresh c.args.head.now.block c.args.burnt c.requires.burnt ps t c.in_ok-root.root c.root_of.ensures.reads represents_all in
     (c.rows.ensures.stays t.versions read).well
 
 pub returns-in_ok-answer-in-Events-clause-keeps : goal.returns-in_ok-answer-in-Events-clause-keeps
 returns-in_ok-answer-in-Events-clause-keeps g c ps t =
-    let stands = c.in_ok-root.ensures.stands t.start t.shown t.located.store t.versions t.located.level t.shows t.located.says t.located.has.stands in
-    let read = tree_read g.P.Pages c.args.pages.now c.root_of.new.pages g.O.OnceDisk c.args.reader.now c.args.seen.now c.args.head.now.root c.args.head.now.fresh c.args.head.now.block c.args.burnt c.requires.burnt ps t c.in_ok-root.root c.root_of.ensures.reads stands in
+    let represents_all = c.in_ok-root.ensures.represents_all t.start t.shown t.located.store t.versions t.located.level t.shows t.located.represents_node t.located.has.represents_all in
+    let read = tree_read g.P.Pages c.args.pages.now c.root_of.new.pages g.O.OnceDisk c.args.reader.now c.args.seen.now c.args.head.now.root c.args.head.now.fresh c.args.head.now.block c.args.burnt c.requires.burnt ps t c.in_ok-root.root c.root_of.ensures.reads represents_all in
     (c.events.ensures.stays t.versions read).well
 
 pub returns-in_err-answer-in-Events-clause-keeps : goal.returns-in_err-answer-in-Events-clause-keeps
 returns-in_err-answer-in-Events-clause-keeps g c ps t =
-    let stands = c.in_ok-root.ensures.stands t.start t.shown t.located.store t.versions t.located.level t.shows t.located.says t.located.has.stands in
-    let read = tree_read g.P.Pages c.args.pages.now c.root_of.new.pages g.O.OnceDisk c.args.reader.now c.args.seen.now c.args.head.now.root c.args.head.now.fresh c.args.head.now.block c.args.burnt c.requires.burnt ps t c.in_ok-root.root c.root_of.ensures.reads stands in
+    let represents_all = c.in_ok-root.ensures.represents_all t.start t.shown t.located.store t.versions t.located.level t.shows t.located.represents_node t.located.has.represents_all in
+    let read = tree_read g.P.Pages c.args.pages.now c.root_of.new.pages g.O.OnceDisk c.args.reader.now c.args.seen.now c.args.head.now.root c.args.head.now.fresh c.args.head.now.block c.args.burnt c.requires.burnt ps t c.in_ok-root.root c.root_of.ensures.reads represents_all in
     (c.events.ensures.stays t.versions read).well
 
 pub returns-in_err-root-clause-keeps : goal.returns-in_err-root-clause-keeps

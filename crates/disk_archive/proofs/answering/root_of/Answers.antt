@@ -2,7 +2,7 @@ use Rattle.std.proofs.Common.{◌≡◌, ℕ, sym, ◌∙◌, ap, subst, Err}
 use Rattle.page_tx.specs.declared.error.PageError.TheVariants as pages
 use Rattle.tsb_tree.specs.declared.error.TreeError.TheVariants as trees
 use Rattle.archive_head.specs.Head.{Contents}
-use Rattle.version_model.specs.Pages.{TreeStands}
+use Rattle.version_model.specs.Pages.{TreeRepresents}
 use Rattle.tsb_tree.specs.Refusals.{ReadRefusal}
 use Rattle.disk_archive.specs.declared.ask_error.AskError.TheVariants as asks
 use Rattle.disk_archive.proofs.Asking.{at_root, root_blames}
@@ -12,16 +12,16 @@ use Rattle.disk_archive.proofs.answering.root_of.Goals as goal
 pub of_root-requires : goal.of_root-requires
 of_root-requires g c = record { read = (g.P.Pages.down c.args.pages.now, c.in-Err.ensures.refused) }
 
-pub returns-in-Ok-clause-stands : goal.returns-in-Ok-clause-stands
-returns-in-Ok-clause-stands g c start shown s all level shows are t =
+pub returns-in-Ok-clause-represents_all : goal.returns-in-Ok-clause-represents_all
+returns-in-Ok-clause-represents_all g c start shown s all level shows are t =
     let root = ap (λ (x : Contents). x.root) c.head.view_is in
-    let reported = c.in-Ok.ensures.opened start shown shows s all level are (subst (λ (r : ℕ). TreeStands s all r level) (sym root) t) in
+    let reported = c.in-Ok.ensures.opened start shown shows s all level are (subst (λ (r : ℕ). TreeRepresents s all r level) (sym root) t) in
     at_root shown s all c.args.head.now.root level c.root.result (c.root.ensures.page ∙ c.in-Ok.ensures.root ∙ root) (c.root.ensures.level ∙ reported) c.root.ensures.keys are t
 
 pub returns-in-Err-clause-blames : goal.returns-in-Err-clause-blames
 returns-in-Err-clause-blames g c start shown s all level shows are t =
     let root = ap (λ (x : Contents). x.root) c.head.view_is in
-    let honest = c.in-Err.ensures.honest start shown shows s all level are (subst (λ (r : ℕ). TreeStands s all r level) (sym root) t) in
+    let honest = c.in-Err.ensures.honest start shown shows s all level are (subst (λ (r : ℕ). TreeRepresents s all r level) (sym root) t) in
     root_blames c.in-Err.refusal c.of_root.result honest c.of_root.ensures.bad c.of_root.ensures.damaged
 
 pub returns-in-Err-clause-refused : goal.returns-in-Err-clause-refused

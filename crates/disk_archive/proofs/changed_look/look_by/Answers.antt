@@ -11,25 +11,25 @@ use Rattle.disk_archive.proofs.changed_look.look_by.Goals as goal
 
 pub returns-in_err-root-clause-blames : goal.returns-in_err-root-clause-blames
 returns-in_err-root-clause-blames g c ps t =
-    let b = c.root_of.ensures.blames t.start t.shown t.located.store t.versions t.located.level t.shows t.located.says t.located.has.stands in
+    let b = c.root_of.ensures.blames t.start t.shown t.located.store t.versions t.located.level t.shows t.located.represents_node t.located.has.represents_all in
     search (rules, b)
 
 pub returns-clause-changed : goal.returns-clause-changed
 returns-clause-changed g c ps t has =
-    let stands = c.in_ok-root.ensures.stands t.start t.shown t.located.store t.versions t.located.level t.shows t.located.says t.located.has.stands in
-    let read = tree_read g.P.Pages c.args.pages.now c.root_of.new.pages g.O.OnceDisk c.args.reader.now c.args.seen.now c.args.head.now.root c.args.head.now.fresh c.args.head.now.block c.args.burnt c.requires.burnt ps t c.in_ok-root.root c.root_of.ensures.reads stands in
+    let represents_all = c.in_ok-root.ensures.represents_all t.start t.shown t.located.store t.versions t.located.level t.shows t.located.represents_node t.located.has.represents_all in
+    let read = tree_read g.P.Pages c.args.pages.now c.root_of.new.pages g.O.OnceDisk c.args.reader.now c.args.seen.now c.args.head.now.root c.args.head.now.fresh c.args.head.now.block c.args.burnt c.requires.burnt ps t c.in_ok-root.root c.root_of.ensures.reads represents_all in
     c.in_ok-found.ensures.changed t.versions ps read (c.versions_report.ensures.changed ps t.versions c.args.cursor.now.question t.kept) has
 
 pub returns-clause-answer : goal.returns-clause-answer
 returns-clause-answer g c ps t has =
-    let stands = c.in_ok-root.ensures.stands t.start t.shown t.located.store t.versions t.located.level t.shows t.located.says t.located.has.stands in
-    let read = tree_read g.P.Pages c.args.pages.now c.root_of.new.pages g.O.OnceDisk c.args.reader.now c.args.seen.now c.args.head.now.root c.args.head.now.fresh c.args.head.now.block c.args.burnt c.requires.burnt ps t c.in_ok-root.root c.root_of.ensures.reads stands in
+    let represents_all = c.in_ok-root.ensures.represents_all t.start t.shown t.located.store t.versions t.located.level t.shows t.located.represents_node t.located.has.represents_all in
+    let read = tree_read g.P.Pages c.args.pages.now c.root_of.new.pages g.O.OnceDisk c.args.reader.now c.args.seen.now c.args.head.now.root c.args.head.now.fresh c.args.head.now.block c.args.burnt c.requires.burnt ps t c.in_ok-root.root c.root_of.ensures.reads represents_all in
     c.in_ok-found.ensures.answer t.versions ps read (c.versions_report.ensures.changed ps t.versions c.args.cursor.now.question t.kept) has
 
 pub returns-in_err-found-clause-blames : goal.returns-in_err-found-clause-blames
 returns-in_err-found-clause-blames g c ps t =
-    let stands = c.in_ok-root.ensures.stands t.start t.shown t.located.store t.versions t.located.level t.shows t.located.says t.located.has.stands in
-    let read = tree_read g.P.Pages c.args.pages.now c.root_of.new.pages g.O.OnceDisk c.args.reader.now c.args.seen.now c.args.head.now.root c.args.head.now.fresh c.args.head.now.block c.args.burnt c.requires.burnt ps t c.in_ok-root.root c.root_of.ensures.reads stands in
+    let represents_all = c.in_ok-root.ensures.represents_all t.start t.shown t.located.store t.versions t.located.level t.shows t.located.represents_node t.located.has.represents_all in
+    let read = tree_read g.P.Pages c.args.pages.now c.root_of.new.pages g.O.OnceDisk c.args.reader.now c.args.seen.now c.args.head.now.root c.args.head.now.fresh c.args.head.now.block c.args.burnt c.requires.burnt ps t c.in_ok-root.root c.root_of.ensures.reads represents_all in
     let b : IfErr c.changed_look.result (λ e. BlamesNone (ask_of_node e)) = if_err ask_of_node NodeBlamesNone BlamesNone c.changed_look.result ask_blames (c.changed_look.ensures.blames t.versions read) in
     search (rules, b)
 
@@ -41,14 +41,14 @@ returns-in_err-found-clause-refused g c =
 
 pub returns-clause-keeps : goal.returns-clause-keeps
 returns-clause-keeps g c ps t =
-    let stands = c.in_ok-root.ensures.stands t.start t.shown t.located.store t.versions t.located.level t.shows t.located.says t.located.has.stands in
-    let read = tree_read g.P.Pages c.args.pages.now c.root_of.new.pages g.O.OnceDisk c.args.reader.now c.args.seen.now c.args.head.now.root c.args.head.now.fresh c.args.head.now.block c.args.burnt c.requires.burnt ps t c.in_ok-root.root c.root_of.ensures.reads stands in
+    let represents_all = c.in_ok-root.ensures.represents_all t.start t.shown t.located.store t.versions t.located.level t.shows t.located.represents_node t.located.has.represents_all in
+    let read = tree_read g.P.Pages c.args.pages.now c.root_of.new.pages g.O.OnceDisk c.args.reader.now c.args.seen.now c.args.head.now.root c.args.head.now.fresh c.args.head.now.block c.args.burnt c.requires.burnt ps t c.in_ok-root.root c.root_of.ensures.reads represents_all in
     (c.changed_look.ensures.stays t.versions read).well
 
 pub returns-in_err-found-clause-keeps : goal.returns-in_err-found-clause-keeps
 returns-in_err-found-clause-keeps g c ps t =
-    let stands = c.in_ok-root.ensures.stands t.start t.shown t.located.store t.versions t.located.level t.shows t.located.says t.located.has.stands in
-    let read = tree_read g.P.Pages c.args.pages.now c.root_of.new.pages g.O.OnceDisk c.args.reader.now c.args.seen.now c.args.head.now.root c.args.head.now.fresh c.args.head.now.block c.args.burnt c.requires.burnt ps t c.in_ok-root.root c.root_of.ensures.reads stands in
+    let represents_all = c.in_ok-root.ensures.represents_all t.start t.shown t.located.store t.versions t.located.level t.shows t.located.represents_node t.located.has.represents_all in
+    let read = tree_read g.P.Pages c.args.pages.now c.root_of.new.pages g.O.OnceDisk c.args.reader.now c.args.seen.now c.args.head.now.root c.args.head.now.fresh c.args.head.now.block c.args.burnt c.requires.burnt ps t c.in_ok-root.root c.root_of.ensures.reads represents_all in
     (c.changed_look.ensures.stays t.versions read).well
 
 pub returns-in_err-root-clause-keeps : goal.returns-in_err-root-clause-keeps

@@ -2,8 +2,8 @@ use Rattle.std.proofs.Common.{rules, ◌≡◌, ◌<◌, ◌^◌, ℕ, [], ◌�
 use Rattle.once_store.specs.Readers.{reader_disk}
 use Rattle.archive_head.specs.Head.{Contents}
 use Rattle.route_history.specs.Kept.{timed}
-use Rattle.version_model.specs.Pages.{TreeStands}
-use Rattle.tsb_tree.specs.Opened.{ShowsRoot}
+use Rattle.version_model.specs.Pages.{TreeRepresents}
+use Rattle.tsb_tree.specs.Opened.{IsShownRoot}
 use Rattle.disk_archive.specs.declared.check_error.CheckError.TheVariants as checks
 use Rattle.tsb_check.specs.declared.in_use.InUse.{InUse}
 use Rattle.tsb_check.specs.InUse.{AreInUse, IsUnusedUnder, IsWithin}
@@ -19,20 +19,20 @@ use Rattle.disk_archive.proofs.checking.count_tree.Goals as goal
 pub returns-in_err-root-clause-finds : goal.returns-in_err-root-clause-finds
 returns-in_err-root-clause-finds g c ps t number few =
     let root = ap (λ (x : Contents). x.root) c.head.view_is in
-    let stands = subst (λ (r : ℕ). TreeStands t.located.store t.versions r t.located.level) (sym root) t.located.has.stands in
-    let f = c.root_of.ensures.finds t.start t.shown t.located.store t.versions t.located.level t.shows t.located.says stands in
+    let represents_all = subst (λ (r : ℕ). TreeRepresents t.located.store t.versions r t.located.level) (sym root) t.located.has.represents_all in
+    let f = c.root_of.ensures.finds t.start t.shown t.located.store t.versions t.located.level t.shows t.located.represents_node represents_all in
     search (rules, f)
 
 pub returns-in_err-count-clause-finds : goal.returns-in_err-count-clause-finds
 returns-in_err-count-clause-finds g c ps t number few =
     let root = c.in_ok-root.root in
     let top = ap (λ (x : Contents). x.root) c.head.view_is in
-    let tree = c.in_ok-root.ensures.stands t.start t.shown t.located.store t.versions t.located.level t.shows t.located.says (subst (λ (r : ℕ). TreeStands t.located.store t.versions r t.located.level) (sym top) t.located.has.stands) in
+    let tree = c.in_ok-root.ensures.represents_all t.start t.shown t.located.store t.versions t.located.level t.shows t.located.represents_node (subst (λ (r : ℕ). TreeRepresents t.located.store t.versions r t.located.level) (sym top) t.located.has.represents_all) in
     let shows = c.root_of.ensures.reads t.start t.shown t.shows in
-    let stands = at_root t.shown t.located.store t.versions root.page root.level root refl refl c.in_ok-root.ensures.place.keys t.located.says tree in
+    let represents_all = at_root t.shown t.located.store t.versions root.page root.level root refl refl c.in_ok-root.ensures.place.keys t.located.represents_node tree in
     let known = known_of g.P.Pages c.args.pages.now g.O.OnceDisk c.args.reader.now c.args.seen.now c.args.head.now.root c.args.head.now.fresh c.args.head.now.block ps t in
     let within = subst (IsWithin t.located.store) (sym c.in_use_by-in_use.ensures) (within_of g.P.Pages c.args.pages.now g.O.OnceDisk c.args.reader.now c.args.seen.now c.args.head.now.root c.args.head.now.fresh c.args.head.now.block c.args.burnt c.requires.burnt ps t) in
-    let f = finds_none c.check.result (λ page e. c.check.ensures.blames t.start t.shown shows t.located.store t.versions stands within page e) (λ block e. c.check.ensures.never t.start t.shown shows t.located.store t.versions stands t.well known block e) in
+    let f = finds_none c.check.result (λ page e. c.check.ensures.blames t.start t.shown shows t.located.store t.versions represents_all within page e) (λ block e. c.check.ensures.never t.start t.shown shows t.located.store t.versions represents_all t.well known block e) in
     search (rules, f)
 
 pub returns-in_err-root-clause-bad : goal.returns-in_err-root-clause-bad
@@ -45,7 +45,7 @@ returns-in_err-root-clause-bad g c start shown shows well page is =
     let blocks = g.O.OnceDisk.block_count (reader_disk c.args.reader.now) in
     let in_use : InUse = record { recorded_on = 0; pages = c.args.head.now.fresh; blocks = c.args.head.now.block; burnt = c.args.burnt } in
     subst (λ (p : ℕ). IsBadPage shown known blocks c.args.head.now.root c.args.head.now.applied in_use p) (sym (bad.0 ∙ top))
-    (no_root (subst (λ (r : ℕ). (level : ℕ) → ShowsRoot shown r level → ⊥) top bad.1))
+    (no_root (subst (λ (r : ℕ). (level : ℕ) → IsShownRoot shown r level → ⊥) top bad.1))
 
 pub returns-in_err-count-clause-bad : goal.returns-in_err-count-clause-bad
 returns-in_err-count-clause-bad g c start shown shows well page is =
@@ -61,10 +61,10 @@ returns-in_err-count-clause-bad g c start shown shows well page is =
 pub returns-then-count-head-clause-finds : goal.returns-then-count-head-clause-finds
 returns-then-count-head-clause-finds g c ps t number few =
     let top = ap (λ (x : Contents). x.root) c.head.view_is in
-    let tree = c.in_ok-root.ensures.stands t.start t.shown t.located.store t.versions t.located.level t.shows t.located.says (subst (λ (r : ℕ). TreeStands t.located.store t.versions r t.located.level) (sym top) t.located.has.stands) in
+    let tree = c.in_ok-root.ensures.represents_all t.start t.shown t.located.store t.versions t.located.level t.shows t.located.represents_node (subst (λ (r : ℕ). TreeRepresents t.located.store t.versions r t.located.level) (sym top) t.located.has.represents_all) in
     let shows = c.root_of.ensures.reads t.start t.shown t.shows in
     let known = known_of g.P.Pages c.args.pages.now g.O.OnceDisk c.args.reader.now c.args.seen.now c.args.head.now.root c.args.head.now.fresh c.args.head.now.block ps t in
-    let counted = c.in_ok-count.ensures.counted t.start t.shown shows t.located.store t.versions t.located.says c.in_ok-root.ensures.place.keys tree t.well known in
+    let counted = c.in_ok-count.ensures.counted t.start t.shown shows t.located.store t.versions t.located.represents_node c.in_ok-root.ensures.place.keys tree t.well known in
     let many = as_many 0 (timed ps) t.versions t.kept in
     let is = reported_is c.in_ok-count.count (length t.versions) (length (timed ps)) counted many (subst (λ n. n < 2 ^ 64) number few) in
     let applied = ap (λ (x : Contents). x.applied) c.head.view_is in

@@ -2,7 +2,7 @@ use Rattle.std.proofs.Common.{◌≡◌, ℕ, sym, ◌∙◌, ap, subst, Err}
 use Rattle.page_tx.specs.declared.error.PageError.TheVariants as pages
 use Rattle.tsb_tree.specs.declared.error.TreeError.{TreeError}
 use Rattle.tsb_tree.specs.declared.error.TreeError.TheVariants as trees
-use Rattle.version_model.specs.Pages.{TreeStands}
+use Rattle.version_model.specs.Pages.{TreeRepresents}
 use Rattle.disk_archive.specs.declared.check_error.CheckError.TheVariants as checks
 use Rattle.disk_archive.proofs.Counts.{root_finds}
 use Rattle.disk_archive.proofs.Faults.{keeps_reported}
@@ -14,11 +14,11 @@ of_root-requires g c = record { read = (g.P.Pages.down c.args.pages.now, c.in-Er
 pub returns-in-Ok-clause-place : goal.returns-in-Ok-clause-place
 returns-in-Ok-clause-place g c = record { page = c.root.ensures.page ∙ c.in-Ok.ensures.root; keys = c.root.ensures.keys }
 
-pub returns-in-Ok-clause-stands : goal.returns-in-Ok-clause-stands
-returns-in-Ok-clause-stands g c start shown s all level shows are t =
+pub returns-in-Ok-clause-represents_all : goal.returns-in-Ok-clause-represents_all
+returns-in-Ok-clause-represents_all g c start shown s all level shows are t =
     let reported = c.in-Ok.ensures.opened start shown shows s all level are t in
-    subst (λ (r : ℕ). TreeStands s all r c.root.result.level) (sym (c.root.ensures.page ∙ c.in-Ok.ensures.root))
-    (subst (λ (l : ℕ). TreeStands s all c.args.root l) (sym (c.root.ensures.level ∙ reported)) t)
+    subst (λ (r : ℕ). TreeRepresents s all r c.root.result.level) (sym (c.root.ensures.page ∙ c.in-Ok.ensures.root))
+    (subst (λ (l : ℕ). TreeRepresents s all c.args.root l) (sym (c.root.ensures.level ∙ reported)) t)
 
 pub returns-in-Err-clause-finds : goal.returns-in-Err-clause-finds
 returns-in-Err-clause-finds g c start shown s all level shows are t =

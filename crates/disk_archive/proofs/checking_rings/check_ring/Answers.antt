@@ -1,7 +1,7 @@
 use Rattle.std.proofs.Common.{rules, ◌≡◌, ℕ, List, length, sym, ◌∙◌, subst, true≢false}
 use Rattle.intake.specs.declared.ring.Ring.{Ring}
 use Rattle.intake.specs.Ring.{IsRing}
-use Rattle.intake.specs.Standing.{BreaksOn}
+use Rattle.intake.specs.Outlines.{BreaksOn}
 use Rattle.archive_pages.specs.Places.{ring_of}
 use Rattle.disk_archive.specs.Rings.{IsBadRing, no_ring, breaks_on}
 use Rattle.disk_archive.proofs.checking_rings.check_ring.Goals as goal

@@ -19,33 +19,33 @@ use Rattle.disk_archive.proofs.descending.descend_by.Goals as goal
 
 pub returns-in_err-root-clause-blames : goal.returns-in_err-root-clause-blames
 returns-in_err-root-clause-blames g c count known h t =
-    let b = c.root_of.ensures.blames t.start t.shown t.located.store t.versions t.located.level t.shows t.located.says t.located.has.stands in
+    let b = c.root_of.ensures.blames t.start t.shown t.located.store t.versions t.located.level t.shows t.located.represents_node t.located.has.represents_all in
     search (rules, b)
 
 pub returns-in_ok-turn-in-Rows-clause-descends : goal.returns-in_ok-turn-in-Rows-clause-descends
 returns-in_ok-turn-in-Rows-clause-descends g c count known h t below gathered =
-    let stands = c.in_ok-root.ensures.stands t.start t.shown t.located.store t.versions t.located.level t.shows t.located.says t.located.has.stands in
+    let represents_all = c.in_ok-root.ensures.represents_all t.start t.shown t.located.store t.versions t.located.level t.shows t.located.represents_node t.located.has.represents_all in
     let is = c.in-Rows.is in
     let moment = subst (λ (x : Cursor). last_moment (asks x) < settled h) is below in
     let so_far = subst (λ (x : Cursor). IsGathered x h) is gathered in
-    let reported = rows_descends g.P.Pages c.args.pages.now count known c.args.head.now.root c.args.head.now.block c.args.burnt c.requires.burnt h t c.versions_report.ensures.rows c.gathered_follows_histories.ensures.rows c.root_of.new.pages c.in_ok-root.root c.root_of.ensures.reads stands c.in-Rows.rows c.rows_turn.new.cursor c.in_ok-turn-in-Rows.turn c.rows_turn.ensures.question moment so_far c.rows_turn.ensures.gathered c.in_ok-turn-in-Rows.ensures.turn in
+    let reported = rows_descends g.P.Pages c.args.pages.now count known c.args.head.now.root c.args.head.now.block c.args.burnt c.requires.burnt h t c.versions_report.ensures.rows c.gathered_follows_histories.ensures.rows c.root_of.new.pages c.in_ok-root.root c.root_of.ensures.reads represents_all c.in-Rows.rows c.rows_turn.new.cursor c.in_ok-turn-in-Rows.turn c.rows_turn.ensures.question moment so_far c.rows_turn.ensures.gathered c.in_ok-turn-in-Rows.ensures.turn in
     subst (λ (x : Cursor). Descends count known h x (Rows c.rows_turn.new.cursor) c.of_rows.result) (sym is) (subst (λ (d : Descent). Descends count known h (Rows c.in-Rows.rows) (Rows c.rows_turn.new.cursor) d) (sym c.of_rows.ensures) reported)
 
 pub returns-in_ok-turn-in-Rows-clause-gathered : goal.returns-in_ok-turn-in-Rows-clause-gathered
 returns-in_ok-turn-in-Rows-clause-gathered g c count known h t below gathered =
-    let stands = c.in_ok-root.ensures.stands t.start t.shown t.located.store t.versions t.located.level t.shows t.located.says t.located.has.stands in
+    let represents_all = c.in_ok-root.ensures.represents_all t.start t.shown t.located.store t.versions t.located.level t.shows t.located.represents_node t.located.has.represents_all in
     let is = c.in-Rows.is in
     let moment = subst (λ (x : Cursor). last_moment (asks x) < settled h) is below in
     let so_far = subst (λ (x : Cursor). IsGathered x h) is gathered in
-    rows_gathered g.P.Pages c.args.pages.now count known c.args.head.now.root c.args.head.now.block c.args.burnt c.requires.burnt h t c.versions_report.ensures.rows c.gathered_follows_histories.ensures.rows c.root_of.new.pages c.in_ok-root.root c.root_of.ensures.reads stands c.in-Rows.rows c.rows_turn.new.cursor c.rows_turn.ensures.question moment so_far c.rows_turn.ensures.gathered
+    rows_gathered g.P.Pages c.args.pages.now count known c.args.head.now.root c.args.head.now.block c.args.burnt c.requires.burnt h t c.versions_report.ensures.rows c.gathered_follows_histories.ensures.rows c.root_of.new.pages c.in_ok-root.root c.root_of.ensures.reads represents_all c.in-Rows.rows c.rows_turn.new.cursor c.rows_turn.ensures.question moment so_far c.rows_turn.ensures.gathered
 
 pub returns-in_err-turn-in-Rows-clause-gathered : goal.returns-in_err-turn-in-Rows-clause-gathered
 returns-in_err-turn-in-Rows-clause-gathered g c count known h t below gathered =
-    let stands = c.in_ok-root.ensures.stands t.start t.shown t.located.store t.versions t.located.level t.shows t.located.says t.located.has.stands in
+    let represents_all = c.in_ok-root.ensures.represents_all t.start t.shown t.located.store t.versions t.located.level t.shows t.located.represents_node t.located.has.represents_all in
     let is = c.in-Rows.is in
     let moment = subst (λ (x : Cursor). last_moment (asks x) < settled h) is below in
     let so_far = subst (λ (x : Cursor). IsGathered x h) is gathered in
-    rows_gathered g.P.Pages c.args.pages.now count known c.args.head.now.root c.args.head.now.block c.args.burnt c.requires.burnt h t c.versions_report.ensures.rows c.gathered_follows_histories.ensures.rows c.root_of.new.pages c.in_ok-root.root c.root_of.ensures.reads stands c.in-Rows.rows c.rows_turn.new.cursor c.rows_turn.ensures.question moment so_far c.rows_turn.ensures.gathered
+    rows_gathered g.P.Pages c.args.pages.now count known c.args.head.now.root c.args.head.now.block c.args.burnt c.requires.burnt h t c.versions_report.ensures.rows c.gathered_follows_histories.ensures.rows c.root_of.new.pages c.in_ok-root.root c.root_of.ensures.reads represents_all c.in-Rows.rows c.rows_turn.new.cursor c.rows_turn.ensures.question moment so_far c.rows_turn.ensures.gathered
 
 pub returns-in_ok-turn-in-Rows-clause-further : goal.returns-in_ok-turn-in-Rows-clause-further
 returns-in_ok-turn-in-Rows-clause-further g c =
@@ -54,8 +54,8 @@ returns-in_ok-turn-in-Rows-clause-further g c =
 
 pub returns-in_err-turn-in-Rows-clause-blames : goal.returns-in_err-turn-in-Rows-clause-blames
 returns-in_err-turn-in-Rows-clause-blames g c count known h t =
-    let stands = c.in_ok-root.ensures.stands t.start t.shown t.located.store t.versions t.located.level t.shows t.located.says t.located.has.stands in
-    let shown = shows_tree g.P.Pages c.args.pages.now count known c.args.head.now.root c.args.head.now.block c.args.burnt c.requires.burnt h t c.root_of.new.pages c.in_ok-root.root c.root_of.ensures.reads stands in
+    let represents_all = c.in_ok-root.ensures.represents_all t.start t.shown t.located.store t.versions t.located.level t.shows t.located.represents_node t.located.has.represents_all in
+    let shown = shows_tree g.P.Pages c.args.pages.now count known c.args.head.now.root c.args.head.now.block c.args.burnt c.requires.burnt h t c.root_of.new.pages c.in_ok-root.root c.root_of.ensures.reads represents_all in
     let b : IfErr c.rows_turn.result (λ e. BlamesNone (ask_of_node e)) = if_err ask_of_node NodeBlamesNone BlamesNone c.rows_turn.result ask_blames (c.rows_turn.ensures.blames t.located.store t.versions shown) in
     search (rules, b)
 
@@ -68,28 +68,28 @@ returns-in_err-turn-in-Rows-clause-refused g c =
 
 pub returns-in_ok-turn-in-Events-clause-descends : goal.returns-in_ok-turn-in-Events-clause-descends
 returns-in_ok-turn-in-Events-clause-descends g c count known h t below gathered =
-    let stands = c.in_ok-root.ensures.stands t.start t.shown t.located.store t.versions t.located.level t.shows t.located.says t.located.has.stands in
+    let represents_all = c.in_ok-root.ensures.represents_all t.start t.shown t.located.store t.versions t.located.level t.shows t.located.represents_node t.located.has.represents_all in
     let is = c.in-Events.is in
     let moment = subst (λ (x : Cursor). last_moment (asks x) < settled h) is below in
     let so_far = subst (λ (x : Cursor). IsGathered x h) is gathered in
-    let reported = events_descends g.P.Pages c.args.pages.now count known c.args.head.now.root c.args.head.now.block c.args.burnt c.requires.burnt h t c.versions_report.ensures.events c.gathered_follows_histories.ensures.events c.root_of.new.pages c.in_ok-root.root c.root_of.ensures.reads stands c.in-Events.events c.events_turn.new.cursor c.in_ok-turn-in-Events.turn c.events_turn.ensures.question moment c.encoded_len-len.ensures.valid c.address-address.ensures.valid so_far c.events_turn.ensures.gathered c.in_ok-turn-in-Events.ensures.turn in
+    let reported = events_descends g.P.Pages c.args.pages.now count known c.args.head.now.root c.args.head.now.block c.args.burnt c.requires.burnt h t c.versions_report.ensures.events c.gathered_follows_histories.ensures.events c.root_of.new.pages c.in_ok-root.root c.root_of.ensures.reads represents_all c.in-Events.events c.events_turn.new.cursor c.in_ok-turn-in-Events.turn c.events_turn.ensures.question moment c.encoded_len-len.ensures.valid c.address-address.ensures.valid so_far c.events_turn.ensures.gathered c.in_ok-turn-in-Events.ensures.turn in
     subst (λ (x : Cursor). Descends count known h x (Events c.events_turn.new.cursor) c.of_events.result) (sym is) (subst (λ (d : Descent). Descends count known h (Events c.in-Events.events) (Events c.events_turn.new.cursor) d) (sym c.of_events.ensures) reported)
 
 pub returns-in_ok-turn-in-Events-clause-gathered : goal.returns-in_ok-turn-in-Events-clause-gathered
 returns-in_ok-turn-in-Events-clause-gathered g c count known h t below gathered =
-    let stands = c.in_ok-root.ensures.stands t.start t.shown t.located.store t.versions t.located.level t.shows t.located.says t.located.has.stands in
+    let represents_all = c.in_ok-root.ensures.represents_all t.start t.shown t.located.store t.versions t.located.level t.shows t.located.represents_node t.located.has.represents_all in
     let is = c.in-Events.is in
     let moment = subst (λ (x : Cursor). last_moment (asks x) < settled h) is below in
     let so_far = subst (λ (x : Cursor). IsGathered x h) is gathered in
-    events_gathered g.P.Pages c.args.pages.now count known c.args.head.now.root c.args.head.now.block c.args.burnt c.requires.burnt h t c.versions_report.ensures.events c.gathered_follows_histories.ensures.events c.root_of.new.pages c.in_ok-root.root c.root_of.ensures.reads stands c.in-Events.events c.events_turn.new.cursor c.events_turn.ensures.question moment c.encoded_len-len.ensures.valid c.address-address.ensures.valid so_far c.events_turn.ensures.gathered
+    events_gathered g.P.Pages c.args.pages.now count known c.args.head.now.root c.args.head.now.block c.args.burnt c.requires.burnt h t c.versions_report.ensures.events c.gathered_follows_histories.ensures.events c.root_of.new.pages c.in_ok-root.root c.root_of.ensures.reads represents_all c.in-Events.events c.events_turn.new.cursor c.events_turn.ensures.question moment c.encoded_len-len.ensures.valid c.address-address.ensures.valid so_far c.events_turn.ensures.gathered
 
 pub returns-in_err-turn-in-Events-clause-gathered : goal.returns-in_err-turn-in-Events-clause-gathered
 returns-in_err-turn-in-Events-clause-gathered g c count known h t below gathered =
-    let stands = c.in_ok-root.ensures.stands t.start t.shown t.located.store t.versions t.located.level t.shows t.located.says t.located.has.stands in
+    let represents_all = c.in_ok-root.ensures.represents_all t.start t.shown t.located.store t.versions t.located.level t.shows t.located.represents_node t.located.has.represents_all in
     let is = c.in-Events.is in
     let moment = subst (λ (x : Cursor). last_moment (asks x) < settled h) is below in
     let so_far = subst (λ (x : Cursor). IsGathered x h) is gathered in
-    events_gathered g.P.Pages c.args.pages.now count known c.args.head.now.root c.args.head.now.block c.args.burnt c.requires.burnt h t c.versions_report.ensures.events c.gathered_follows_histories.ensures.events c.root_of.new.pages c.in_ok-root.root c.root_of.ensures.reads stands c.in-Events.events c.events_turn.new.cursor c.events_turn.ensures.question moment c.encoded_len-len.ensures.valid c.address-address.ensures.valid so_far c.events_turn.ensures.gathered
+    events_gathered g.P.Pages c.args.pages.now count known c.args.head.now.root c.args.head.now.block c.args.burnt c.requires.burnt h t c.versions_report.ensures.events c.gathered_follows_histories.ensures.events c.root_of.new.pages c.in_ok-root.root c.root_of.ensures.reads represents_all c.in-Events.events c.events_turn.new.cursor c.events_turn.ensures.question moment c.encoded_len-len.ensures.valid c.address-address.ensures.valid so_far c.events_turn.ensures.gathered
 
 pub returns-in_ok-turn-in-Events-clause-further : goal.returns-in_ok-turn-in-Events-clause-further
 returns-in_ok-turn-in-Events-clause-further g c =
@@ -98,8 +98,8 @@ returns-in_ok-turn-in-Events-clause-further g c =
 
 pub returns-in_err-turn-in-Events-clause-blames : goal.returns-in_err-turn-in-Events-clause-blames
 returns-in_err-turn-in-Events-clause-blames g c count known h t =
-    let stands = c.in_ok-root.ensures.stands t.start t.shown t.located.store t.versions t.located.level t.shows t.located.says t.located.has.stands in
-    let shown = shows_tree g.P.Pages c.args.pages.now count known c.args.head.now.root c.args.head.now.block c.args.burnt c.requires.burnt h t c.root_of.new.pages c.in_ok-root.root c.root_of.ensures.reads stands in
+    let represents_all = c.in_ok-root.ensures.represents_all t.start t.shown t.located.store t.versions t.located.level t.shows t.located.represents_node t.located.has.represents_all in
+    let shown = shows_tree g.P.Pages c.args.pages.now count known c.args.head.now.root c.args.head.now.block c.args.burnt c.requires.burnt h t c.root_of.new.pages c.in_ok-root.root c.root_of.ensures.reads represents_all in
     let b : IfErr c.events_turn.result (λ e. BlamesNone (ask_of_node e)) = if_err ask_of_node NodeBlamesNone BlamesNone c.events_turn.result ask_blames (c.events_turn.ensures.blames t.located.store t.versions shown) in
     search (rules, b)
 

@@ -2,7 +2,7 @@ use Rattle.std.proofs.Common.{rules, ◌≡◌, ◌∷◌, sym, ◌∙◌, ap, s
 use Rattle.page_tx.specs.declared.error.PageError.TheVariants as pages
 use Rattle.archive_head.specs.declared.lane.Lane.{Lane}
 use Rattle.intake.specs.declared.ring.Ring.{Ring}
-use Rattle.intake.specs.Ring.{Holds}
+use Rattle.intake.specs.Ring.{RingRepresents}
 use Rattle.intake.specs.Calls.{ReadRefusal}
 use Rattle.archive_pages.specs.Places.{ring_of}
 use Rattle.sequencer.proofs.api.Setting.{one_there}
@@ -13,14 +13,14 @@ use Rattle.disk_archive.proofs.planning_application.front_of.Goals as goal
 pub returns-in-Ok-None-clause-sound : goal.returns-in-Ok-None-clause-sound
 returns-in-Ok-None-clause-sound g c start shown lane first rest shows at place holds page e =
     let same = one_there (slice_get c.args.head.now.lanes c.args.collector) lane c.lane_of.result at c.lane_of.ensures.lane in
-    let here = subst (λ (r : Ring). Holds shown r (first ∷ rest)) (ap (λ (l : Lane). ring_of c.args.settings c.args.collector l) same ∙ sym c.ring-ring.ensures) holds in
+    let here = subst (λ (r : Ring). RingRepresents shown r (first ∷ rest)) (ap (λ (l : Lane). ring_of c.args.settings c.args.collector l) same ∙ sym c.ring-ring.ensures) holds in
     let none = c.in-Ok-None.ensures.front start shown (first ∷ rest) shows here in
     absurd cc
 
 pub returns-in-Err-BadNode-clause-sound : goal.returns-in-Err-BadNode-clause-sound
 returns-in-Err-BadNode-clause-sound g c start shown lane first rest shows at place holds page e =
     let same = one_there (slice_get c.args.head.now.lanes c.args.collector) lane c.lane_of.result at c.lane_of.ensures.lane in
-    let here = subst (λ (r : Ring). Holds shown r (first ∷ rest)) (ap (λ (l : Lane). ring_of c.args.settings c.args.collector l) same ∙ sym c.ring-ring.ensures) holds in
+    let here = subst (λ (r : Ring). RingRepresents shown r (first ∷ rest)) (ap (λ (l : Lane). ring_of c.args.settings c.args.collector l) same ∙ sym c.ring-ring.ensures) holds in
     c.front.ensures.damaged c.in-Err-BadNode.page (search rules) start shown (first ∷ rest) shows here
 
 pub returns-in-Err-Pages-clause-refused : goal.returns-in-Err-Pages-clause-refused

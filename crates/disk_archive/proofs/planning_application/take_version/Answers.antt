@@ -4,14 +4,14 @@ use Rattle.disk_models.specs.Once.{settled_in}
 use Rattle.once_store.specs.Shelves.{disk_of, next_of, pen_of}
 use Rattle.archive_head.specs.Head.{Contents}
 use Rattle.route_history.specs.Stamps.{stamp_of}
-use Rattle.version_model.specs.Pages.{TreeStands}
+use Rattle.version_model.specs.Pages.{TreeRepresents}
 use Rattle.disk_archive.specs.declared.apply_error.ApplyError.TheVariants as applies
 use Rattle.disk_archive.specs.declared.change_error.ChangeError.TheVariants as changes
 use Rattle.version_model.specs.Entries.{version_of}
 use Rattle.once_store.specs.declared.error.AppendError.TheVariants as appends
 use Rattle.page_tx.specs.declared.error.PageError.TheVariants as pages
 use Rattle.tsb_tree.specs.declared.error.TreeError.TheVariants as trees
-use Rattle.tsb_tree.specs.Opened.{HasRootLevel, ShowsRoot}
+use Rattle.tsb_tree.specs.Opened.{HasRootLevel, IsShownRoot}
 use Rattle.tsb_tree.specs.NoRoom.{AtRoot}
 use Rattle.tsb_tree.specs.Needs.{NeedsLevel, NeedsPages}
 use Rattle.tsb_tree.specs.Shelves.{HasNoneBlank}
@@ -60,7 +60,7 @@ returns-in-Ok-insert-clause-takes g c start shown low versions shows honest t =
     let next' = reads.next ∙ (c.requires.next ∙ ap (λ n. min h.fresh n) (sym reads.homes)) in
     let root = ap (λ (x : Contents). x.root) view in
     let least : c.new-least.result ≡ stamp_of h.last h.applied = c.new-least.ensures.number ∙ (ap (λ (t : ℕ). stamp_of t c.head.inside.applied) (c.seconds.ensures.seconds ∙ ap (λ (x : Contents). x.last) view) ∙ ap (λ (n : ℕ). stamp_of h.last n) (ap (λ (x : Contents). x.applied) view)) in
-    let level = c.in-Ok.ensures.opened start shown shows t.store versions t.level t.says (subst (λ (r : ℕ). TreeStands t.store versions r t.level) (sym root) t.has.stands) in
+    let level = c.in-Ok.ensures.opened start shown shows t.store versions t.level t.represents_node (subst (λ (r : ℕ). TreeRepresents t.store versions r t.level) (sym root) t.has.represents_all) in
     let tree = shown_at P c.open.new.pages O c.args.shelf.now start shown low h.root h.fresh h.block (stamp_of h.last h.applied) versions shows' honest count next' c.requires.block t
     c.in-Ok.place.root c.in-Ok.place.level c.in-Ok.place.least (c.in-Ok.ensures.root ∙ root) level (c.in-Ok.ensures.least ∙ least) in
     let all = versions ++ version_of c.args.entry.now ∷ [] in
@@ -85,7 +85,7 @@ returns-in-Err-insert-clause-sound g c start shown low versions shows honest t p
     let next' = reads.next ∙ (c.requires.next ∙ ap (λ n. min h.fresh n) (sym reads.homes)) in
     let root = ap (λ (x : Contents). x.root) view in
     let least : c.new-least.result ≡ stamp_of h.last h.applied = c.new-least.ensures.number ∙ (ap (λ (t : ℕ). stamp_of t c.head.inside.applied) (c.seconds.ensures.seconds ∙ ap (λ (x : Contents). x.last) view) ∙ ap (λ (n : ℕ). stamp_of h.last n) (ap (λ (x : Contents). x.applied) view)) in
-    let level = c.in-Ok.ensures.opened start shown shows t.store versions t.level t.says (subst (λ (r : ℕ). TreeStands t.store versions r t.level) (sym root) t.has.stands) in
+    let level = c.in-Ok.ensures.opened start shown shows t.store versions t.level t.represents_node (subst (λ (r : ℕ). TreeRepresents t.store versions r t.level) (sym root) t.has.represents_all) in
     let tree = shown_at P c.open.new.pages O c.args.shelf.now start shown low h.root h.fresh h.block (stamp_of h.last h.applied) versions shows' honest count next' c.requires.block t
     c.in-Ok.place.root c.in-Ok.place.level c.in-Ok.place.least (c.in-Ok.ensures.root ∙ root) level (c.in-Ok.ensures.least ∙ least) in
     let reported : c.of_tree-in-Err-insert.result ≡ changes.Apply (applies.BadNode page) = cc in
@@ -133,7 +133,7 @@ returns-in-Err-insert-clause-lacks g c start shown low versions shows honest t =
     let next' = reads.next ∙ (c.requires.next ∙ ap (λ n. min h.fresh n) (sym reads.homes)) in
     let root = ap (λ (x : Contents). x.root) view in
     let least : c.new-least.result ≡ stamp_of h.last h.applied = c.new-least.ensures.number ∙ (ap (λ (t : ℕ). stamp_of t c.head.inside.applied) (c.seconds.ensures.seconds ∙ ap (λ (x : Contents). x.last) view) ∙ ap (λ (n : ℕ). stamp_of h.last n) (ap (λ (x : Contents). x.applied) view)) in
-    let level = c.in-Ok.ensures.opened start shown shows t.store versions t.level t.says (subst (λ (r : ℕ). TreeStands t.store versions r t.level) (sym root) t.has.stands) in
+    let level = c.in-Ok.ensures.opened start shown shows t.store versions t.level t.represents_node (subst (λ (r : ℕ). TreeRepresents t.store versions r t.level) (sym root) t.has.represents_all) in
     let here = c.in-Ok.ensures.root ∙ root in
     let tree = shown_at P c.open.new.pages O c.args.shelf.now start shown low h.root h.fresh h.block (stamp_of h.last h.applied) versions shows' honest count next' c.requires.block t
     c.in-Ok.place.root c.in-Ok.place.level c.in-Ok.place.least here level (c.in-Ok.ensures.least ∙ least) in
@@ -156,7 +156,7 @@ returns-in-Err-insert-clause-lacks g c start shown low versions shows honest t =
     record {
       version = v;
       its = refl;
-      highest = subst (λ (n : ℕ). ShowsRoot shown h.root n) (sym level ∙ seven) (tree_root shown t.store versions h.root t.level t.says t.has.stands);
+      highest = subst (λ (n : ℕ). IsShownRoot shown h.root n) (sym level ∙ seven) (tree_root shown t.store versions h.root t.level t.represents_node t.has.represents_all);
       needs = subst (λ (n : ℕ). AtRoot (NeedsLevel shown v) h.root n) seven (subst (λ (r : ℕ). AtRoot (NeedsLevel shown v) r c.in-Ok.place.level) here (c.in-Err-insert.ensures.high start shown versions tree (ap Err (e.high high))));
     })
     (λ once. record {
@@ -181,7 +181,7 @@ returns-in-Ok-insert-clause-room g c start shown low versions shows honest t =
     let next' = reads.next ∙ (c.requires.next ∙ ap (λ n. min h.fresh n) (sym reads.homes)) in
     let root = ap (λ (x : Contents). x.root) view in
     let least : c.new-least.result ≡ stamp_of h.last h.applied = c.new-least.ensures.number ∙ (ap (λ (t : ℕ). stamp_of t c.head.inside.applied) (c.seconds.ensures.seconds ∙ ap (λ (x : Contents). x.last) view) ∙ ap (λ (n : ℕ). stamp_of h.last n) (ap (λ (x : Contents). x.applied) view)) in
-    let level = c.in-Ok.ensures.opened start shown shows t.store versions t.level t.says (subst (λ (r : ℕ). TreeStands t.store versions r t.level) (sym root) t.has.stands) in
+    let level = c.in-Ok.ensures.opened start shown shows t.store versions t.level t.represents_node (subst (λ (r : ℕ). TreeRepresents t.store versions r t.level) (sym root) t.has.represents_all) in
     let here = c.in-Ok.ensures.root ∙ root in
     let tree = shown_at P c.open.new.pages O c.args.shelf.now start shown low h.root h.fresh h.block (stamp_of h.last h.applied) versions shows' honest count next' c.requires.block t
     c.in-Ok.place.root c.in-Ok.place.level c.in-Ok.place.least here level (c.in-Ok.ensures.least ∙ least) in

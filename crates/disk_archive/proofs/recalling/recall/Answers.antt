@@ -51,7 +51,7 @@ returns-in_err-times-clause-sound g c count o start shown h shows b page is =
     let lane = lane_at k c.args.head.now.lanes (omega (arith, all)) in
     let own = own_of count c.args.settings o c.args.head.now shown h k lane.0 b lane.1 in
     let homes = g.met.P.Pages.count c.loop-collector.pages start shown now in
-    c.waiting_of.ensures.sound start shown lane.0 (part k (waiting h)) now lane.1 (subst (λ n. IsRing n (ring_of c.args.settings k lane.0)) homes own.stands.place) own.stands.holds page was
+    c.waiting_of.ensures.sound start shown lane.0 (part k (waiting h)) now lane.1 (subst (λ n. IsRing n (ring_of c.args.settings k lane.0)) homes own.represents_all.place) own.represents_all.holds page was
 
 pub returns-in_err-know_lane-clause-sound : goal.returns-in_err-know_lane-clause-sound
 returns-in_err-know_lane-clause-sound g c count o start shown h shows b page is =
@@ -62,7 +62,7 @@ returns-in_err-know_lane-clause-sound g c count o start shown h shows b page is 
     let was = passed_on c.from_residual-in_err-know_lane.result c.know_lane.result c.in_err-know_lane.field-0.0 page reported c.in_err-know_lane.was is in
     let now = i.same.shown start shown shows in
     let own = own_of count c.args.settings o c.args.head.now shown h k lane b c.lane_of-mark.ensures.lane in
-    let items = c.deref.ensures.value ∙ c.in_ok-times.ensures.times start shown lane (part k (waiting h)) now c.lane_of-mark.ensures.lane own.stands.holds in
+    let items = c.deref.ensures.value ∙ c.in_ok-times.ensures.times start shown lane (part k (waiting h)) now c.lane_of-mark.ensures.lane own.represents_all.holds in
     let rises = subst (IsRising (λ t. t)) (sym items) (waits_rise h k own.intake b.right own.here) in
-    let low = subst (λ (m : ℕ). AllByRecursion (λ t. t ≤ m) c.deref.result.now) (sym own.stands.mark) (subst (AllByRecursion (λ t. t ≤ own.intake.mark)) (sym items) (waits_low h k own.intake b.right own.here)) in
+    let low = subst (λ (m : ℕ). AllByRecursion (λ t. t ≤ m) c.deref.result.now) (sym own.represents_all.mark) (subst (AllByRecursion (λ t. t ≤ own.intake.mark)) (sym items) (waits_low h k own.intake b.right own.here)) in
     c.know_lane.ensures.sound rises low page was

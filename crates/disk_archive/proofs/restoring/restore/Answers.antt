@@ -3,7 +3,7 @@ use Rattle.page_journal.specs.Journal.{disk_of, home_pages, note_of}
 use Rattle.page_journal.specs.Recovers.{Recovers}
 use Rattle.disk_archive.specs.Openings.{IsNoneFaultOrMemory, IsFaultOrMemory}
 use Rattle.disk_models.specs.Erase.{MayLeave}
-use Rattle.disk_archive.specs.inner.Guarding.{MeansOr}
+use Rattle.disk_archive.specs.inner.Guarding.{CrashRepresentsOr}
 use Rattle.disk_archive.proofs.Guarding.{means_opened}
 use Rattle.disk_archive.proofs.Found.{looks_on, none_named, none_reported, one_count, one_note, fault_or_memory_reported}
 use Rattle.disk_archive.proofs.restoring.restore.Goals as goal
@@ -44,21 +44,21 @@ pub returns-in_default-clause-left : goal.returns-in_default-clause-left
 returns-in_default-clause-left g c honest homes note pages reads =
     let device = g.E.EraseDisk in
     let e0 = device.model c.args.erase in
-    subst (λ d. MeansOr (device.model d) e0.clock (MayLeave e0) homes note pages) (sym c.into_disk.ensures.disk)
+    subst (λ d. CrashRepresentsOr (device.model d) e0.clock (MayLeave e0) homes note pages) (sym c.into_disk.ensures.disk)
     (means_opened e0 (device.model (disk_of c.in-Ok.journal)) homes note pages (g.met.E.EraseDisk.sound c.args.erase honest) (c.in-Ok.ensures.crash honest homes note pages reads))
 
 pub returns-in-Ok-look_at-clause-left : goal.returns-in-Ok-look_at-clause-left
 returns-in-Ok-look_at-clause-left g c honest homes note pages reads =
     let device = g.E.EraseDisk in
     let e0 = device.model c.args.erase in
-    subst (λ j. MeansOr (device.model (disk_of j)) e0.clock (MayLeave e0) homes note pages) (sym c.in-Ok-look_at.ensures.journal)
+    subst (λ j. CrashRepresentsOr (device.model (disk_of j)) e0.clock (MayLeave e0) homes note pages) (sym c.in-Ok-look_at.ensures.journal)
     (means_opened e0 (device.model (disk_of c.in-Ok.journal)) homes note pages (g.met.E.EraseDisk.sound c.args.erase honest) (c.in-Ok.ensures.crash honest homes note pages reads))
 
 pub returns-in-Err-look_at-clause-left : goal.returns-in-Err-look_at-clause-left
 returns-in-Err-look_at-clause-left g c honest homes note pages reads =
     let device = g.E.EraseDisk in
     let e0 = device.model c.args.erase in
-    subst (λ d. MeansOr (device.model d) e0.clock (MayLeave e0) homes note pages) (sym c.in-Err-look_at.ensures.refused)
+    subst (λ d. CrashRepresentsOr (device.model d) e0.clock (MayLeave e0) homes note pages) (sym c.in-Err-look_at.ensures.refused)
     (means_opened e0 (device.model (disk_of c.in-Ok.journal)) homes note pages (g.met.E.EraseDisk.sound c.args.erase honest) (c.in-Ok.ensures.crash honest homes note pages reads))
 
 pub returns-in-Err-clause-left : goal.returns-in-Err-clause-left

@@ -1,7 +1,7 @@
 use Rattle.std.proofs.Common.{◌≡◌, ◌↔◌, ◌/◌, ℕ, List, length, arith, sym, ◌∙◌, ap, subst}
 use Rattle.page_journal.specs.Layout.{pages_of}
 use Rattle.page_journal.specs.Recovers.{IsListed}
-use Rattle.intake.specs.Ring.{octets_for, size_of, HoldsAfter}
+use Rattle.intake.specs.Ring.{octets_for, size_of, HasPlaceAfter}
 use Rattle.intake.specs.inner.Drafts.{AreFrom, Covers}
 use Rattle.intake.proofs.Wrapping.{wrapped_low}
 use Rattle.intake.proofs.Images.{are_from, length_numbers, length_pages_of}
@@ -46,10 +46,10 @@ returns-clause-beyond g c n =
     let ring = c.args.ring in
     let begun = c.wrap-at.result / 16384 in
     let all = covers_all ring c.wrap-at.result c.args.octets c.page_count.result c.min-count.result c.requires.ring.start c.requires.room c.wrap-at.ensures c.page_count.ensures.all c.min-count.ensures in
-    subst (λ (ns : List ℕ). IsListed n ns ↔ HoldsAfter ring c.args.octets n) (sym (c.in_ok-put_batch.ensures.numbers ∙ c.in_ok-images.ensures.numbers))
+    subst (λ (ns : List ℕ). IsListed n ns ↔ HasPlaceAfter ring c.args.octets n) (sym (c.in_ok-put_batch.ensures.numbers ∙ c.in_ok-images.ensures.numbers))
     (holds_there ring c.wrap-at.result c.args.octets c.page_count.result c.min-count.result c.requires.ring.start c.requires.room c.wrap-at.ensures c.min-count.ensures c.page_count.ensures.least c.page_count.ensures.none all n)
 
-pub returns-clause-stands : goal.returns-clause-stands
-returns-clause-stands g c start shown stood are long stand =
+pub returns-clause-represents_all : goal.returns-clause-represents_all
+returns-clause-represents_all g c start shown stood are long stand =
     let count = g.met.P.Pages.count c.args.pages.now start shown are in
     c.in_ok-put_batch.ensures.written shown stood (omega (arith, c.requires.ring.inside, count)) long (c.in_ok-images.ensures.stood start shown stood are long stand)

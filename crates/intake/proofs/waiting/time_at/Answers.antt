@@ -1,7 +1,7 @@
 use Rattle.std.proofs.Common.{◌≡◌, ◌≤◌, ◌+◌, ◌++◌, ◌∷◌, [], ℕ, Option, None, Some, SomeIff, arith, refl, sym, ◌∙◌, ap, subst}
 use Rattle.std.specs.Int.{w64, to_be_bytes}
-use Rattle.intake.specs.Standing.{ReportsTimes}
-use Rattle.intake.proofs.Standing.{used_octets, used_length, used_stand}
+use Rattle.intake.specs.Outlines.{ReportsTimes}
+use Rattle.intake.proofs.Representing.{used_octets, used_length, used_stand}
 use Rattle.intake.proofs.Reporting.{reports_more, follows, follows_length, follows_time}
 use Rattle.intake.proofs.waiting.time_at.Goals as goal
 

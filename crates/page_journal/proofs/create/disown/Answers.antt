@@ -1,18 +1,18 @@
 use Rattle.std.proofs.Common.{◌∙◌, ap, sym}
 use Rattle.std.proofs.lemmas.Result.{on_ok_weaker}
-use Rattle.page_journal.specs.Identity.{HoldsNone}
+use Rattle.page_journal.specs.Identity.{HasNoJournal}
 use Rattle.page_journal.proofs.Staging.{one}
 use Rattle.page_journal.proofs.Creating.{first_sync, read_crash, other_disowned, spoilt_crash, disowned_crash, disowned_done}
 use Rattle.page_journal.proofs.create.disown.Goals as goal
 
 pub returns-in_err-sync-clause-crash : goal.returns-in_err-sync-clause-crash
 returns-in_err-sync-clause-crash g c h =
-    first_sync (g.D.EraseDisk.model c.args.disk.now) _ HoldsNone (g.met.D.EraseDisk.sound c.args.disk.now h) (c.sync.ensures.lingers h)
+    first_sync (g.D.EraseDisk.model c.args.disk.now) _ HasNoJournal (g.met.D.EraseDisk.sound c.args.disk.now h) (c.sync.ensures.lingers h)
 
 pub returns-in_err-read_octet-clause-crash : goal.returns-in_err-read_octet-clause-crash
 returns-in_err-read_octet-clause-crash g c h =
     read_crash (g.D.EraseDisk.model c.args.disk.now) _ _ (g.met.D.EraseDisk.sound c.args.disk.now h) (c.sync.ensures.lingers h) (c.in_ok-sync.ensures.syncs h)
-    (c.read_octet.ensures.stays (c.sync.ensures.honest.0 h)) HoldsNone
+    (c.read_octet.ensures.stays (c.sync.ensures.honest.0 h)) HasNoJournal
 
 pub returns-in_err-write_at-clause-crash : goal.returns-in_err-write_at-clause-crash
 returns-in_err-write_at-clause-crash g c h =

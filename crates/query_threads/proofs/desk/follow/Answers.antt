@@ -1,7 +1,7 @@
 use Rattle.std.proofs.Common.{◌∙◌, ◌+◌, ℕ, length, ap, inl, inr, sym}
 use Rattle.board.specs.Past.{Past}
 use Rattle.query_threads.proofs.Catching.{as_many}
-use Rattle.query_threads.proofs.Standing.{never, promised, stays_as}
+use Rattle.query_threads.proofs.Representing.{never, promised, stays_as}
 use Rattle.query_threads.proofs.desk.follow.Goals as goal
 
 pub advance-requires : goal.advance-requires

@@ -22,14 +22,14 @@ on_err (Ok v) P p = tt
 on_err (Err e) P p = p
 
 pub returns-in_default-clause-turn : goal.returns-in_default-clause-turn
-returns-in_default-clause-turn g c = λ blocks all ps stands t gathered.
+returns-in_default-clause-turn g c = λ blocks all ps represents_all t gathered.
     let h = subst (HasLeapt c.args.cursor.now c.leap.new.self) c.in_default.is c.leap.ensures.leapt in
     subst (λ (rows : List Row). IsAnswer ps c.args.cursor.now.question rows c.report.result.more) (sym c.report.ensures.rows)
     (subst (λ (more : Bool). IsAnswer ps c.args.cursor.now.question c.leap.new.self.rows.items more) (sym c.report.ensures.more)
     (leapt_none all ps c.args.cursor.now c.leap.new.self t gathered h))
 
 pub returns-in_default-first-clause-turn : goal.returns-in_default-first-clause-turn
-returns-in_default-first-clause-turn g c = λ blocks all ps stands t gathered.
+returns-in_default-first-clause-turn g c = λ blocks all ps represents_all t gathered.
     let h = subst (HasLeapt c.args.cursor.now c.leap.new.self) c.in-Some.is c.leap.ensures.leapt in
     let q = c.leap.new.self.question in
     let t' : Reports all ps q.moment = subst (λ (x : RowsQuestion). Reports all ps x.moment) (sym h.0) t in
@@ -41,13 +41,13 @@ returns-in_default-first-clause-turn g c = λ blocks all ps stands t gathered.
     (subst (λ (more : Bool). IsAnswer ps q c.leap.new.self.rows.items more) (sym c.report-in_default-first.ensures.more) whole))
 
 pub returns-in_ok-take-in-Here-clause-turn : goal.returns-in_ok-take-in-Here-clause-turn
-returns-in_ok-take-in-Here-clause-turn g c = λ blocks all ps stands t gathered.
+returns-in_ok-take-in-Here-clause-turn g c = λ blocks all ps represents_all t gathered.
     let q = c.leap.new.self.question in
     let h = subst (HasLeapt c.args.cursor.now c.leap.new.self) c.in-Some.is c.leap.ensures.leapt in
     let under = leapt_under all ps c.args.cursor.now c.leap.new.self t gathered c.in-Some.front h in
     let t' : Reports all ps q.moment = subst (λ (x : RowsQuestion). Reports all ps x.moment) (sym h.0) t in
     let at : c.in-Some-first.from ≡ number_at c.in-Some.front = subst (λ (o : Option ℕ). IfSome o (λ k. k ≡ number_at c.in-Some.front)) c.in-Some-first.is c.first.ensures.key in
-    let looked = c.in_ok-reached.ensures.next blocks all stands in
+    let looked = c.in_ok-reached.ensures.next blocks all represents_all in
     let here : IsReached all c.last_stamp.result c.in-Some-first.from (reached_as c.in-Here.reached) = subst (IsLooked blocks all c.in-Some-first.from c.last_stamp.result) c.in-Here.is looked in
     let reached : IsReached all (last_stamp q.moment) (number_at c.in-Some.front) (reached_as c.in-Here.reached) = subst (λ (n : ℕ). IsReached all (last_stamp q.moment) n (reached_as c.in-Here.reached)) at (subst (λ (s : ℕ). IsReached all s c.in-Some-first.from (reached_as c.in-Here.reached)) c.last_stamp.ensures here) in
     let taken = c.in_ok-take-in-Here.ensures.taken all ps t' under reached in
@@ -55,15 +55,15 @@ returns-in_ok-take-in-Here-clause-turn g c = λ blocks all ps stands t gathered.
     (rose_further c.args.cursor.now c.leap.new.self c.in-Some.front (front_number c.take.new.self.front) h taken.1)
 
 pub returns-in-InBlock-clause-turn : goal.returns-in-InBlock-clause-turn
-returns-in-InBlock-clause-turn g c = λ blocks all ps stands t gathered.
+returns-in-InBlock-clause-turn g c = λ blocks all ps represents_all t gathered.
     let q = c.leap.new.self.question in
     let h = subst (HasLeapt c.args.cursor.now c.leap.new.self) c.in-Some.is c.leap.ensures.leapt in
     let at : c.in-Some-first.from ≡ number_at c.in-Some.front = subst (λ (o : Option ℕ). IfSome o (λ k. k ≡ number_at c.in-Some.front)) c.in-Some-first.is c.first.ensures.key in
-    let looked : GoesOnIn blocks all c.in-Some-first.from c.last_stamp.result c.in-InBlock.place = subst (IsLooked blocks all c.in-Some-first.from c.last_stamp.result) c.in-InBlock.is (c.in_ok-reached.ensures.next blocks all stands) in (
+    let looked : GoesOnIn blocks all c.in-Some-first.from c.last_stamp.result c.in-InBlock.place = subst (IsLooked blocks all c.in-Some-first.from c.last_stamp.result) c.in-InBlock.is (c.in_ok-reached.ensures.next blocks all represents_all) in (
       leapt_gathered all ps c.args.cursor.now c.leap.new.self t gathered c.in-Some.front h,
       h.0,
       record { here = ap front_number h.4 ∙ ap (λ (n : ℕ). Some n) (sym at); point = subst (λ (s : ℕ). IsPoint (range_of c.in-InBlock.place.bounds) c.in-Some-first.from s) c.last_stamp.ensures looked.point },
-      looked.stands,
+      looked.represents_all,
       not_back c.args.cursor.now c.leap.new.self c.in-Some.front h,
     )
 

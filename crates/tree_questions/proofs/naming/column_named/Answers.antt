@@ -1,6 +1,6 @@
 use Rattle.std.proofs.Common.{rules, ◌≡◌, Err, arith}
 use Rattle.tsb_walk.specs.declared.error.NodeError.TheVariants.{BadNode}
-use Rattle.tsb_walk.proofs.PageStanding.{below_here, none_bad}
+use Rattle.tsb_walk.proofs.PageRepresenting.{below_here, none_bad}
 use Rattle.tree_questions.proofs.naming.column_named.Goals as goal
 
 pub returns-in_err-at-clause-blames : goal.returns-in_err-at-clause-blames

@@ -17,7 +17,7 @@ returns-clause-gathered g c = λ all ps r t gathered.
     let now = c.next_look.ensures.gathered all ps t gathered in
     let reached = c.in_ok-reached.ensures.next all r in
     let then = c.next_key.ensures.stays all r in
-    let run = c.in_ok-run.ensures.run then.start then.shown then.shows then.store all then.stands in
+    let run = c.in_ok-run.ensures.run then.start then.shown then.shows then.store all then.represents_all in
     let at = c.in-Some.ensures.stamp ∙ ap (λ (q : RowsQuestion). last_stamp q.moment) (sym same) in
     c.in_ok-take_rows.ensures.taken c.in-Some.look.from all ps c.in-Some.ensures.from t' now (subst (λ (s : ℕ). IsReached all s c.in-Some.look.from (reached_as c.in_ok-reached.reached)) at reached)
     (subst (λ (s : ℕ). IsRun all s c.in-Some.look.from c.in_ok-run.run') at run)

@@ -4,7 +4,7 @@ use Rattle.tsb_walk.specs.declared.error.NodeError.TheVariants.{BadNode, Damaged
 use Rattle.tsb_walk.specs.declared.page_place.PagePlace.{PagePlace}
 use Rattle.tsb_check.specs.InUse.{AreInUse, IsUnusedUnder}
 use Rattle.tsb_check.specs.Pages.{ReportsTree, IsBadUnder, IsUnknownUnder, IsDamagedUnder}
-use Rattle.tsb_check.proofs.Standing.{none_bad, none_unknown_under, none_damaged_under}
+use Rattle.tsb_check.proofs.Representing.{none_bad, none_unknown_under, none_damaged_under}
 use Rattle.tsb_check.proofs.Checked.{all_counted}
 use Rattle.tsb_check.proofs.Used.{none_unused}
 use Rattle.tsb_check.proofs.checking.check.Goals as goal
@@ -45,8 +45,8 @@ pub returns-clause-blames : goal.returns-clause-blames
 returns-clause-blames g c = λ start shown shows s all st within page e.
     let one : c.in_ok-places.places.items ≡ c.args.root.now ∷ [] = search rules in
     elim (subst (λ (ps : List PagePlace). IsBadUnder shown ps page ⊎ IsUnusedUnder shown c.args.in_use.now ps page) one (c.count_under.ensures.bad start shown shows page e)) [
-      | inl bad ↦ none_bad shown s all st.are_shown (c.args.root.now ∷ []) page bad (st.stands, tt)
-      | inr unused ↦ none_unused shown s all st.are_shown c.args.in_use.now within (c.args.root.now ∷ []) page unused (st.stands, tt)
+      | inl bad ↦ none_bad shown s all st.are_shown (c.args.root.now ∷ []) page bad (st.represents_all, tt)
+      | inr unused ↦ none_unused shown s all st.are_shown c.args.in_use.now within (c.args.root.now ∷ []) page unused (st.represents_all, tt)
     ]
 
 pub returns-clause-never : goal.returns-clause-never
@@ -55,6 +55,6 @@ returns-clause-never g c = λ start shown shows s all st well known block e.
     let N = g.O.OnceDisk.block_count (reader_disk c.args.reader.now) in
     let one : c.in_ok-places.places.items ≡ c.args.root.now ∷ [] = search rules in
     elim (subst (λ (ps : List PagePlace). IsDamagedUnder shown K N ps block ⊎ IsUnknownUnder shown K N ps) one (c.count_under.ensures.damaged start shown shows well block e)) [
-      | inl damaged ↦ none_damaged_under shown s all st.are_shown K N known (c.args.root.now ∷ []) block damaged (st.stands, tt)
-      | inr lost ↦ none_unknown_under shown s all st.are_shown K N known (c.args.root.now ∷ []) lost (st.stands, tt)
+      | inl damaged ↦ none_damaged_under shown s all st.are_shown K N known (c.args.root.now ∷ []) block damaged (st.represents_all, tt)
+      | inr lost ↦ none_unknown_under shown s all st.are_shown K N known (c.args.root.now ∷ []) lost (st.represents_all, tt)
     ]

@@ -1,12 +1,12 @@
-use Rattle.tsb_node.specs.Saying.{column_said}
+use Rattle.tsb_node.specs.Decoded.{decoded_column}
 use Rattle.tsb_walk.specs.Shown.{keys_at}
 use Rattle.tsb_check.proofs.OnePage.{column_same, column_for}
 use Rattle.tsb_check.proofs.page.column_in.Goals as goal
 
 pub returns-then-not-are_its_keys-clause-none : goal.returns-then-not-are_its_keys-clause-none
-returns-then-not-are_its_keys-clause-none c = λ parts start current says e.
-    let same = column_same c.args.page.now (column_said c.in-Ok.said) (keys_at c.args.place.now) parts start current c.in-Ok.ensures.column says in
+returns-then-not-are_its_keys-clause-none c = λ parts start current represents_node e.
+    let same = column_same c.args.page.now (decoded_column c.in-Ok.decoded) (keys_at c.args.place.now) parts start current c.in-Ok.ensures.column represents_node in
     absurd (cc (c.are_its_keys.ensures.1 same, c.if-not-are_its_keys.true))
 
-pub returns-clause-says : goal.returns-clause-says
-returns-clause-says c = column_for c.args.page.now (column_said c.in-Ok.said) c.args.place.now c.in-Ok.ensures.column (c.are_its_keys.ensures.0 (cc c.if-not-are_its_keys.false))
+pub returns-clause-represents_node : goal.returns-clause-represents_node
+returns-clause-represents_node c = column_for c.args.page.now (decoded_column c.in-Ok.decoded) c.args.place.now c.in-Ok.ensures.column (c.are_its_keys.ensures.0 (cc c.if-not-are_its_keys.false))

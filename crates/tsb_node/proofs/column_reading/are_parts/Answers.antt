@@ -5,7 +5,7 @@ use Rattle.tsb_node.specs.Columns.{part_octets}
 use Rattle.tsb_node.specs.inner.Rows.{IsNextNumber}
 use Rattle.tsb_node.specs.inner.PartReading.{IsPartBefore}
 use Rattle.tsb_node.proofs.PartLaws.{parts_encoded, front-size}
-use Rattle.tsb_node.proofs.RowLaws.{HasRead, read_start, read_on, read_end, row_stands, nothing_after, front_one}
+use Rattle.tsb_node.proofs.RowLaws.{HasRead, read_start, read_on, read_end, row_represents, nothing_after, front_one}
 use Rattle.tsb_node.proofs.column_reading.are_parts.Goals as goal
 
 abbrev begun : Part → ℕ
@@ -18,7 +18,7 @@ pub returns-in_default : goal.returns-in_default
 returns-in_default c = (
   λ e. absurd cc,
   λ are. absurd (
-      let s = row_stands part_octets (IsPartBefore c.args.end.now) begun 25 (parts_encoded c.args.end.now) c.args.start c.loop.counter c.args.count c.loop.last c.args.bytes.now c.loop.rest.now are.0 c.loop.invariant are.1 c.loop-test.true in
+      let s = row_represents part_octets (IsPartBefore c.args.end.now) begun 25 (parts_encoded c.args.end.now) c.args.start c.loop.counter c.args.count c.loop.last c.args.bytes.now c.loop.rest.now are.0 c.loop.invariant are.1 c.loop-test.true in
       c.in_default.ensures.none s.0 s.1),
 )
 
@@ -27,7 +27,7 @@ returns-then-not-is_next_start c = (
   λ e. absurd cc,
   λ are. (
       let sp = parts_encoded c.args.end.now in
-      let s = row_stands part_octets (IsPartBefore c.args.end.now) begun 25 sp c.args.start c.loop.counter c.args.count c.loop.last c.args.bytes.now c.loop.rest.now are.0 c.loop.invariant are.1 c.loop-test.true in
+      let s = row_represents part_octets (IsPartBefore c.args.end.now) begun 25 sp c.args.start c.loop.counter c.args.count c.loop.last c.args.bytes.now c.loop.rest.now are.0 c.loop.invariant are.1 c.loop-test.true in
       let same : s.0 ≡ c.in-Some.part = front_one part_octets (IsPartBefore c.args.end.now) begun 25 sp c.args.start c.loop.rest.now s.0 c.in-Some.part s.1 c.in-Some.ensures.found in
       c.if-not-is_next_start.ensures.1 (subst (λ (p : Part). IsNextNumber c.args.start c.loop.last p.start) same s.2)),
 )

@@ -3,7 +3,7 @@ use Rattle.std.specs.List.{flat_map}
 use Rattle.std.specs.declared.result.Result.TheVariants.{Ok}
 use Rattle.tsb_node.specs.KeyNodes.{child_octets}
 use Rattle.tsb_node.proofs.ChildLaws.{key_node_header}
-use Rattle.tsb_node.proofs.KeyNodeLaws.{key_node_says, some_child}
+use Rattle.tsb_node.proofs.KeyNodeLaws.{key_node_represents, some_child}
 use Rattle.tsb_node.proofs.NodeLaws.{begun_header}
 use Rattle.tsb_node.proofs.OneNode.{key_node_begun, header_of_key_node, header_of_column}
 use Rattle.tsb_node.proofs.heads.key_node_head.Goals as goal
@@ -15,7 +15,7 @@ returns-in_default-clause-head c = λ node is.
 pub returns-then-not-is_of_key_nodes-clause-head : goal.returns-then-not-is_of_key_nodes-clause-head
 returns-then-not-is_of_key_nodes-clause-head c = λ node is.
     let of = header_of_key_node node c.in-Some.header c.args.octets.now is c.in-Some.ensures.found in
-    let some : 0 < c.in-Some.header.count = omega (arith, of.count_is, (key_node_says node c.args.octets.now is).count_is, (some_child node c.args.octets.now (length node.children) is (sym (key_node_says node c.args.octets.now is).count_is)).0) in
+    let some : 0 < c.in-Some.header.count = omega (arith, of.count_is, (key_node_represents node c.args.octets.now is).count_is, (some_child node c.args.octets.now (length node.children) is (sym (key_node_represents node c.args.octets.now is).count_is)).0) in
     absurd (cc (c.is_of_key_nodes.ensures.1 (of.kind_is, omega (arith, of.level_is, is.valid.lowest), omega (arith, of.level_is, is.valid.highest), some), c.if-not-is_of_key_nodes.true))
 
 pub returns-clause-head : goal.returns-clause-head

@@ -4,7 +4,7 @@ use Rattle.version_model.specs.declared.child.Child.{Child}
 use Rattle.tsb_node.specs.KeyNodes.{child_octets, IsChildEntry}
 use Rattle.tsb_node.specs.inner.Rows.{IsNextNumber}
 use Rattle.tsb_node.proofs.ChildLaws.{children_encoded, child_front-size}
-use Rattle.tsb_node.proofs.RowLaws.{HasRead, read_start, read_on, read_end, row_stands, nothing_after, front_one}
+use Rattle.tsb_node.proofs.RowLaws.{HasRead, read_start, read_on, read_end, row_represents, nothing_after, front_one}
 use Rattle.tsb_node.proofs.key_node_reading.are_children.Goals as goal
 
 abbrev lowest : Child → ℕ
@@ -17,7 +17,7 @@ pub returns-in_default : goal.returns-in_default
 returns-in_default c = (
   λ e. absurd cc,
   λ are. absurd (
-      let s = row_stands child_octets (IsChildEntry c.args.bounds.now) lowest 48 (children_encoded c.args.bounds.now) c.args.bounds.now.low c.loop.counter c.args.count c.loop.last c.args.bytes.now c.loop.rest.now are.0 c.loop.invariant are.1 c.loop-test.true in
+      let s = row_represents child_octets (IsChildEntry c.args.bounds.now) lowest 48 (children_encoded c.args.bounds.now) c.args.bounds.now.low c.loop.counter c.args.count c.loop.last c.args.bytes.now c.loop.rest.now are.0 c.loop.invariant are.1 c.loop-test.true in
       c.in_default.ensures.none s.0 s.1),
 )
 
@@ -26,7 +26,7 @@ returns-then-not-is_next_low c = (
   λ e. absurd cc,
   λ are. (
       let sp = children_encoded c.args.bounds.now in
-      let s = row_stands child_octets (IsChildEntry c.args.bounds.now) lowest 48 sp c.args.bounds.now.low c.loop.counter c.args.count c.loop.last c.args.bytes.now c.loop.rest.now are.0 c.loop.invariant are.1 c.loop-test.true in
+      let s = row_represents child_octets (IsChildEntry c.args.bounds.now) lowest 48 sp c.args.bounds.now.low c.loop.counter c.args.count c.loop.last c.args.bytes.now c.loop.rest.now are.0 c.loop.invariant are.1 c.loop-test.true in
       let same : s.0 ≡ c.in-Some.child = front_one child_octets (IsChildEntry c.args.bounds.now) lowest 48 sp c.args.bounds.now.low c.loop.rest.now s.0 c.in-Some.child s.1 c.in-Some.ensures.found in
       c.if-not-is_next_low.ensures.1 (subst (λ (p : Child). IsNextNumber c.args.bounds.now.low c.loop.last p.low) same s.2)),
 )

@@ -2,7 +2,7 @@ use Rattle.std.proofs.Common.{arith, ◌≡◌, ◌∙◌, ◌<◌, ◌≤◌, �
 use Rattle.version_model.specs.Entries.{versions_of}
 use Rattle.tsb_node.specs.Leaves.{LeafNode, BeginsAsLeaf}
 use Rattle.tsb_node.specs.inner.Reading.{area}
-use Rattle.tsb_node.proofs.Leaves.{leaf_says}
+use Rattle.tsb_node.proofs.Leaves.{leaf_represents}
 use Rattle.tsb_node.proofs.Scanning.{scan_on}
 use Rattle.tsb_node.proofs.SplittingLaws.{next_version, after_none}
 use Rattle.tsb_node.proofs.HoldingLaws.{held_by, whole_here, leaf_holds}
@@ -38,7 +38,7 @@ loop-preserved c =
     let rest = c.loop.rest.now in
     let octets = c.args.octets.now in
     let i = c.loop.counter in
-    let few : (leaf : LeafNode) → BeginsAsLeaf leaf octets → i < length leaf.versions = λ leaf is. (let says = leaf_says leaf octets is in omega (arith, says.count_is, c.loop-test.true, c.number2-count.ensures.number)) in
+    let few : (leaf : LeafNode) → BeginsAsLeaf leaf octets → i < length leaf.versions = λ leaf is. (let represents_node = leaf_represents leaf octets is in omega (arith, represents_node.count_is, c.loop-test.true, c.number2-count.ensures.number)) in
     record {
       there = c.split_at-in-loop.ensures.back ∙ ap (λ (n : ℕ). drop n rest) c.whole_size.ensures ∙ scan_on i rest (area octets) c.loop.invariant.there;
       kept = λ leaf is.
@@ -50,8 +50,8 @@ loop-preserved c =
 
 pub returns-clause-entries : goal.returns-clause-entries
 returns-clause-entries c = λ leaf is.
-    let says = leaf_says leaf c.args.octets.now is in
-    let done : length leaf.versions ≤ c.loop.counter = omega (arith, c.loop-test.false, c.number2-count.ensures.number, says.count_is) in
+    let represents_node = leaf_represents leaf c.args.octets.now is in
+    let done : length leaf.versions ≤ c.loop.counter = omega (arith, c.loop-test.false, c.number2-count.ensures.number, represents_node.count_is) in
     all_kept leaf.versions (versions_of c.loop.kept.items) c.loop.counter done (c.loop.invariant.kept leaf is)
 
 pub split_at-requires-in-loop : goal.split_at-requires-in-loop

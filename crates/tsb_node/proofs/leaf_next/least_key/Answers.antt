@@ -4,7 +4,7 @@ use Rattle.version_model.specs.inner.Lower.{IsLower}
 use Rattle.tsb_node.specs.Leaves.{LeafNode, BeginsAsLeaf}
 use Rattle.tsb_node.specs.inner.Reading.{area}
 use Rattle.tsb_node.specs.inner.Scanning.{IsWholeVersion}
-use Rattle.tsb_node.proofs.Leaves.{leaf_says}
+use Rattle.tsb_node.proofs.Leaves.{leaf_represents}
 use Rattle.tsb_node.proofs.Scanning.{scan_on, broken_none}
 use Rattle.tsb_node.proofs.SplittingLaws.{next_version, after_none}
 use Rattle.tsb_node.proofs.Nexting.{key_next, stamp_next, LeastSo, least_yes, least_no, least_end}
@@ -30,8 +30,8 @@ returns-in_default-clause-least c = λ leaf is.
 
 pub returns-clause-least : goal.returns-clause-least
 returns-clause-least c = λ leaf is.
-    let says = leaf_says leaf c.args.octets.now is in
-    let done : c.loop.counter ≡ length leaf.versions = omega (arith, c.loop-test.false, c.loop.auto.counter-end, c.number2-count.ensures.number, says.count_is) in
+    let represents_node = leaf_represents leaf c.args.octets.now is in
+    let done : c.loop.counter ≡ length leaf.versions = omega (arith, c.loop-test.false, c.loop.auto.counter-end, c.number2-count.ensures.number, represents_node.count_is) in
     least_end leaf.versions c.args.stamp c.args.from c.loop.best (subst (λ (n : ℕ). LeastSo leaf.versions c.args.stamp c.args.from n c.loop.best) done (c.loop.invariant.least leaf is))
 
 pub loop-preserved : goal.loop-preserved
@@ -41,7 +41,7 @@ loop-preserved c =
     let octets = c.args.octets.now in
     let s = c.args.stamp in
     let from = c.args.from in
-    let few : (leaf : LeafNode) → BeginsAsLeaf leaf octets → c.loop.counter < length leaf.versions = λ leaf is. (let says = leaf_says leaf octets is in omega (arith, says.count_is, c.loop-test.true, c.number2-count.ensures.number)) in
+    let few : (leaf : LeafNode) → BeginsAsLeaf leaf octets → c.loop.counter < length leaf.versions = λ leaf is. (let represents_node = leaf_represents leaf octets is in omega (arith, represents_node.count_is, c.loop-test.true, c.number2-count.ensures.number)) in
     record {
       there = c.split_at-in-loop.ensures.back ∙ ap (λ (n : ℕ). drop n rest) found.0 ∙ scan_on c.loop.counter rest (area octets) c.loop.invariant.there;
       least = λ leaf is.

@@ -7,7 +7,7 @@ use Rattle.version_model.proofs.api.Least.{filtered_yes, filtered_no, filtered_a
 use Rattle.version_model.proofs.api.LooksShown.{is_of_yes, is_of_no}
 use Rattle.tsb_node.specs.Leaves.{LeafNode, BeginsAsLeaf}
 use Rattle.tsb_node.specs.inner.Reading.{area, version_in}
-use Rattle.tsb_node.proofs.Leaves.{leaf_says}
+use Rattle.tsb_node.proofs.Leaves.{leaf_represents}
 use Rattle.tsb_node.proofs.Scanning.{scan_on}
 use Rattle.tsb_node.proofs.SplittingLaws.{next_version, after_none}
 use Rattle.tsb_node.proofs.HoldingLaws.{held_by, whole_here, leaf_holds}
@@ -54,7 +54,7 @@ loop-preserved c =
     let to = end_or c.args.end in
     let p = is_of key from to in
     let old = versions_of c.loop.kept.items in
-    let few : (leaf : LeafNode) → BeginsAsLeaf leaf octets → i < length leaf.versions = λ leaf is. (let says = leaf_says leaf octets is in omega (arith, says.count_is, c.loop-test.true, c.number2-count.ensures.number)) in
+    let few : (leaf : LeafNode) → BeginsAsLeaf leaf octets → i < length leaf.versions = λ leaf is. (let represents_node = leaf_represents leaf octets is in omega (arith, represents_node.count_is, c.loop-test.true, c.number2-count.ensures.number)) in
     record {
       there = c.split_at-in-loop.ensures.back ∙ ap (λ (n : ℕ). drop n rest) c.whole_size.ensures ∙ scan_on i rest (area octets) c.loop.invariant.there;
       kept = λ leaf is.
@@ -77,8 +77,8 @@ loop-preserved c =
 
 pub returns-clause-part : goal.returns-clause-part
 returns-clause-part c = λ leaf is.
-    let says = leaf_says leaf c.args.octets.now is in
-    let done : length leaf.versions ≤ c.loop.counter = omega (arith, c.loop-test.false, c.number2-count.ensures.number, says.count_is) in
+    let represents_node = leaf_represents leaf c.args.octets.now is in
+    let done : length leaf.versions ≤ c.loop.counter = omega (arith, c.loop-test.false, c.number2-count.ensures.number, represents_node.count_is) in
     filtered_all (is_of c.args.key c.args.from (end_or c.args.end)) leaf.versions (versions_of c.loop.kept.items) c.loop.counter done (c.loop.invariant.kept leaf is)
 
 pub split_at-requires-in-loop : goal.split_at-requires-in-loop

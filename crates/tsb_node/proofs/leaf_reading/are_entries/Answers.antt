@@ -1,7 +1,7 @@
 use Rattle.std.proofs.Common.{arith, ◌≡◌, ◌∙◌, ℕ, length, sym, subst, refl}
 use Rattle.std.proofs.lemmas.Bool.{eqb-true, eq-eqb}
 use Rattle.tsb_node.specs.inner.Checking.{IsAfter}
-use Rattle.tsb_node.proofs.CheckingLaws.{Checked, check_start, check_on, check_end, entry_stands, stamp_stands, nothing_after}
+use Rattle.tsb_node.proofs.CheckingLaws.{Checked, check_start, check_on, check_end, entry_represents, stamp_represents, nothing_after}
 use Rattle.tsb_node.proofs.leaf_reading.are_entries.Goals as goal
 
 pub loop-init : goal.loop-init
@@ -10,13 +10,13 @@ loop-init c = check_start c.args.bounds.now c.args.bytes.now
 pub returns-in_default : goal.returns-in_default
 returns-in_default c = (
   λ e. absurd cc,
-  λ are. absurd (c.in_default.ensures.none (entry_stands c.args.bounds.now c.args.count c.loop.counter c.args.bytes.now c.loop.rest.now are c.loop-test.true c.loop.invariant.at)),
+  λ are. absurd (c.in_default.ensures.none (entry_represents c.args.bounds.now c.args.count c.loop.counter c.args.bytes.now c.loop.rest.now are c.loop-test.true c.loop.invariant.at)),
 )
 
 pub returns-then-not-is_after : goal.returns-then-not-is_after
 returns-then-not-is_after c = (
   λ e. absurd cc,
-  λ are. (let after = stamp_stands c.args.bounds.now c.args.count c.loop.counter c.args.bytes.now c.loop.rest.now c.loop.last are c.loop-test.true c.loop.invariant in
+  λ are. (let after = stamp_represents c.args.bounds.now c.args.count c.loop.counter c.args.bytes.now c.loop.rest.now c.loop.last are c.loop-test.true c.loop.invariant in
       c.if-not-is_after.ensures.1 (subst (λ (s : ℕ). IsAfter s c.loop.last) (sym c.stamp_at-stamp.ensures.number) after)),
 )
 

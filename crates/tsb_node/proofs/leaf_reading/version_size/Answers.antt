@@ -2,7 +2,7 @@ use Rattle.std.proofs.Common.{arith, ◌≡◌, ◌∙◌, ◌<◌, ◌≤◌, s
 use Rattle.std.proofs.lemmas.Bool.{cases_order, cases_lt}
 use Rattle.tsb_node.specs.inner.Fields.{number_in}
 use Rattle.tsb_node.specs.inner.Reading.{value_size, version_in}
-use Rattle.tsb_node.proofs.Scanning.{key_said}
+use Rattle.tsb_node.proofs.Scanning.{key_decoded}
 use Rattle.tsb_node.proofs.CheckingLaws.{encoded_here, encoded_reads, tag-le, end_is_empty, high_along}
 use Rattle.tsb_node.proofs.leaf_reading.version_size.Goals as goal
 
@@ -24,11 +24,11 @@ returns-then-is_end_with_octets-clause-none c = λ sp.
 
 pub returns-then-is_key_below-clause-none : goal.returns-then-is_key_below-clause-none
 returns-then-is_key_below-clause-none c = λ sp.
-    omega (arith, c.if-is_key_below.ensures.0 refl, sp.valid.short.low, c.key_at-key.ensures.number, key_said c.args.bytes.now)
+    omega (arith, c.if-is_key_below.ensures.0 refl, sp.valid.short.low, c.key_at-key.ensures.number, key_decoded c.args.bytes.now)
 
 pub returns-then-not-is_below_high-clause-none : goal.returns-then-not-is_below_high-clause-none
 returns-then-not-is_below_high-clause-none c = λ sp.
-    let yes = c.is_below_high.ensures.1 (high_along (version_in c.args.bytes.now).key c.key_at-key.result c.args.bounds.now.high (key_said c.args.bytes.now ∙ sym c.key_at-key.ensures.number) sp.valid.short.high) in
+    let yes = c.is_below_high.ensures.1 (high_along (version_in c.args.bytes.now).key c.key_at-key.result c.args.bounds.now.high (key_decoded c.args.bytes.now ∙ sym c.key_at-key.ensures.number) sp.valid.short.high) in
     absurd (cc (yes, c.if-not-is_below_high.true))
 
 pub returns-clause-found : goal.returns-clause-found

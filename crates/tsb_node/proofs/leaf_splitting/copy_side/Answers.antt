@@ -6,7 +6,7 @@ use Rattle.tsb_node.specs.inner.Scanning.{IsWholeVersion}
 use Rattle.tsb_node.specs.inner.Laying.{laid}
 use Rattle.tsb_node.specs.inner.Sides.{located_within, side_of}
 use Rattle.tsb_node.proofs.ViewLaws.{side_is}
-use Rattle.tsb_node.proofs.Leaves.{leaf_says}
+use Rattle.tsb_node.proofs.Leaves.{leaf_represents}
 use Rattle.tsb_node.proofs.Laying.{laid_is}
 use Rattle.tsb_node.proofs.Scanning.{scan_on, broken_none}
 use Rattle.tsb_node.proofs.SplittingLaws.{next_version, key_of_entry, copied_start, copied_skip, copied_more, copied_end, after_none}
@@ -43,7 +43,7 @@ loop-preserved c =
     let long = length-drop c.in-Some.size rest in
     let back = ap length c.split_at-in-loop.ensures.back in
     let next = c.split_at-in-loop.ensures.back ∙ ap (λ (n : ℕ). drop n rest) found.0 ∙ scan_on c.loop.counter rest (area octets) c.loop.invariant.3 in
-    let few : (leaf : LeafNode) → BeginsAsLeaf leaf octets → c.loop.counter < length leaf.versions = λ leaf is. (let says = leaf_says leaf octets is in omega (arith, says.count_is, c.loop-test.true, c.number2-count.ensures.number)) in
+    let few : (leaf : LeafNode) → BeginsAsLeaf leaf octets → c.loop.counter < length leaf.versions = λ leaf is. (let represents_node = leaf_represents leaf octets is in omega (arith, represents_node.count_is, c.loop-test.true, c.number2-count.ensures.number)) in
     elim c.if-is_within.branch [
       | then-is_within w ↦ (
         omega (arith, w.at-is, back, long, found.0, found.1, c.loop.invariant.0),
@@ -82,7 +82,7 @@ returns c =
     let two = laid_is 6 c.two_octets-2.result c.put-2.new.self c.put-3.new.self c.put-3.ensures ∙ ap (λ (t : List ℕ). laid 6 t c.put-2.new.self) c.two_octets-2.ensures in
     record {
       side = λ leaf is.
-          let says = leaf_says leaf c.args.octets.now is in
-          let done : c.loop.counter ≡ length leaf.versions = omega (arith, c.loop-test.false, c.loop.auto.counter-end, c.number2-count.ensures.number, says.count_is) in
+          let represents_node = leaf_represents leaf c.args.octets.now is in
+          let done : c.loop.counter ≡ length leaf.versions = omega (arith, c.loop-test.false, c.loop.auto.counter-end, c.number2-count.ensures.number, represents_node.count_is) in
           record { versions = (side_of leaf c.args.bounds.now).versions; side = side_is leaf c.args.bounds.now; page = rw (two, one) (copied_end leaf c.args.bounds.now c.loop.counter c.loop.at c.loop.kept _ c.loop.fresh c.bounds_fit.ensures.fits c.requires.current done (omega (arith, c.loop.invariant.0)) (omega (arith, c.loop.invariant.1)) (c.loop.invariant.4 leaf is)) };
     }

@@ -9,12 +9,12 @@ use Rattle.tsb_walk.proofs.Ons.{if_ok}
 use Rattle.tsb_runs.proofs.leaf_runs.run_on.Goals as goal
 
 pub returns-then-not-is_current_leaf-clause-none : goal.returns-then-not-is_current_leaf-clause-none
-returns-then-not-is_current_leaf-clause-none c = λ e versions says. absurd (cc (c.is_current_leaf.ensures versions says, c.if-not-is_current_leaf.true))
+returns-then-not-is_current_leaf-clause-none c = λ e versions represents_node. absurd (cc (c.is_current_leaf.ensures versions represents_node, c.if-not-is_current_leaf.true))
 
 pub returns-clause-run : goal.returns-clause-run
-returns-clause-run c = λ versions says.
+returns-clause-run c = λ versions represents_node.
     let column = c.args.column.now in
-    let leaf = begun_leaf c.args.page.now _ says (keys_at column) c.args.start versions refl in
+    let leaf = begun_leaf c.args.page.now _ represents_node (keys_at column) c.args.start versions refl in
     let begins = subst (BeginsAsLeaf leaf.leaf) (sym c.octets.ensures.value) leaf.begins in
     if_ok c.run_in.result _ _
     (λ run is.
@@ -23,6 +23,6 @@ returns-clause-run c = λ versions says.
     c.run_in.ensures.run
 
 pub returns-clause-none : goal.returns-clause-none
-returns-clause-none c = λ e versions says.
-    let leaf = begun_leaf c.args.page.now _ says (keys_at c.args.column.now) c.args.start versions refl in
+returns-clause-none c = λ e versions represents_node.
+    let leaf = begun_leaf c.args.page.now _ represents_node (keys_at c.args.column.now) c.args.start versions refl in
     c.run_in.ensures.leaf leaf.leaf (subst (BeginsAsLeaf leaf.leaf) (sym c.octets.ensures.value) leaf.begins) e

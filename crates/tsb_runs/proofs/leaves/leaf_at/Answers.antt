@@ -3,9 +3,9 @@ use Rattle.version_model.specs.Ranges.{stamp_end}
 use Rattle.tsb_walk.specs.declared.error.NodeError.TheVariants.{BadNode}
 use Rattle.tsb_walk.specs.PageWays.{ComesToColumn}
 use Rattle.tsb_walk.specs.inner.ColumnSpots.{IsSpotAt}
-use Rattle.tsb_walk.proofs.PageStanding.{none_bad}
+use Rattle.tsb_walk.proofs.PageRepresenting.{none_bad}
 use Rattle.tsb_walk.proofs.PageWalking.{bad_way}
-use Rattle.tsb_runs.proofs.Standing.{leaf_shown, no_column}
+use Rattle.tsb_runs.proofs.Representing.{leaf_shown, no_column}
 use Rattle.tsb_runs.proofs.leaves.leaf_at.Goals as goal
 
 pub returns-in_err-column-clause-blames : goal.returns-in_err-column-clause-blames

@@ -17,6 +17,6 @@ pub returns-clause-shelf : goal.returns-clause-shelf
 returns-clause-shelf g c = ok_shelf g.O.OnceDisk c.args.shelf.now c.migrate_column.new.shelf c.in_ok-part.part.block c.in_ok-part.part.block c.in_ok-part.ensures.shelf
 
 pub returns-clause-room : goal.returns-clause-room
-returns-clause-room g c honest blocks says =
+returns-clause-room g c honest blocks represents_node =
     room_of g.O.OnceDisk c.args.shelf.now c.migrate_column.new.shelf c.in_ok-part.part.block c.args.whole.now c.deref.result.now c.keep_one.new.whole.parts.items c.in_ok-part.part c.deref.ensures.value c.keep_one.ensures.part
-    (c.in_ok-part.ensures.settled honest) (c.in_ok-part.ensures.past honest) blocks says
+    (c.in_ok-part.ensures.settled honest) (c.in_ok-part.ensures.past honest) blocks represents_node

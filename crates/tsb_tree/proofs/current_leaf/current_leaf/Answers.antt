@@ -2,12 +2,12 @@ use Rattle.std.proofs.Common.{rules, ◌≡◌, ◌<◌, ℕ, Some, Err, Result,
 use Rattle.std.proofs.lemmas.Bool.{false≢true}
 use Rattle.std.proofs.lemmas.Option.{slice_get_within}
 use Rattle.version_model.specs.Pages.{ColumnNode, CurrentLeaf}
-use Rattle.tsb_node.specs.Views.{PageSays}
-use Rattle.tsb_walk.specs.Shown.{Says, keys_at}
+use Rattle.tsb_node.specs.Views.{PageRepresents}
+use Rattle.tsb_walk.specs.Shown.{RepresentsNode, keys_at}
 use Rattle.tsb_tree.specs.declared.current_leaf.LeafImage.{LeafImage}
 use Rattle.tsb_tree.specs.declared.error.TreeError.{TreeError}
 use Rattle.tsb_tree.specs.Refusals.{IsHonest}
-use Rattle.tsb_tree.proofs.Columns.{current_says}
+use Rattle.tsb_tree.proofs.Columns.{current_represents}
 use Rattle.tsb_tree.proofs.current_leaf.current_leaf.Goals as goal
 
 pub returns-in_err-image-clause-honest : goal.returns-in_err-image-clause-honest
@@ -24,14 +24,14 @@ pub returns-then-not-is_current_leaf-clause-honest : goal.returns-then-not-is_cu
 returns-then-not-is_current_leaf-clause-honest g c start shown shows is =
     let found = c.in_ok-current.ensures.current start shown shows is in
     let at : slice_get shown c.in_ok-current.current.page ≡ Some c.in_ok-image.image = c.in_ok-image.ensures.shown start shown (c.in_ok-current.ensures.reads.shown start shown shows) in
-    let says : PageSays c.in_ok-image.image (CurrentLeaf (keys_at c.args.place.now) c.in_ok-current.current.start is.versions) = current_says shown c.args.place.now c.in_ok-current.current c.args.entry.now.stamp c.in_ok-image.image is found.0 found.1 at in
-    false≢true (sym c.if-not-is_current_leaf.true ∙ c.is_current_leaf.ensures is.versions says)
+    let represents_node : PageRepresents c.in_ok-image.image (CurrentLeaf (keys_at c.args.place.now) c.in_ok-current.current.start is.versions) = current_represents shown c.args.place.now c.in_ok-current.current c.args.entry.now.stamp c.in_ok-image.image is found.0 found.1 at in
+    false≢true (sym c.if-not-is_current_leaf.true ∙ c.is_current_leaf.ensures is.versions represents_node)
 
 pub returns-clause-leaf : goal.returns-clause-leaf
 returns-clause-leaf g c start shown shows is =
     let found = c.in_ok-current.ensures.current start shown shows is in
     let place = c.args.place.now in
     let at : slice_get shown c.in_ok-current.current.page ≡ Some c.in_ok-image.image = c.in_ok-image.ensures.shown start shown (c.in_ok-current.ensures.reads.shown start shown shows) in
-    let column : Says shown place.page (ColumnNode (keys_at place) is.parts c.in_ok-current.current.start c.in_ok-current.current.page) =
-    subst (λ (n : ℕ). Says shown place.page (ColumnNode (keys_at place) is.parts c.in_ok-current.current.start n)) (sym found.1) (subst (λ (b : ℕ). Says shown place.page (ColumnNode (keys_at place) is.parts b is.current)) (sym found.0) is.column) in
-    record { parts = is.parts; start = c.in_ok-current.current.start; versions = is.versions; column = column; at = at; says = current_says shown place c.in_ok-current.current c.args.entry.now.stamp c.in_ok-image.image is found.0 found.1 at }
+    let column : RepresentsNode shown place.page (ColumnNode (keys_at place) is.parts c.in_ok-current.current.start c.in_ok-current.current.page) =
+    subst (λ (n : ℕ). RepresentsNode shown place.page (ColumnNode (keys_at place) is.parts c.in_ok-current.current.start n)) (sym found.1) (subst (λ (b : ℕ). RepresentsNode shown place.page (ColumnNode (keys_at place) is.parts b is.current)) (sym found.0) is.column) in
+    record { parts = is.parts; start = c.in_ok-current.current.start; versions = is.versions; column = column; at = at; represents_node = current_represents shown place c.in_ok-current.current c.args.entry.now.stamp c.in_ok-image.image is found.0 found.1 at }

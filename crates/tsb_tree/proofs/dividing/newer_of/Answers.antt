@@ -1,5 +1,5 @@
 use Rattle.std.proofs.Common.{ℕ, List, subst, sym, ◌∙◌}
-use Rattle.version_model.specs.Shows.{IsFrom}
+use Rattle.version_model.specs.LeafVersions.{IsFrom}
 use Rattle.version_model.specs.Versions.{Version, IsAbove, IsRising}
 use Rattle.version_model.proofs.api.Pushed.{IsRising-push}
 use Rattle.version_model.specs.Sizes.{IsSingle}

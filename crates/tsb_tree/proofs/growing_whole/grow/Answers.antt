@@ -1,7 +1,7 @@
 use Rattle.std.proofs.Common.{rules, ◌≤◌, inr, List, length, sym, ap, subst, arith}
 use Rattle.std.proofs.lemmas.Bool.{false≢true}
 use Rattle.version_model.specs.Entries.{version_of}
-use Rattle.version_model.specs.Shows.{IsFrom}
+use Rattle.version_model.specs.LeafVersions.{IsFrom}
 use Rattle.version_model.specs.Sizes.{octets}
 use Rattle.version_model.specs.Versions.{Version, Has, IsAbove}
 use Rattle.tsb_tree.specs.declared.whole.Whole.{Whole}
@@ -11,8 +11,8 @@ use Rattle.tsb_tree.proofs.Outliving.{or_else}
 use Rattle.tsb_tree.proofs.growing_whole.grow.Goals as goal
 
 pub returns-in_default-clause-takes : goal.returns-in_default-clause-takes
-returns-in_default-clause-takes g c honest blocks says =
-    (blocks, taken_on c.args.whole.now c.take.new.whole (version_of c.args.entry.now) c.in_ok-take.ensures.taken g.O.OnceDisk c.args.shelf.now blocks says)
+returns-in_default-clause-takes g c honest blocks represents_node =
+    (blocks, taken_on c.args.whole.now c.take.new.whole (version_of c.args.entry.now) c.in_ok-take.ensures.taken g.O.OnceDisk c.args.shelf.now blocks represents_node)
 
 pub returns-in_default-clause-whole : goal.returns-in_default-clause-whole
 returns-in_default-clause-whole g c =

@@ -2,7 +2,7 @@ use Rattle.std.proofs.Common.{◌≡◌, ◌+◌, ◌^◌, ◌<◌, ◌≤◌, S
 use Rattle.std.proofs.lemmas.Option.{slice_get_read}
 use Rattle.std.proofs.lemmas.List.{length-take-le, length-drop}
 use Rattle.version_model.specs.declared.child.Child.{Child}
-use Rattle.tsb_node.specs.declared.key_node_said.KeyNodeSaid.{KeyNodeSaid}
+use Rattle.tsb_node.specs.declared.decoded_key_node.DecodedKeyNode.{DecodedKeyNode}
 use Rattle.tsb_tree.specs.KeyNodes.{AreKeyHalves}
 use Rattle.tsb_tree.proofs.KeySplit.{get-drop}
 use Rattle.tsb_tree.proofs.KeyNodes.{wide_front, wide_back, mid_fits}
@@ -23,8 +23,8 @@ returns c =
     let at_next : slice_get xs 170 ≡ Some next = sym (get-drop xs 169 1) ∙ ap (λ x. slice_get x 1) (sym tail) ∙ slice_get_read b (length b) 1 next refl (let h : 1 < length b = omega (arith, back_long) in h) c.index-2.ensures in
     let first = c.bounds_between.ensures in
     let second = c.bounds_between-2.ensures in
-    let front : KeyNodeSaid = record { level = node.level; bounds = c.bounds_between.result; children = c.split_off.new.self } in
-    let back : KeyNodeSaid = record { level = node.level; bounds = c.bounds_between-2.result; children = c.in_ok-beyond.beyond } in
+    let front : DecodedKeyNode = record { level = node.level; bounds = c.bounds_between.result; children = c.split_off.new.self } in
+    let back : DecodedKeyNode = record { level = node.level; bounds = c.bounds_between-2.result; children = c.in_ok-beyond.beyond } in
     let halves : AreKeyHalves node front back = record {
       place = 169;
       mid = mid;

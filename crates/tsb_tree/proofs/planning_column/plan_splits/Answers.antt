@@ -54,8 +54,8 @@ returns-clause-plans g c s all can at_leaf =
     let v = version_of c.args.entry.now in
     let w = c.in_ok-whole.whole in
     let homes = g.P.Pages.homes c.args.pages.now in
-    let says = c.in_ok-whole.ensures.column can.start can.shown can.is.shows in
-    let at : IsAt s.nodes place.page leaf.page w = is_at s all place can.shown c.requires.level can.is.reports can.stands w leaf.page _ says at_leaf c.in_ok-whole.ensures.leaf in
+    let represents_node = c.in_ok-whole.ensures.column can.start can.shown can.is.shows in
+    let at : IsAt s.nodes place.page leaf.page w = is_at s all place can.shown c.requires.level can.is.reports can.represents_all w leaf.page _ represents_node at_leaf c.in_ok-whole.ensures.leaf in
     let homes_is : c.home_pages.result ≡ homes = c.home_pages.ensures ∙ c.in_ok-whole.ensures.reads.homes in
     let next_is : c.next_page.result ≡ g.P.Pages.next c.args.pages.now = c.next_page.ensures ∙ c.in_ok-whole.ensures.reads.next in
     let keys_is = c.in_ok-whole.ensures.keys in
@@ -64,12 +64,12 @@ returns-clause-plans g c s all can at_leaf =
     ok_both _ _ _ c.split_column.result
     (λ change taken inside. subst (λ (m : ℕ). Plans g.O.OnceDisk c.split_column.new.shelf homes s v m place.page change) (sym c.requires.level)
     (plans_taken g.O.OnceDisk c.split_column.new.shelf homes s v place.page leaf.page c.next_page.result (next_of c.args.shelf.now) w change at low high (can.is.limit ∙ sym next_is) can.is.next c.split_column.ensures.shelf.forward
-    c.in_ok-whole.ensures.inside c.requires.within (omega (arith, inside, homes_is)) (taken s.blocks can.is.says)))
+    c.in_ok-whole.ensures.inside c.requires.within (omega (arith, inside, homes_is)) (taken s.blocks can.is.represents_node)))
     (c.split_column.ensures.takes can.is.honest) c.split_column.ensures.inside
 
 pub returns-in_err-whole-clause-honest : goal.returns-in_err-whole-clause-honest
 returns-in_err-whole-clause-honest g c s all can of filled =
-    let h = c.in_err-whole.ensures.honest can.start can.shown of.parts of.start of.versions can.is.shows of.column of.says in
+    let h = c.in_err-whole.ensures.honest can.start can.shown of.parts of.start of.versions can.is.shows of.column of.represents_node in
     let d : c.from_residual.result ≡ Err c.in_err-whole.field-0.0 = search rules in
     subst (λ (r : Result Change TreeError). IsHonest r) (sym d) h
 
@@ -79,11 +79,11 @@ returns-clause-honest g c s all can of filled =
     let leaf = c.args.leaf.now in
     let v = version_of c.args.entry.now in
     let w = c.in_ok-whole.whole in
-    let says = c.in_ok-whole.ensures.column can.start can.shown can.is.shows in
+    let represents_node = c.in_ok-whole.ensures.column can.start can.shown can.is.shows in
     let page = c.in_ok-whole.ensures.leaf in
-    let at : IsAt s.nodes place.page leaf.page w = is_at s all place can.shown c.requires.level can.is.reports can.stands w leaf.page _ says of.at page in
-    let among : (x : Version) → Has w.leaf x → Has all x = whole_among s all place leaf.page leaf.image w v at can.stands page in
-    c.split_column.ensures.honest (record { above = λ x h. can.above.above x (among x h) }) (whole_forward s all place leaf.page leaf.image w v at can.stands page can.above c.requires.small filled)
+    let at : IsAt s.nodes place.page leaf.page w = is_at s all place can.shown c.requires.level can.is.reports can.represents_all w leaf.page _ represents_node of.at page in
+    let among : (x : Version) → Has w.leaf x → Has all x = whole_among s all place leaf.page leaf.image w v at can.represents_all page in
+    c.split_column.ensures.honest (record { above = λ x h. can.above.above x (among x h) }) (whole_forward s all place leaf.page leaf.image w v at can.represents_all page can.above c.requires.small filled)
     (λ x h. can.bounded x (among x h)) can.inside
 
 pub returns-clause-burns : goal.returns-clause-burns
@@ -138,10 +138,10 @@ pub returns-clause-one_block : goal.returns-clause-one_block
 returns-clause-one_block g c start shown shows =
     let place = c.args.place.now in
     let w = c.in_ok-whole.whole in
-    let says = column_read shown place w c.args.leaf.now.page (c.in_ok-whole.ensures.column start shown shows) c.in_ok-whole.ensures.keys in
+    let represents_node = column_read shown place w c.args.leaf.now.page (c.in_ok-whole.ensures.column start shown shows) c.in_ok-whole.ensures.keys in
     elim c.split_column.ensures.one_block [
       | inl same ↦ inl (spends_same g.O.OnceDisk c.args.shelf.now c.split_column.new.shelf same)
-      | inr rest ↦ or_else (full_column place w.parts.items w.start c.args.leaf.now.page says) rest
+      | inr rest ↦ or_else (full_column place w.parts.items w.start c.args.leaf.now.page represents_node) rest
     ]
 
 pub returns-clause-none_left : goal.returns-clause-none_left

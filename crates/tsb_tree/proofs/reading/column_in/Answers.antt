@@ -1,10 +1,10 @@
-use Rattle.tsb_node.specs.Saying.{column_said}
-use Rattle.tsb_node.specs.Views.{says_column}
+use Rattle.tsb_node.specs.Decoded.{decoded_column}
+use Rattle.tsb_node.specs.Views.{represents_column}
 use Rattle.tsb_node.proofs.OneNode.{page_one}
 use Rattle.tsb_tree.proofs.reading.column_in.Goals as goal
 
-pub returns-in-Ok-clause-says : goal.returns-in-Ok-clause-says
-returns-in-Ok-clause-says c k parts start current says = (page_one c.args.page.now _ _ (says_column (column_said c.in-Ok.said) c.in-Ok.ensures.column) says, tt)
+pub returns-in-Ok-clause-represents_node : goal.returns-in-Ok-clause-represents_node
+returns-in-Ok-clause-represents_node c k parts start current represents_node = (page_one c.args.page.now _ _ (represents_column (decoded_column c.in-Ok.decoded) c.in-Ok.ensures.column) represents_node, tt)
 
 pub returns-in-Ok-clause-is : goal.returns-in-Ok-clause-is
-returns-in-Ok-clause-is c = says_column (column_said c.in-Ok.said) c.in-Ok.ensures.column
+returns-in-Ok-clause-is c = represents_column (decoded_column c.in-Ok.decoded) c.in-Ok.ensures.column

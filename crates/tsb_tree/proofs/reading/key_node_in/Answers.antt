@@ -1,10 +1,10 @@
-use Rattle.tsb_node.specs.Saying.{key_node_said}
-use Rattle.tsb_node.specs.Views.{says_key_node}
+use Rattle.tsb_node.specs.Decoded.{decoded_key_node}
+use Rattle.tsb_node.specs.Views.{represents_key_node}
 use Rattle.tsb_node.proofs.OneNode.{page_one}
 use Rattle.tsb_tree.proofs.reading.key_node_in.Goals as goal
 
-pub returns-in-Ok-clause-says : goal.returns-in-Ok-clause-says
-returns-in-Ok-clause-says c level k children says = (page_one c.args.page.now _ _ (says_key_node (key_node_said c.in-Ok.said) c.in-Ok.ensures.key_node) says, tt)
+pub returns-in-Ok-clause-represents_node : goal.returns-in-Ok-clause-represents_node
+returns-in-Ok-clause-represents_node c level k children represents_node = (page_one c.args.page.now _ _ (represents_key_node (decoded_key_node c.in-Ok.decoded) c.in-Ok.ensures.key_node) represents_node, tt)
 
 pub returns-in-Ok-clause-is : goal.returns-in-Ok-clause-is
-returns-in-Ok-clause-is c = says_key_node (key_node_said c.in-Ok.said) c.in-Ok.ensures.key_node
+returns-in-Ok-clause-is c = represents_key_node (decoded_key_node c.in-Ok.decoded) c.in-Ok.ensures.key_node

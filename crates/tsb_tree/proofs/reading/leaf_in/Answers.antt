@@ -7,6 +7,6 @@ use Rattle.tsb_tree.proofs.reading.leaf_in.Goals as goal
 pub returns-in-None-clause-honest : goal.returns-in-None-clause-honest
 returns-in-None-clause-honest c leaf is =
     let page = c.in-Ok.ensures.leaf in
-    let size = entries-octets (versions_of c.in-Ok.said.entries.items) in
+    let size = entries-octets (versions_of c.in-Ok.decoded.entries.items) in
     let some = c.in-None.ensures.exactly.1 (page.valid.rising, omega (arith, size, page.valid.fits)) in
     absurd (false≢true some)

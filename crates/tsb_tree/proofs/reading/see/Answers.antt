@@ -1,4 +1,4 @@
-use Rattle.tsb_tree.proofs.Saying.{reads_as, fault_to, fault_from}
+use Rattle.tsb_tree.proofs.Representing.{reads_as, fault_to, fault_from}
 use Rattle.tsb_tree.proofs.reading.see.Goals as goal
 
 pub returns-in-Ok-clause-reads : goal.returns-in-Ok-clause-reads

@@ -6,8 +6,8 @@ use Rattle.tsb_tree.proofs.Needing.{layout_full}
 use Rattle.tsb_tree.proofs.splitting_column.split_column.Goals as goal
 
 pub returns-in-Ok-clause-takes : goal.returns-in-Ok-clause-takes
-returns-in-Ok-clause-takes g c honest blocks says =
-    let grown = c.in_ok-grow.ensures.takes honest blocks says in
+returns-in-Ok-clause-takes g c honest blocks represents_node =
+    let grown = c.in_ok-grow.ensures.takes honest blocks represents_node in
     record { more = grown.0; whole = c.grow.new.whole; takes = grown.1; laid = c.in-Ok.ensures.laid }
 
 pub returns-in-Ok-clause-laid : goal.returns-in-Ok-clause-laid

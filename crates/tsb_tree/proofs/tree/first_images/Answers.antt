@@ -20,8 +20,8 @@ returns-clause-images c =
       column = c.in_ok-column.column;
       leaf = c.in_ok-leaf.leaf;
       laid_are = λ shown. two.laid shown ∙ ap (λ (l : List (List ℕ)). set l (page + 1) c.in_ok-leaf.leaf) (one.laid shown ∙ ap (λ i. set (laid i shown) page c.in_ok-column.column) none);
-      says_column = first_column w (page + 1) c.in_ok-column.column c.first_key.ensures.first refl c.new.ensures.items start c.in_ok-column.ensures.says;
-      says_leaf = first_leaf w c.in_ok-leaf.leaf c.first_key.ensures.first refl start c.new-3.ensures.empty c.in_ok-leaf.ensures.says;
+      represents_column = first_column w (page + 1) c.in_ok-column.column c.first_key.ensures.first refl c.new.ensures.items start c.in_ok-column.ensures.represents_node;
+      represents_leaf = first_leaf w c.in_ok-leaf.leaf c.first_key.ensures.first refl start c.new-3.ensures.empty c.in_ok-leaf.ensures.represents_node;
     }
 
 pub returns-clause-tree : goal.returns-clause-tree

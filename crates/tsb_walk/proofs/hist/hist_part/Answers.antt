@@ -6,21 +6,21 @@ use Rattle.once_store.specs.Readers.{reader_disk}
 use Rattle.tsb_walk.proofs.hist.hist_part.Goals as goal
 
 pub returns-in_err-last-clause-never : goal.returns-in_err-last-clause-never
-returns-in_err-last-clause-never g c = λ all stands block e.
+returns-in_err-last-clause-never g c = λ all represents_all block e.
     let d : c.leaf_place.result ≡ Err (Damaged block) = search rules in
-    c.leaf_place.ensures.never all stands block d
+    c.leaf_place.ensures.never all represents_all block d
 
 pub returns-in_default-clause-never : goal.returns-in_default-clause-never
-returns-in_default-clause-never g c = λ all stands block e. c.in_default.ensures.none c.in_ok-last.ensures.kept.0 c.in_ok-last.ensures.kept.1
+returns-in_default-clause-never g c = λ all represents_all block e. c.in_default.ensures.none c.in_ok-last.ensures.kept.0 c.in_ok-last.ensures.kept.1
 
 pub returns-in-Ok-clause-part : goal.returns-in-Ok-clause-part
-returns-in-Ok-clause-part g c = λ all rising stands.
-    let leaf = leaf_kept g.O.OnceDisk c.leaf_place.new.reader all c.in_ok-last.last (c.in_ok-last.ensures.leaf all stands) c.in-Some.block.now c.octets.result.now c.in-Some.ensures.some c.octets.ensures.value in
+returns-in-Ok-clause-part g c = λ all rising represents_all.
+    let leaf = leaf_kept g.O.OnceDisk c.leaf_place.new.reader all c.in_ok-last.last (c.in_ok-last.ensures.leaf all represents_all) c.in-Some.block.now c.octets.result.now c.in-Some.ensures.some c.octets.ensures.value in
     c.in-Ok.ensures.part all (range_of c.in_ok-last.last.bounds) leaf.leaf leaf.begins leaf.shows rising refl c.in_ok-last.ensures.point
 
 pub returns-in-Err-clause-never : goal.returns-in-Err-clause-never
-returns-in-Err-clause-never g c = λ all stands block e.
-    let leaf = leaf_kept g.O.OnceDisk c.leaf_place.new.reader all c.in_ok-last.last (c.in_ok-last.ensures.leaf all stands) c.in-Some.block.now c.octets.result.now c.in-Some.ensures.some c.octets.ensures.value in
+returns-in-Err-clause-never g c = λ all represents_all block e.
+    let leaf = leaf_kept g.O.OnceDisk c.leaf_place.new.reader all c.in_ok-last.last (c.in_ok-last.ensures.leaf all represents_all) c.in-Some.block.now c.octets.result.now c.in-Some.ensures.some c.octets.ensures.value in
     let d : c.block_refusal.result ≡ Damaged block = search rules in
     c.part_in.ensures.leaf leaf.leaf leaf.begins (c.in-Err.is ∙ ap Err (c.block_refusal.ensures.damaged block d).1)
 

@@ -10,12 +10,12 @@ use Rattle.tsb_walk.proofs.Ons.{if_ok}
 use Rattle.tsb_walk.proofs.leaf_looks.reached_on.Goals as goal
 
 pub returns-then-not-is_current_leaf-clause-none : goal.returns-then-not-is_current_leaf-clause-none
-returns-then-not-is_current_leaf-clause-none c = λ e versions says. absurd (cc (c.is_current_leaf.ensures versions says, c.if-not-is_current_leaf.true))
+returns-then-not-is_current_leaf-clause-none c = λ e versions represents_node. absurd (cc (c.is_current_leaf.ensures versions represents_node, c.if-not-is_current_leaf.true))
 
 pub returns-clause-reached : goal.returns-clause-reached
-returns-clause-reached c = λ versions says.
+returns-clause-reached c = λ versions represents_node.
     let column = c.args.column.now in
-    let leaf = begun_leaf c.args.page.now _ says (keys_at column) c.args.start versions refl in
+    let leaf = begun_leaf c.args.page.now _ represents_node (keys_at column) c.args.start versions refl in
     let begins = subst (BeginsAsLeaf leaf.leaf) (sym c.octets.ensures.value) leaf.begins in
     if_ok c.reached_in.result _ _
     (λ reached is.
@@ -27,6 +27,6 @@ pub returns-clause-onward : goal.returns-clause-onward
 returns-clause-onward c = c.reached_in.ensures.onward c.requires.has.high
 
 pub returns-clause-none : goal.returns-clause-none
-returns-clause-none c = λ e versions says.
-    let leaf = begun_leaf c.args.page.now _ says (keys_at c.args.column.now) c.args.start versions refl in
+returns-clause-none c = λ e versions represents_node.
+    let leaf = begun_leaf c.args.page.now _ represents_node (keys_at c.args.column.now) c.args.start versions refl in
     c.reached_in.ensures.leaf leaf.leaf (subst (BeginsAsLeaf leaf.leaf) (sym c.octets.ensures.value) leaf.begins) e

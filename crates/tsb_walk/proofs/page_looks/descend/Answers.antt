@@ -2,7 +2,7 @@ use Rattle.std.proofs.Common.{rules, ◌≡◌, ◌<◌, Err, arith}
 use Rattle.version_model.specs.Ranges.{stamp_end}
 use Rattle.tsb_walk.specs.declared.error.NodeError.TheVariants.{BadNode}
 use Rattle.tsb_walk.proofs.PageWalking.{bad_here}
-use Rattle.tsb_walk.proofs.PageStanding.{descended_here, goes_on_here, below_here, none_bad}
+use Rattle.tsb_walk.proofs.PageRepresenting.{descended_here, goes_on_here, below_here, none_bad}
 use Rattle.tsb_walk.proofs.page_looks.descend.Goals as goal
 
 pub returns-in_err-at-clause-blames : goal.returns-in_err-at-clause-blames
@@ -27,7 +27,7 @@ pub returns-in_ok-answer-in-InLeaf-clause-descended : goal.returns-in_ok-answer-
 returns-in_ok-answer-in-InLeaf-clause-descended g c = λ start shown shows s all st.
     let fits : c.args.stamp < stamp_end = omega (arith, c.stamp_fits.ensures.fits) in
     descended_here shown s all c.args.root.now c.args.key c.args.stamp c.in_ok-at.at (c.in_ok-at.ensures.there start shown shows) st c.in-InLeaf.current c.in-InLeaf.is fits c.in_ok-answer-in-InLeaf.answer
-    (λ versions says. c.in_ok-answer-in-InLeaf.ensures.found start shown (c.column_at.ensures.same.shown start shown shows) versions says)
+    (λ versions represents_node. c.in_ok-answer-in-InLeaf.ensures.found start shown (c.column_at.ensures.same.shown start shown shows) versions represents_node)
 
 pub returns-in-InPast-clause-descended : goal.returns-in-InPast-clause-descended
 returns-in-InPast-clause-descended g c = λ start shown shows s all st.

@@ -2,7 +2,7 @@ use Rattle.std.proofs.Common.{rules, ◌≡◌, ◌<◌, Err, arith}
 use Rattle.version_model.specs.Ranges.{stamp_end}
 use Rattle.tsb_walk.specs.declared.error.NodeError.TheVariants.{BadNode}
 use Rattle.tsb_walk.proofs.PageWalking.{bad_here}
-use Rattle.tsb_walk.proofs.PageStanding.{looked_here, goes_on_here, below_here, none_bad}
+use Rattle.tsb_walk.proofs.PageRepresenting.{looked_here, goes_on_here, below_here, none_bad}
 use Rattle.tsb_walk.proofs.page_looks.next.Goals as goal
 
 pub returns-in_err-at-clause-blames : goal.returns-in_err-at-clause-blames
@@ -27,7 +27,7 @@ pub returns-in_ok-answer-in-InLeaf-clause-next : goal.returns-in_ok-answer-in-In
 returns-in_ok-answer-in-InLeaf-clause-next g c = λ start shown shows s all st.
     let fits : c.args.stamp < stamp_end = omega (arith, c.stamp_fits.ensures.fits) in
     looked_here shown s all c.args.root.now c.args.from c.args.stamp c.in_ok-at.at (c.in_ok-at.ensures.there start shown shows) st c.in-InLeaf.current c.in-InLeaf.is fits c.in_ok-answer-in-InLeaf.answer
-    (λ versions says. c.in_ok-answer-in-InLeaf.ensures.reached start shown (c.column_at.ensures.same.shown start shown shows) versions says) c.in_ok-answer-in-InLeaf.ensures.border
+    (λ versions represents_node. c.in_ok-answer-in-InLeaf.ensures.reached start shown (c.column_at.ensures.same.shown start shown shows) versions represents_node) c.in_ok-answer-in-InLeaf.ensures.border
 
 pub returns-in-InPast-clause-next : goal.returns-in-InPast-clause-next
 returns-in-InPast-clause-next g c = λ start shown shows s all st.

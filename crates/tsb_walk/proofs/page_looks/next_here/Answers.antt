@@ -1,13 +1,13 @@
 use Rattle.std.proofs.Common.{◌<◌, sym, subst}
 use Rattle.tsb_walk.specs.Shown.{keys_at}
 use Rattle.version_model.specs.Pages.{CurrentLeaf}
-use Rattle.tsb_walk.proofs.PageWalking.{said_here}
+use Rattle.tsb_walk.proofs.PageWalking.{decoded_here}
 use Rattle.tsb_walk.proofs.page_looks.next_here.Goals as goal
 
 pub returns-in-Ok-clause-reached : goal.returns-in-Ok-clause-reached
-returns-in-Ok-clause-reached g c = λ start shown shows versions says.
+returns-in-Ok-clause-reached g c = λ start shown shows versions represents_node.
     let at = c.in-Some.ensures.shown start shown (c.bring.ensures.same.shown start shown shows) (subst (λ n. c.args.current.now.page < n) (sym c.bring.ensures.same.homes) c.in_ok-bring.ensures.inside) in
-    c.in-Ok.ensures.reached versions (said_here shown c.args.current.now.page c.in-Some.page.now (CurrentLeaf (keys_at c.args.column.now) c.args.current.now.start versions) at says)
+    c.in-Ok.ensures.reached versions (decoded_here shown c.args.current.now.page c.in-Some.page.now (CurrentLeaf (keys_at c.args.column.now) c.args.current.now.start versions) at represents_node)
 
 pub returns-in-Err-clause-refused : goal.returns-in-Err-clause-refused
 returns-in-Err-clause-refused g c = c.leaf_refusal.ensures.refused (g.P.Pages.down c.args.pages.now)

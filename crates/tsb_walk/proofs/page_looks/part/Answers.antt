@@ -2,7 +2,7 @@ use Rattle.std.proofs.Common.{rules, ◌≡◌, ◌<◌, Err, arith}
 use Rattle.version_model.specs.Ranges.{stamp_end}
 use Rattle.tsb_walk.specs.declared.error.NodeError.TheVariants.{BadNode}
 use Rattle.tsb_walk.proofs.PageWalking.{bad_here}
-use Rattle.tsb_walk.proofs.PageStanding.{parted_here, goes_on_here, below_here, none_bad}
+use Rattle.tsb_walk.proofs.PageRepresenting.{parted_here, goes_on_here, below_here, none_bad}
 use Rattle.tsb_walk.proofs.page_looks.part.Goals as goal
 
 pub returns-in_err-at-clause-blames : goal.returns-in_err-at-clause-blames
@@ -27,7 +27,7 @@ pub returns-in_ok-answer-in-InLeaf-clause-part : goal.returns-in_ok-answer-in-In
 returns-in_ok-answer-in-InLeaf-clause-part g c = λ start shown shows s all rising st.
     let fits : c.args.from < stamp_end = omega (arith, c.stamp_fits.ensures.fits) in
     parted_here shown s all c.args.root.now c.args.key c.args.from c.in_ok-at.at (c.in_ok-at.ensures.there start shown shows) st c.in-InLeaf.current c.in-InLeaf.is fits rising c.in_ok-answer-in-InLeaf.answer
-    (λ versions says. c.in_ok-answer-in-InLeaf.ensures.part start shown (c.column_at.ensures.same.shown start shown shows) versions says) c.in_ok-answer-in-InLeaf.ensures.reported
+    (λ versions represents_node. c.in_ok-answer-in-InLeaf.ensures.part start shown (c.column_at.ensures.same.shown start shown shows) versions represents_node) c.in_ok-answer-in-InLeaf.ensures.reported
 
 pub returns-in-InPast-clause-part : goal.returns-in-InPast-clause-part
 returns-in-InPast-clause-part g c = λ start shown shows s all rising st.

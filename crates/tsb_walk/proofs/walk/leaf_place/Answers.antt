@@ -4,7 +4,7 @@ use Rattle.once_store.specs.Readers.{reader_disk}
 use Rattle.tsb_walk.specs.BlockWays.{here, further}
 use Rattle.tsb_walk.specs.Knowing.{IsKnown}
 use Rattle.tsb_walk.specs.inner.Steps.{IsStep, GoesDown}
-use Rattle.tsb_walk.proofs.Walking.{known_along, only_kept, place_block, place_fit, stands_on, has_leaf, honest_on}
+use Rattle.tsb_walk.proofs.Walking.{known_along, only_kept, place_block, place_fit, represents_all_on, has_leaf, honest_on}
 use Rattle.tsb_walk.proofs.walk.leaf_place.Goals as goal
 
 pub loop-at-init : goal.loop-at-init
@@ -12,7 +12,7 @@ loop-at-init g c = record {
   point = c.requires.point;
   low = omega arith;
   walked = λ well known. (here c.args.place.now, well);
-  stands = λ all stands. stands;
+  represents_all = λ all represents_all. represents_all;
   inside = λ k. k;
   same = λ h. refl;
   disk = refl;
@@ -22,28 +22,28 @@ loop-at-init g c = record {
 }
 
 pub returns-in_err-take_step-clause-reads : goal.returns-in_err-take_step-clause-reads
-returns-in_err-take_step-clause-reads g c = λ all stands.
-    let now = c.loop-at.invariant.stands all stands in
+returns-in_err-take_step-clause-reads g c = λ all represents_all.
+    let now = c.loop-at.invariant.represents_all all represents_all in
     let fit = place_block g.O.OnceDisk c.loop-at.reader c.take_step.new.reader c.loop-at.seen c.take_step.new.seen all c.loop-at.at now in
     c.take_step.ensures.reads now.well fit.0 fit.1
 
 pub returns-in_err-take_step-clause-never : goal.returns-in_err-take_step-clause-never
-returns-in_err-take_step-clause-never g c = λ all stands m e.
-    let now = c.loop-at.invariant.stands all stands in
+returns-in_err-take_step-clause-never g c = λ all represents_all m e.
+    let now = c.loop-at.invariant.represents_all all represents_all in
     let fit = place_fit g.O.OnceDisk c.loop-at.reader c.take_step.new.reader c.loop-at.seen c.take_step.new.seen all c.loop-at.at now c.args.key c.args.stamp c.loop-at.invariant.point in
     let d : c.take_step.result ≡ Err (Damaged m) = search rules in
     c.take_step.ensures.unfit now.well fit.0 fit.1 m d fit.2
 
 pub returns-in-InLeaf-clause-leaf : goal.returns-in-InLeaf-clause-leaf
-returns-in-InLeaf-clause-leaf g c = λ all stands.
-    let now = c.loop-at.invariant.stands all stands in
+returns-in-InLeaf-clause-leaf g c = λ all represents_all.
+    let now = c.loop-at.invariant.represents_all all represents_all in
     has_leaf g.O.OnceDisk c.loop-at.reader c.take_step.new.reader c.loop-at.seen c.take_step.new.seen all c.loop-at.at now c.args.key c.args.stamp c.loop-at.invariant.point (c.take_step.ensures.same now.well.honest)
     (λ octets is fit. subst (IsStep c.loop-at.at octets c.args.key c.args.stamp) c.in-InLeaf.is (c.in_ok-take_step.ensures.step now.well octets is fit))
     (λ octets is. c.take_step.ensures.reads now.well octets is)
 
 pub returns-in-InLeaf-clause-reads : goal.returns-in-InLeaf-clause-reads
-returns-in-InLeaf-clause-reads g c = λ all stands.
-    let now = c.loop-at.invariant.stands all stands in
+returns-in-InLeaf-clause-reads g c = λ all represents_all.
+    let now = c.loop-at.invariant.represents_all all represents_all in
     let fit = place_block g.O.OnceDisk c.loop-at.reader c.take_step.new.reader c.loop-at.seen c.take_step.new.seen all c.loop-at.at now in
     c.take_step.ensures.reads now.well fit.0 fit.1
 
@@ -69,9 +69,9 @@ loop-at-preserved g c =
             }),
             c.take_step.ensures.reads w.1 k.0 (on k.0 k.1),
           );
-      stands = λ all stands.
-          let now = i.stands all stands in
-          stands_on g.O.OnceDisk c.loop-at.reader c.take_step.new.reader c.loop-at.seen c.take_step.new.seen all c.loop-at.at now c.args.key c.args.stamp c.in-Further.next i.point (c.take_step.ensures.same now.well.honest) c.take_step.ensures.disk
+      represents_all = λ all represents_all.
+          let now = i.represents_all all represents_all in
+          represents_all_on g.O.OnceDisk c.loop-at.reader c.take_step.new.reader c.loop-at.seen c.take_step.new.seen all c.loop-at.at now c.args.key c.args.stamp c.in-Further.next i.point (c.take_step.ensures.same now.well.honest) c.take_step.ensures.disk
           (λ octets is fit. subst (IsStep c.loop-at.at octets c.args.key c.args.stamp) c.in-Further.is (c.in_ok-take_step.ensures.step now.well octets is fit))
           (λ octets is. c.take_step.ensures.reads now.well octets is);
       inside = λ k. c.take_step.ensures.inside (i.inside k);

@@ -4,7 +4,7 @@ use Rattle.route_meaning.proofs.api.Beginning.{Begins-refl}
 use Rattle.route_meaning.specs.History.{History}
 use Rattle.interleaving_core.specs.Steps.{marked, IsMarkAbove}
 use Rattle.interleaving_core.proofs.api.GoingOn.{begins_marked}
-use Rattle.disk_archive.specs.Archives.{Represents, GoesOn, Stands, site_of}
+use Rattle.disk_archive.specs.Archives.{Represents, GoesOn, ContinuesFrom, site_of}
 use Rattle.disk_archive.specs.Sites.{LeftFrom, LeftMarked}
 use Rattle.disk_archive.proofs.Outcomes.{err_then, from_result, ok_both}
 use Rattle.disk_archive.proofs.Lasting.{down_still, held_clock, held_ok, held_err}
@@ -32,7 +32,7 @@ returns-clause-lasts g c =
     let n = c.args.collector in
     let m = c.args.mark in
     lasts_steps a z g.met.E.EraseDisk.sound c.try_mark.ensures.honest.0 c.try_mark.ensures.idle
-    (λ h k. from_result c.try_mark.result ((IsMarkAbove h n m → ⊥) × ((g : History) → Represents a g → Represents z (marked g n m))) ((g : History) → Represents a g → GoesOn z g) (Stands z h)
+    (λ h k. from_result c.try_mark.result ((IsMarkAbove h n m → ⊥) × ((g : History) → Represents a g → Represents z (marked g n m))) ((g : History) → Represents a g → GoesOn z g) (ContinuesFrom z h)
     (λ ok. (marked h n m, begins_marked h n m ok.0, inl (ok.1 h k)))
     (λ err. (h, Begins-refl h, err h k))
     (ok_both c.try_mark.result (IsMarkAbove h n m → ⊥) ((g : History) → Represents a g → Represents z (marked g n m)) ((IsMarkAbove h n m → ⊥) × ((g : History) → Represents a g → Represents z (marked g n m)))

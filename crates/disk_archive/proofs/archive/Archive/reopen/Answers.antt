@@ -5,7 +5,7 @@ use Rattle.buffer_pool.specs.Pool.{journal_of}
 use Rattle.disk_archive.specs.Notes.{note_octets}
 use Rattle.disk_archive.specs.declared.open_error.OpenError.{OpenError}
 use Rattle.disk_models.specs.Erase.{MayLeave}
-use Rattle.disk_archive.specs.inner.Guarding.{GuardedAt, MeansOr}
+use Rattle.disk_archive.specs.inner.Guarding.{GuardedAt, CrashRepresentsOr}
 use Rattle.disk_archive.proofs.Guarding.{err_at, guarded_on, means_weaker, ok_at}
 use Rattle.disk_archive.proofs.Reopened.{is_noted, note_read, ok_weaker, only_fault_or_memory, represents_read, rings_named, settings_are, site_read}
 use Rattle.disk_archive.proofs.archive.Archive.reopen.Goals as goal
@@ -78,8 +78,8 @@ returns-in-Ok-memory-clause-left g c honest homes note pages reads =
     let guard = guarded_on g.E.EraseDisk (g.E.EraseDisk.model c.args.erase).clock g.B.Before.clock (MayLeave (g.E.EraseDisk.model c.args.erase)) g.B.Before.left c.in-Ok.field-0.looks homes note pages c.requires.clock c.requires.left looked (c.in-Ok.ensures.left honest homes note pages reads) in
     let start : Start = record { note = note; pages = pages; clock = clock } in
     let now = c.remember_on-looks.ensures.shown start pages guard in
-    subst (λ d. MeansOr (device.model d) g.B.Before.clock g.B.Before.left homes note pages) (sym c.assemble.ensures.erase)
-    (subst (λ n. MeansOr (device.model (disk_of (journal_of c.remember_on-looks.result.0.pool))) g.B.Before.clock g.B.Before.left n note pages) (c.remember_on-looks.ensures.homes ∙ looked.homes) now.means)
+    subst (λ d. CrashRepresentsOr (device.model d) g.B.Before.clock g.B.Before.left homes note pages) (sym c.assemble.ensures.erase)
+    (subst (λ n. CrashRepresentsOr (device.model (disk_of (journal_of c.remember_on-looks.result.0.pool))) g.B.Before.clock g.B.Before.left n note pages) (c.remember_on-looks.ensures.homes ∙ looked.homes) now.means)
 
 pub returns-in-Err-memory-clause-left : goal.returns-in-Err-memory-clause-left
 returns-in-Err-memory-clause-left g c honest homes note pages reads =
@@ -89,8 +89,8 @@ returns-in-Err-memory-clause-left g c honest homes note pages reads =
     let guard = guarded_on g.E.EraseDisk (g.E.EraseDisk.model c.args.erase).clock g.B.Before.clock (MayLeave (g.E.EraseDisk.model c.args.erase)) g.B.Before.left c.in-Ok.field-0.looks homes note pages c.requires.clock c.requires.left looked (c.in-Ok.ensures.left honest homes note pages reads) in
     let start : Start = record { note = note; pages = pages; clock = clock } in
     let now = c.remember_on-looks.ensures.shown start pages guard in
-    subst (λ d. MeansOr (device.model d) g.B.Before.clock g.B.Before.left homes note pages) (sym c.into_disk.ensures.disk)
-    (subst (λ n. MeansOr (device.model (disk_of (journal_of c.remember_on-looks.result.0.pool))) g.B.Before.clock g.B.Before.left n note pages) (c.remember_on-looks.ensures.homes ∙ looked.homes) now.means)
+    subst (λ d. CrashRepresentsOr (device.model d) g.B.Before.clock g.B.Before.left homes note pages) (sym c.into_disk.ensures.disk)
+    (subst (λ n. CrashRepresentsOr (device.model (disk_of (journal_of c.remember_on-looks.result.0.pool))) g.B.Before.clock g.B.Before.left n note pages) (c.remember_on-looks.ensures.homes ∙ looked.homes) now.means)
 
 pub returns-in-Err-clause-left : goal.returns-in-Err-clause-left
 returns-in-Err-clause-left g c honest homes note pages reads =

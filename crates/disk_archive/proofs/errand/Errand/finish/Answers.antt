@@ -2,14 +2,14 @@ use Rattle.std.proofs.Common.{◌∙◌, Result, Ok, Err, OnOk, OnErr, sym, subs
 use Rattle.once_store.specs.declared.error.BlockError.{BlockError}
 use Rattle.route_history.specs.Fronts.{front_number}
 use Rattle.route_history.specs.Walks.{Rose}
-use Rattle.tsb_walk.specs.Inside.{KeepsInside}
+use Rattle.tsb_walk.specs.Inside.{CachesInside}
 use Rattle.tsb_walk.specs.Knowing.{ReadsWell}
 use Rattle.route_meaning.specs.History.{History}
 use Rattle.disk_archive.specs.declared.cursor.Cursor.{Cursor}
 use Rattle.disk_archive.specs.declared.cursor.Cursor.TheVariants.{Rows, Events}
 use Rattle.disk_archive.specs.declared.errand.Errand.{Errand}
 use Rattle.disk_archive.specs.declared.errand.Errand.TheVariants as errands
-use Rattle.disk_archive.specs.Cursors.{IsGathered, SaysSame, walked_to}
+use Rattle.disk_archive.specs.Cursors.{IsGathered, IsSameCursor, walked_to}
 use Rattle.disk_archive.specs.Descents.{LocatedKnown}
 use Rattle.disk_archive.proofs.Turning.{place_known, parts_known, rows_finished, events_finished, same_where}
 use Rattle.disk_archive.proofs.errand.Errand.finish.Goals as goal
@@ -64,11 +64,11 @@ returns-clause-kept g c =
     let d = g.O.OnceDisk in
     elim c.match-self.branch [
       | in-Rows-Rows w ↦ (
-          let s = subst (λ (y : Cursor). OnErr w.finish.result (SaysSame y (Rows w.finish.new.cursor))) (sym w.in-Rows-Rows.is-1) w.finish.ensures.refused in
+          let s = subst (λ (y : Cursor). OnErr w.finish.result (IsSameCursor y (Rows w.finish.new.cursor))) (sym w.in-Rows-Rows.is-1) w.finish.ensures.refused in
           subst (λ (r : Result (Unit {0}) BlockError). OnErr r ((h : History) → IsGathered c.args.cursor.now h → IsGathered c.match-self.cursor h)) (sym w.result-is) (subst (λ (x : Cursor). OnErr w.finish.result ((h : History) → IsGathered c.args.cursor.now h → IsGathered x h)) (sym w.cursor-is) (same_where w.finish.result c.args.cursor.now (Rows w.finish.new.cursor) s))
           )
       | in-Events-Events w ↦ (
-          let s = subst (λ (y : Cursor). OnErr w.finish-in-Events-Events.result (SaysSame y (Events w.finish-in-Events-Events.new.cursor))) (sym w.in-Events-Events.is-1) w.finish-in-Events-Events.ensures.refused in
+          let s = subst (λ (y : Cursor). OnErr w.finish-in-Events-Events.result (IsSameCursor y (Events w.finish-in-Events-Events.new.cursor))) (sym w.in-Events-Events.is-1) w.finish-in-Events-Events.ensures.refused in
           subst (λ (r : Result (Unit {0}) BlockError). OnErr r ((h : History) → IsGathered c.args.cursor.now h → IsGathered c.match-self.cursor h)) (sym w.result-is) (subst (λ (x : Cursor). OnErr w.finish-in-Events-Events.result ((h : History) → IsGathered c.args.cursor.now h → IsGathered x h)) (sym w.cursor-is) (same_where w.finish-in-Events-Events.result c.args.cursor.now (Events w.finish-in-Events-Events.new.cursor) s))
           )
     ]
@@ -109,6 +109,6 @@ pub returns-clause-inside : goal.returns-clause-inside
 returns-clause-inside g c k =
     let d = g.O.OnceDisk in
     elim c.match-self.branch [
-      | in-Rows-Rows w ↦ subst (λ r. KeepsInside d r) (sym w.reader-is) (w.finish.ensures.inside k)
-      | in-Events-Events w ↦ subst (λ r. KeepsInside d r) (sym w.reader-is) (w.finish-in-Events-Events.ensures.inside k)
+      | in-Rows-Rows w ↦ subst (λ r. CachesInside d r) (sym w.reader-is) (w.finish.ensures.inside k)
+      | in-Events-Events w ↦ subst (λ r. CachesInside d r) (sym w.reader-is) (w.finish-in-Events-Events.ensures.inside k)
     ]

@@ -12,7 +12,7 @@ use Rattle.route_model.specs.Admission.{Admitted}
 use Rattle.intake.specs.declared.error.IntakeError.{IntakeError}
 use Rattle.intake.specs.declared.error.IntakeError.TheVariants as intakes
 use Rattle.intake.specs.declared.ring.Ring.{Ring}
-use Rattle.intake.specs.Ring.{entry, entry_octets, octets_for, StandsIn, Holds}
+use Rattle.intake.specs.Ring.{entry, entry_octets, octets_for, HasOctets, RingRepresents}
 use Rattle.intake.specs.Calls.{AppendRefusal, most_pages}
 use Rattle.intake.proofs.Entries.{valid_both}
 use Rattle.intake.proofs.Images.{are_below, are_distinct, joined_few, laid_changes}
@@ -68,17 +68,17 @@ returns-clause-appended g c start shown waits are holds =
     let size = holds.size in
     let octets = c.in-Some.ensures.octets in
     let after : Ring = record ring { used = ring.used + c.in-Some.octets } in
-    let now : Holds (laid items shown) after (waits ++ batch) =
+    let now : RingRepresents (laid items shown) after (waits ++ batch) =
     record {
       valid = valid_both waits batch holds.valid c.in_ok-images.ensures.valid;
       size = omega arith;
-      octets = subst (λ (l : List ℕ). StandsIn (laid items shown) after l) (sym both) (c.in_ok-images.ensures.stands start shown (flat_map entry waits) are holds.size holds.octets);
+      octets = subst (λ (l : List ℕ). HasOctets (laid items shown) after l) (sym both) (c.in_ok-images.ensures.represents_all start shown (flat_map entry waits) are holds.size holds.octets);
     } in
     record {
       pages = laid items shown;
       shown = c.in_ok-lay.ensures.ok start shown (c.draft.ensures.same.shown start shown are);
       changes = (let ch = laid_changes ring n.0 items shown n.1 n.2 in record { count = ch.count; below = ch.below; above = ch.above });
-      stands = (let count = g.met.P.Pages.count c.args.pages.now start shown are in let length = length_laid items shown in let r = c.requires.ring in let room = c.in-Some.ensures.some in record {
+      represents_all = (let count = g.met.P.Pages.count c.args.pages.now start shown are in let length = length_laid items shown in let r = c.requires.ring in let room = c.in-Some.ensures.some in record {
         place = record { inside = (let i = r.inside in omega arith); small = r.small; few = r.few; start = r.start; used = (let u = r.used in omega (arith, c.free.ensures)) };
         holds = now;
         only = λ others other. c.rings_hold_one_list.ensures.one after (laid items shown) others (waits ++ batch) other now;
@@ -94,7 +94,7 @@ returns-clause-added g c start shown are =
       pages = laid items shown;
       shown = c.in_ok-lay.ensures.ok start shown (c.draft.ensures.same.shown start shown are);
       outside = (let ch = laid_changes ring n.0 items shown n.1 n.2 in record { count = ch.count; below = ch.below; above = ch.above });
-      beyond = λ used long stand. c.in_ok-images.ensures.stands start shown used are long stand;
+      beyond = λ used long stand. c.in_ok-images.ensures.represents_all start shown used are long stand;
     }
 
 pub returns-clause-few : goal.returns-clause-few

@@ -5,8 +5,8 @@ use Rattle.route_model.specs.Admission.{Admitted, admission_octets}
 use Rattle.intake.specs.declared.error.ReadError.{ReadError}
 use Rattle.intake.specs.declared.error.ReadError.TheVariants as reads
 use Rattle.intake.specs.declared.ring.Ring.{Ring}
-use Rattle.intake.specs.Ring.{entry, Holds}
-use Rattle.intake.specs.Standing.{StandsFirst}
+use Rattle.intake.specs.Ring.{entry, RingRepresents}
+use Rattle.intake.specs.Outlines.{IsFirst}
 use Rattle.intake.proofs.Entries.{length-sized}
 use Rattle.intake.proofs.Passing.{Passed, passed_more, passed_breaks}
 use Rattle.intake.proofs.Untouched.{passed_on, reads_as, reads_then}
@@ -34,9 +34,9 @@ returns-in_err-first-clause-sound g c page is start shown waits are holds =
     c.front.ensures.damaged page was start shown more.0 (i.same.shown start shown are) more.1
 
 -- the first of what is held is taken out
-taken : (pages : List (List ℕ)) (ring next : Ring) (a : Admitted) (more : List Admitted) → Some a ≡ slice_get more 0 → Holds pages ring more → ((rest : List Admitted) → Holds pages ring (a ∷ rest) → Holds pages next rest) → (rest : List Admitted) × Holds pages next rest
+taken : (pages : List (List ℕ)) (ring next : Ring) (a : Admitted) (more : List Admitted) → Some a ≡ slice_get more 0 → RingRepresents pages ring more → ((rest : List Admitted) → RingRepresents pages ring (a ∷ rest) → RingRepresents pages next rest) → (rest : List Admitted) × RingRepresents pages next rest
 taken pages ring next a [] is h pop = cc
-taken pages ring next a (b ∷ rest) is h pop = let same : b ≡ a = cc in (rest, pop rest (subst (λ x. Holds pages ring (x ∷ rest)) same h))
+taken pages ring next a (b ∷ rest) is h pop = let same : b ≡ a = cc in (rest, pop rest (subst (λ x. RingRepresents pages ring (x ∷ rest)) same h))
 
 pub loop-first-smaller : goal.loop-first-smaller
 loop-first-smaller g c =
@@ -63,8 +63,8 @@ loop-first-preserved g c =
       ring = c.pop.ensures.ring (g.P.Pages.homes c.args.pages.now) i.ring;
       few = omega (arith, used, fits, same, long, few);
       passed = λ start shown are.
-          let stands = subst (λ x. StandsFirst shown c.loop-first.rest x) (sym is) (first start shown (i.same.shown start shown are)) in
-          subst (λ r. Passed shown c.args.self.now r (c.loop-first.count + 1)) (sym c.pop.ensures.place) (passed_more shown c.args.self.now c.loop-first.rest c.loop-first.count a ring.start ring.used (i.passed start shown are) stands);
+          let represents_all = subst (λ x. IsFirst shown c.loop-first.rest x) (sym is) (first start shown (i.same.shown start shown are)) in
+          subst (λ r. Passed shown c.args.self.now r (c.loop-first.count + 1)) (sym c.pop.ensures.place) (passed_more shown c.args.self.now c.loop-first.rest c.loop-first.count a ring.start ring.used (i.passed start shown are) represents_all);
       left = λ start shown waits are holds.
           let more = i.left start shown waits are holds in
           let front = sym c.in-Some.is ∙ c.in_ok-first.ensures.front start shown more.0 (i.same.shown start shown are) more.1 in

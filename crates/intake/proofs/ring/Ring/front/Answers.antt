@@ -3,7 +3,7 @@ use Rattle.std.specs.List.{flat_map, slice_get}
 use Rattle.route_model.specs.Admission.{Admitted, admission_octets}
 use Rattle.intake.specs.Ring.{entry}
 use Rattle.intake.proofs.Entries.{first_there, first_len, first_encoded, length-sized, none_there}
-use Rattle.intake.proofs.Standing.{used_octets, used_length, used_stand, first_stands, begins, length_reported}
+use Rattle.intake.proofs.Representing.{used_octets, used_length, used_stand, first_stands, begins, length_reported}
 use Rattle.intake.proofs.ring.Ring.front.Goals as goal
 
 pub returns-then-self-eq0-clause-front : goal.returns-then-self-eq0-clause-front

@@ -1,6 +1,6 @@
 use Rattle.std.proofs.Common.{◌≡◌, ◌+◌, ◌-◌, ◌<◌, length, arith, sym, ◌∙◌, ap, subst}
 use Rattle.route_model.specs.Admission.{admission_octets}
-use Rattle.intake.specs.Ring.{wrapped, entry, size_of, Holds}
+use Rattle.intake.specs.Ring.{wrapped, entry, size_of, RingRepresents}
 use Rattle.intake.proofs.Wrapping.{wrapped_low}
 use Rattle.intake.proofs.Entries.{length-sized, holds_later}
 use Rattle.intake.proofs.ring.Ring.pop.Goals as goal
@@ -14,8 +14,8 @@ returns-clause-popped c pages rest holds =
     let len : length (entry c.args.admission.now) ≡ 4 + c.encoded_len.result = omega (arith, length-sized (admission_octets c.args.admission.now), c.encoded_len.ensures.len) in
     let first : c.wrap-self.result ≡ wrapped (size_of old) (old.first + length (entry c.args.admission.now)) = c.wrap-self.ensures ∙ ap (λ n. wrapped (size_of old) (old.first + n)) (sym len) in
     let p = holds_later pages old c.args.admission.now rest c.requires.start c.requires.used holds in
-    subst (λ n. Holds pages (record old { first = n; used = old.used - (4 + c.encoded_len.result) }) rest) (sym first)
-    (subst (λ n. Holds pages (record old { first = wrapped (size_of old) (old.first + length (entry c.args.admission.now)); used = old.used - n }) rest) len p)
+    subst (λ n. RingRepresents pages (record old { first = n; used = old.used - (4 + c.encoded_len.result) }) rest) (sym first)
+    (subst (λ n. RingRepresents pages (record old { first = wrapped (size_of old) (old.first + length (entry c.args.admission.now)); used = old.used - n }) rest) len p)
 
 pub returns-clause-place : goal.returns-clause-place
 returns-clause-place c =

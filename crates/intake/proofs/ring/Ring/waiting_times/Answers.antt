@@ -1,6 +1,6 @@
 use Rattle.std.proofs.Common.{◌≡◌, ℕ, IfErr, map, arith, rules, sym, ◌∙◌, subst}
 use Rattle.intake.specs.Ring.{time_of}
-use Rattle.intake.specs.Standing.{ReportsTimes}
+use Rattle.intake.specs.Outlines.{ReportsTimes}
 use Rattle.intake.proofs.Reporting.{reports_one, breaks_none, holds_reports}
 use Rattle.intake.proofs.Untouched.{passed_on}
 use Rattle.intake.proofs.ring.Ring.waiting_times.Goals as goal

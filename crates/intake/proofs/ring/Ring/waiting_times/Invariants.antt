@@ -1,6 +1,6 @@
 use Rattle.std.proofs.Common.{◌≡◌, ◌⊎◌, ◌≤◌, ◌-◌, ℕ, List, []}
 use Rattle.page_tx.specs.Start.{Start}
-use Rattle.intake.specs.Standing.{ReportsTimes}
+use Rattle.intake.specs.Outlines.{ReportsTimes}
 use Rattle.intake.specs.Calls.{OnlyReads}
 use Rattle.intake.proofs.ring.Ring.waiting_times.Given as goal
 

@@ -4,7 +4,7 @@ use Rattle.std.specs.List.{Contains}
 use Rattle.std.proofs.lemmas.List.{length-take}
 use Rattle.lru.specs.LruCache.{LruCache}
 use Rattle.once_store.specs.Digests.{IsWhole}
-use Rattle.once_store.specs.Readers.{IsKept}
+use Rattle.once_store.specs.Readers.{IsCached}
 use Rattle.once_store.proofs.Kept.{Pairs, LeftOf, read_known, left_of, left_cut, left_by_one}
 use Rattle.once_store.proofs.reader.ShelfReader.fetch.Goals as goal
 
@@ -13,7 +13,7 @@ returns-then-touch-clause-octets g c = λ h k block e.
     let t = c.touch.ensures.kept c.if-touch.true in
     let was = k c.args.n t.0 (c.touch.ensures.fewer c.args.n t.0 t.1) in
     let same : t.0 ≡ block = cc in
-    (subst (λ (b : List ℕ). IsKept c.touch.new.self c.args.n b) same t.1, subst IsWhole same t.2)
+    (subst (λ (b : List ℕ). IsCached c.touch.new.self c.args.n b) same t.1, subst IsWhole same t.2)
 
 pub returns-then-touch-clause-knows : goal.returns-then-touch-clause-knows
 returns-then-touch-clause-knows g c = λ h k s n block kept. k n block (c.touch.ensures.fewer n block kept)
@@ -169,6 +169,6 @@ pub returns-clause-one : goal.returns-clause-one
 returns-clause-one g c =
     let room = left_of c.touch.new.self.kept.cap c.touch.new.self.kept.entries c.room.new.self.kept.entries (λ below. ap (λ (l : LruCache ℕ (List ℕ)). l.entries) (c.room.ensures.stays below)) c.room.ensures.last in
     let one = left_by_one c.touch.new.self.kept.cap c.touch.new.self.kept.entries c.room.new.self.kept.entries c.room.ensures.few room in
-    let gone : (other : List ℕ) → IsKept c.args.self.now c.args.n other → ⊥ = λ other k. false≢true (sym c.if-touch.false ∙ c.touch.ensures.found other k) in
+    let gone : (other : List ℕ) → IsCached c.args.self.now c.args.n other → ⊥ = λ other k. false≢true (sym c.if-touch.false ∙ c.touch.ensures.found other k) in
     let put = c.in_ok-keep.ensures.added (λ other k. gone other (c.touch.ensures.fewer c.args.n other (c.room.ensures.fewer c.args.n other k))) in
     omega (arith, one, ap (λ (es : Pairs). length es) put, length-take (c.room.new.self.kept.cap - 1) c.room.new.self.kept.entries, c.touch.ensures.count, c.room.ensures.few, c.room.ensures.capacity)

@@ -7,7 +7,7 @@ use Rattle.query_threads.specs.Seeing.{ComesOf}
 use Rattle.query_threads.specs.Troubles.{OnAskTrouble}
 use Rattle.query_threads.specs.declared.refusal.Trouble.{Trouble}
 use Rattle.query_threads.proofs.Reporting.{ask_trouble, comes_of}
-use Rattle.query_threads.proofs.Standing.{stays_as}
+use Rattle.query_threads.proofs.Representing.{stays_as}
 use Rattle.query_threads.proofs.Readers.{among_later, same_disk}
 use Rattle.query_threads.proofs.desk.Desk.look.Goals as goal
 

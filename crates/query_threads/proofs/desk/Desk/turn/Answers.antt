@@ -12,7 +12,7 @@ use Rattle.query_threads.specs.Troubles.{OnAskTrouble}
 use Rattle.query_threads.specs.declared.refusal.AskError.{AskError}
 use Rattle.query_threads.specs.declared.refusal.Trouble.{Trouble}
 use Rattle.query_threads.specs.declared.refusal.Turn.{Turn}
-use Rattle.query_threads.proofs.Standing.{stays_as}
+use Rattle.query_threads.proofs.Representing.{stays_as}
 use Rattle.query_threads.proofs.Reporting.{ask_trouble, comes_of}
 use Rattle.query_threads.proofs.desk.Desk.turn.Goals as goal
 
@@ -27,7 +27,7 @@ returns-in_ok-seen-in-Historical-clause-gives g c named gathered =
     let on_disk : g.N.OnDisk.disk ≡ Some (g.A.Store.disk_of c.self.inside.archive) = (c.self.invariant.1 named).2 in
     let then : g.N.OnDisk.disk ≡ Some (g.A.Store.disk_of c.descend.new.self) = on_disk ∙ ap Some (sym c.descend.ensures.disk) in
     let on : IsErrandOn (λ errand. g.A.Store.located errand c.descend.new.cursor) g.A.Store.honest g.A.Store.block_count g.A.Store.known p c.in-Historical.errand c.in_ok-seen-in-Historical.seen (g.A.Store.disk_of c.descend.new.self) = record {
-      stands = subst (λ d. g.A.Store.located c.in-Historical.errand c.descend.new.cursor d p) (sym c.descend.ensures.disk) located;
+      represents_all = subst (λ d. g.A.Store.located c.in-Historical.errand c.descend.new.cursor d p) (sym c.descend.ensures.disk) located;
       follows = c.in_ok-seen-in-Historical.ensures.honest p later;
       found = c.in_ok-seen-in-Historical.ensures.known p later;
     } in

@@ -1,5 +1,5 @@
 use Rattle.std.proofs.Common.{inl, inr}
-use Rattle.query_threads.proofs.Standing.{begins_with, never, promised}
+use Rattle.query_threads.proofs.Representing.{begins_with, never, promised}
 use Rattle.query_threads.proofs.shared.Shared.new.Goals as goal
 
 pub start-board-requires-clause-past : goal.start-board-requires-clause-past

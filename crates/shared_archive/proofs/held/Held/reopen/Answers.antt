@@ -1,5 +1,5 @@
 use Rattle.std.proofs.Common.{◌∙◌, refl, subst, sym}
-use Rattle.shared_archive.specs.Held.{HoldsPast}
+use Rattle.shared_archive.specs.Held.{HeldRepresents}
 use Rattle.shared_archive.proofs.Renewing.{are_disk, are_erase, are_pen, reopens_by, stays_held}
 use Rattle.shared_archive.proofs.held.Held.reopen.Goals as goal
 
@@ -13,4 +13,4 @@ pub returns-in-Ok-clause-disk : goal.returns-in-Ok-clause-disk
 returns-in-Ok-clause-disk g c = c.open_on.ensures.disk ∙ are_disk c.args.self.now c.in-Ok.disks c.in-Ok.ensures.disks
 
 pub returns-in-Err-clause-done : goal.returns-in-Err-clause-done
-returns-in-Err-clause-done g c p k = (p, stays_held c.args.self.now p k, subst (λ h. HoldsPast h p) (sym c.in-Err.ensures.same) k, refl)
+returns-in-Err-clause-done g c p k = (p, stays_held c.args.self.now p k, subst (λ h. HeldRepresents h p) (sym c.in-Err.ensures.same) k, refl)

@@ -1,0 +1,20 @@
+use Rattle.std.specs.List.{flat_map}
+use Rattle.tsb_node.specs.KeyNodes.{IsKeyNodePage, child_octets}
+use Rattle.tsb_node.specs.Decoded.{decoded_key_node}
+use Rattle.tsb_node.specs.inner.ChildReading.{IsKeyNodeOf}
+use Rattle.tsb_node.proofs.Refusals.{refusal_along}
+use Rattle.tsb_node.proofs.ChildLaws.{key_node_made, key_node_back, key_node_page, key_node_header}
+use Rattle.tsb_node.proofs.decoded_key_node.key_node_of_page.Goals as goal
+
+pub returns-in_default : goal.returns-in_default
+returns-in_default c = record { key_node = λ node is. absurd (c.in_default.ensures.none (key_node_header node) (flat_map child_octets node.children) (key_node_page node c.args.page.now is)) }
+
+pub returns : goal.returns
+returns c =
+    let h = c.in-Some.header in
+    let es = c.in-Some.entries.now in
+    let node = c.in-Some.ensures.found in
+    record {
+      key_node = refusal_along decoded_key_node (IsKeyNodeOf h es) (λ k. IsKeyNodePage k c.args.page.now) (λ k of. key_node_made h es c.args.page.now k node of) (λ k is. key_node_back h es c.args.page.now k node is)
+          c.key_node_in.result c.key_node_in.ensures.key_node;
+    }
