@@ -1,11 +1,11 @@
 //! The spots that changed in a span, gathered from a list of admissions.
 
-ghost use Rattle.std.specs.Prelude.{◌≡◌, ◌+◌, ◌≤◌, ◌<◌, ◌∷◌, ◌++◌, ◌&&◌, ◌↔◌, [], List, nat_le, IfOk, OnOk, IsTrue};
+ghost use Rattle.std.specs.Prelude.{◌≡◌, ◌+◌, ◌≤◌, ◌<◌, ◌∷◌, ◌++◌, ◌↔◌, [], List, IfOk, OnOk, IsTrue};
 ghost use Rattle.route_model.specs.declared.change.Change.{Change};
 ghost use Rattle.route_model.specs.Admission.{IsChange};
 ghost use Rattle.route_model.specs.PeerKeys.{first_key, tail};
 ghost use Rattle.route_meaning.specs.Events.{between};
-ghost use Rattle.route_meaning.specs.Holds.{changes_of, time_of};
+ghost use Rattle.route_meaning.specs.Holds.{changes_of};
 ghost use Rattle.route_meaning.specs.Rows.{IsAbove};
 ghost use Rattle.changed_prefixes.specs.inner.Gathered.{HasGathered, IsAskedFor, spot_of};
 
@@ -92,13 +92,6 @@ fn take_admission(
     Ok(())
 }
 
-// Is it of a moment of the question's span?
-fn is_in_span(placed: &PlacedAdmission, question: &ChangedQuestion) -> bool
-    ensures { result ≡ (nat_le question.now.from (time_of placed.now) && nat_le (time_of placed.now) question.now.to) }
-{
-    question.from <= placed.time() && placed.counts_at(question.to)
-}
-
 /// The spots that are asked for and changed in the span.
 pub(crate) fn gathered(
     alloc: Global,
@@ -109,7 +102,7 @@ pub(crate) fn gathered(
 {
     let mut table = BTreeMap::new(alloc);
     for placed in list {
-        if is_in_span(placed, question) {
+        if placed.is_between(question.from, question.to) {
             take_admission(&mut table, question, placed.admission())?;
         }
     }

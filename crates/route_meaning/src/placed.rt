@@ -1,6 +1,6 @@
 //! The admissions of several collectors in one order.
 
-ghost use Rattle.std.specs.Prelude.{◌≡◌, ◌++◌, ◌≤◌, nat_le, map, length, IfOk, OnOk};
+ghost use Rattle.std.specs.Prelude.{◌≡◌, ◌++◌, ◌≤◌, ◌&&◌, nat_le, map, length, IfOk, OnOk};
 ghost use Rattle.route_meaning.specs.Merged.{placed, all_placed, merged};
 ghost use Rattle.route_meaning.specs.Holds.{admitted_time, time_of};
 
@@ -61,6 +61,13 @@ impl<'a> PlacedAdmission<'a> {
         ensures counts { result ≡ nat_le (time_of self.now) moment }
     {
         self.time() <= moment
+    }
+
+    /// Whether it is of a moment of the span from one moment to another, both included.
+    pub fn is_between(&self, from: Moment, to: Moment) -> bool
+        ensures between { result ≡ (nat_le from (time_of self.now) && nat_le (time_of self.now) to) }
+    {
+        from <= self.time() && self.counts_at(to)
     }
 }
 

@@ -1,8 +1,8 @@
 //! The events of a history question over a list of admissions.
 
-ghost use Rattle.std.specs.Prelude.{◌≡◌, ◌++◌, ◌&&◌, nat_le, map, filter, drop, IfOk, OnOk};
+ghost use Rattle.std.specs.Prelude.{◌≡◌, ◌++◌, map, filter, drop, IfOk, OnOk};
 ghost use Rattle.route_meaning.specs.declared.question.Event.{Event};
-ghost use Rattle.route_meaning.specs.Holds.{concerns, time_of};
+ghost use Rattle.route_meaning.specs.Holds.{concerns};
 ghost use Rattle.route_meaning.specs.Events.{all_events, between, events, IsEventsAnswer};
 
 use crate::placed::PlacedAdmission;
@@ -42,13 +42,6 @@ fn add_reported(
     Ok(())
 }
 
-// Is it of a moment of the question's span?
-fn is_in_span(placed: &PlacedAdmission, question: &EventsQuestion) -> bool
-    ensures { result ≡ (nat_le question.now.from (time_of placed.now) && nat_le (time_of placed.now) question.now.to) }
-{
-    question.from <= placed.time() && placed.counts_at(question.to)
-}
-
 // All events for the prefix of the peer in the span.
 fn all_reported(
     alloc: Global,
@@ -59,7 +52,7 @@ fn all_reported(
 {
     let mut reported = Vec::new(alloc);
     for placed in list {
-        if is_in_span(placed, question) {
+        if placed.is_between(question.from, question.to) {
             add_reported(
                 &mut reported,
                 placed.admission(),

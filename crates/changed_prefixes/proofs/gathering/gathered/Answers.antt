@@ -6,7 +6,7 @@ use Rattle.changed_prefixes.specs.inner.Gathered.{HasGathered}
 use Rattle.changed_prefixes.proofs.Taking.{nothing}
 use Rattle.changed_prefixes.proofs.Spans.{counted, left}
 use Rattle.changed_prefixes.proofs.gathering.gathered.Goals as goal
-use Rattle.changed_prefixes.proofs.gathering.gathered.Goals.{then-is_in_span+in_ok-take_admission, else-is_in_span}
+use Rattle.changed_prefixes.proofs.gathering.gathered.Goals.{then-is_between+in_ok-take_admission, else-is_between}
 
 pub loop-placed-init : goal.loop-placed-init
 loop-placed-init c = nothing c.args.question.now _ c.new-table.ensures.empty
@@ -16,13 +16,13 @@ loop-placed-preserved c =
     let q = c.args.question.now in
     let ps = c.args.list.now in
     let so_far = changes_of (between q.from q.to (take c.loop-placed.placed-index ps)) in
-    elim c.if-is_in_span.branch [
-      | then-is_in_span+in_ok-take_admission w ↦
+    elim c.if-is_between.branch [
+      | then-is_between+in_ok-take_admission w ↦
           rw w.table-is
-          (counted q ps c.loop-placed.placed-index c.placed-item.result c.loop-placed-test.true c.placed-item.is _ (sym c.is_in_span.ensures ∙ w.if-is_in_span.true)
+          (counted q ps c.loop-placed.placed-index c.placed-item.result c.loop-placed-test.true c.placed-item.is _ (sym c.is_between.ensures.between ∙ w.if-is_between.true)
           (subst (λ (a : Admitted). HasGathered q (so_far ++ a.changes) w.take_admission.new.table) w.admission.ensures.admission
           (w.in_ok-take_admission.ensures so_far c.loop-placed.invariant)))
-      | else-is_in_span w ↦
+      | else-is_between w ↦
           rw w.table-is
-          (left q ps c.loop-placed.placed-index c.placed-item.result c.loop-placed-test.true c.placed-item.is _ (sym c.is_in_span.ensures ∙ w.if-is_in_span.false) c.loop-placed.invariant)
+          (left q ps c.loop-placed.placed-index c.placed-item.result c.loop-placed-test.true c.placed-item.is _ (sym c.is_between.ensures.between ∙ w.if-is_between.false) c.loop-placed.invariant)
     ]
