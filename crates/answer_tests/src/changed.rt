@@ -19,7 +19,7 @@ fn expected(both: &Both, question: &ChangedQuestion) -> Option<ChangedAnswer> {
     answer_changed(both.alloc, &list, question).ok()
 }
 
-// The archive's answer, look by look.
+// The archive's answer, look by look. Between two looks both go on.
 fn walked(
     both: &mut Both,
     reader: &mut Reader,
@@ -29,6 +29,9 @@ fn walked(
     for _ in 0..MOST_LOOKS {
         if let Some(answer) = both.disk.changed_look(reader, &mut walk)? {
             return Ok(answer);
+        }
+        if both.go_on().is_none() {
+            return Err(AskError::Fault);
         }
     }
     Err(AskError::Fault)

@@ -1,7 +1,7 @@
 //! Generated histories: between any two turns of a question, and between a turn and what its errand reads, more is given, changes are
 //! applied, which splits leaves, and a page is flushed. Once it is answered it is asked again in one call, by the same reader, which keeps
 //! blocks from the whole history. Each answer is that of the pure machine over all that the history has at its end. Which prefixes changed
-//! is asked at that end.
+//! is asked after the questions, and more is given between two looks.
 
 use crate::asking::lines_of;
 use crate::be;
@@ -46,7 +46,8 @@ struct Reported {
 
 /// How many answers there were, how many of them return a row or an event, and how many of those start after a place or
 /// after skipped events; how often changes were applied or a page was flushed, how many errands were read, and between
-/// the first and the last turn of how many questions a leaf was split, which burns a block; and in how many spans some spot changed.
+/// the first and the last turn of how many questions a leaf was split, which burns a block; in how many spans some spot changed, and
+/// between how many looks of a walk over them both went on.
 #[derive(Clone, Copy)]
 struct Counts {
     answers: u32,
@@ -57,6 +58,7 @@ struct Counts {
     read: u32,
     split: u32,
     changed: u32,
+    walked: u32,
 }
 
 const NOTHING: Counts = Counts {
@@ -68,6 +70,7 @@ const NOTHING: Counts = Counts {
     read: 0,
     split: 0,
     changed: 0,
+    walked: 0,
 };
 
 fn reports(answer: &Answer) -> bool {
@@ -113,6 +116,7 @@ impl Counts {
             read: self.read.saturating_add(other.read),
             split: self.split.saturating_add(other.split),
             changed: self.changed.saturating_add(other.changed),
+            walked: self.walked.saturating_add(other.walked),
         }
     }
 }
@@ -233,6 +237,12 @@ impl Both {
             self.counts.flushed = self.counts.flushed.saturating_add(1);
         }
         Some(())
+    }
+
+    /// Both go on between two looks of a walk.
+    pub(crate) fn go_on(&mut self) -> Option<()> {
+        self.counts.walked = self.counts.walked.saturating_add(1);
+        self.work()
     }
 
     // The machine applies all that it may.
@@ -432,8 +442,8 @@ fn ran(alloc: Global, seed: u64) -> Option<Counts> {
     let mut both = Both::new(alloc, seed)?;
     let mut questions = Questions::new(alloc, &both.disk)?;
     questions.ask_all(&mut both)?;
-    both.settle();
     both.counts.changed = count_changed(&mut both, &mut questions.large)?;
+    both.settle();
     questions.counted(&mut both)
 }
 
@@ -449,7 +459,7 @@ fn ran_all(alloc: Global, first: u64) -> Option<Counts> {
 // All questions of the histories from this seed on have the machine's answers. In each history four answers return
 // something, two of them after a place or after skipped events, changes are applied twenty times, thirty pages are
 // flushed, ten errands are read, and between the first and the last turn of two questions a leaf is split, or more, all taken
-// together; and in three spans of them all some spot changed, or more.
+// together; and in three spans of them all some spot changed, or more, and a hundred times both went on between two looks.
 fn expect_pure(rt: &impl Abort, alloc: Global, first: u64) {
     let counts = ran_all(alloc, first);
     be(rt, counts.is_some(), "answers as the machine's");
@@ -461,6 +471,7 @@ fn expect_pure(rt: &impl Abort, alloc: Global, first: u64) {
     be(rt, counts.flushed >= 1_500, "pages that are flushed");
     be(rt, counts.read >= 500, "errands that are read");
     be(rt, counts.changed >= 3, "spans in which a spot changed");
+    be(rt, counts.walked >= 100, "looks between which both went on");
     be(
         rt,
         counts.split >= 100,
