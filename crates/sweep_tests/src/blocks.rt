@@ -2,13 +2,66 @@
 
 use crate::acts::LONG;
 use crate::be_at;
-use crate::disks::Both;
-use crate::played::Outcome;
+use crate::disks::{Both, Played, given_up, opened};
+use crate::laid::laid_anew;
+use crate::played::{Outcome, ask, ask_with, check};
 use crate::pure::{Answered, NOW};
 use crate::stage::{Stage, prepare};
 use crate::stops::play_from;
-use crate::subject::{Disks, Subject, opened};
+use disk_memory::{Burn, MemOnce, MemPen};
+use disk_models::{Block, OnceDisk};
+use once_store::ShelfReader;
+use std::alloc::Global;
 use std::process::Abort;
+use std::sync::Arc;
+
+/// A block as it was, but for one octet where it has this number.
+fn spoiled(rt: &impl Abort, alloc: Global, was: &Burn, number: u64) -> Block {
+    let mut block = Block::from_slice(alloc, was.block().octets()).expect(rt, "memory");
+    if was.number() == number {
+        let at = (number % 16_384) as usize;
+        let octet = was.block().octets()[at] ^ 0x40;
+        block.put(at, &[octet]);
+    }
+    block
+}
+
+/// Burns a block that is blank. Returns whether it did.
+fn burn(disk: &MemOnce, pen: &mut MemPen, number: u64, block: &Block) -> bool {
+    if number >= disk.blocks() {
+        return false;
+    }
+    match disk.blank(pen, number) {
+        Ok(true) => disk.burn(pen, number, block).is_ok(),
+        _ => false,
+    }
+}
+
+/// Burns the same blocks, but for one octet of that of this number.
+fn burn_all(
+    rt: &impl Abort,
+    alloc: Global,
+    disk: &MemOnce,
+    pen: &mut MemPen,
+    burns: &[Burn],
+    number: u64,
+) {
+    for was in burns {
+        let block = spoiled(rt, alloc, was, number);
+        let is_burnt = burn(disk, pen, was.number(), &block);
+        be_at(rt, is_burnt, "a burn", was.number());
+    }
+    disk.settle(pen).expect(rt, "a settle");
+}
+
+/// The same disks, but for one octet of the block of this number.
+fn with_spoiled(rt: &impl Abort, alloc: Global, disks: &Both, number: u64) -> Both {
+    let erase = disks.erase.copy().expect(rt, "memory");
+    let (once, mut pen) = MemOnce::new(alloc, disks.once.blocks());
+    burn_all(rt, alloc, &once, &mut pen, disks.pen.settled(), number);
+    let once = Arc::new(alloc, once).expect(rt, "memory");
+    Both { erase, once, pen }
+}
 
 /// Whether a question is refused as damage of the block of this number. Else it's answered as ever.
 fn is_refused(rt: &impl Abort, outcome: Outcome, number: u64) -> bool {
@@ -19,29 +72,24 @@ fn is_refused(rt: &impl Abort, outcome: Outcome, number: u64) -> bool {
 }
 
 /// Whether a question is refused, alone and twice by a reader.
-fn refuses<A: Subject>(
+fn refuses(
     rt: &impl Abort,
-    archive: &mut A,
-    reader: &mut A::Reader,
+    archive: &mut Played,
+    reader: &mut ShelfReader<MemOnce>,
     asked: &Answered,
     number: u64,
 ) -> bool {
-    let alone = archive.ask(&asked.query, &asked.reply);
-    let first = archive.ask_with(reader, &asked.query, &asked.reply);
-    let again = archive.ask_with(reader, &asked.query, &asked.reply);
+    let alone = ask(archive, &asked.query, &asked.reply);
+    let first = ask_with(archive, reader, &asked.query, &asked.reply);
+    let again = ask_with(archive, reader, &asked.query, &asked.reply);
     let is_same = first == alone && again == alone;
     be_at(rt, is_same, "a question by a reader", number);
     is_refused(rt, alone, number)
 }
 
 /// How many of these questions the damage of a block refuses.
-fn refused_of<A: Subject>(
-    rt: &impl Abort,
-    archive: &mut A,
-    asked: &[Answered],
-    number: u64,
-) -> u64 {
-    let mut reader = archive.reader(rt);
+fn refused_of(rt: &impl Abort, archive: &mut Played, asked: &[Answered], number: u64) -> u64 {
+    let mut reader = archive.reader(64).expect(rt, "a reader");
     let mut refused: u64 = 0;
     for one in asked {
         let is_refused = refuses(rt, archive, &mut reader, one, number);
@@ -51,22 +99,22 @@ fn refused_of<A: Subject>(
 }
 
 /// How many questions the damage of a block refuses. A check finds it.
-fn refusals<D: Disks>(rt: &impl Abort, stage: &Stage<D>, disks: &D, number: u64) -> u64 {
-    let disks = disks.with_spoiled(rt, stage.alloc, number);
+fn refusals(rt: &impl Abort, stage: &Stage, disks: &Both, number: u64) -> u64 {
+    let disks = with_spoiled(rt, stage.alloc, disks, number);
     let mut archive = opened(rt, stage.alloc, disks);
     let known = stage.known.last().expect(rt, "a state");
     let asked = known.answers.get(..NOW).unwrap_or(&[]);
     let refused = refused_of(rt, &mut archive, asked, number);
-    let is_found = archive.check(0) == Outcome::Damaged(number);
+    let is_found = check(&mut archive, 0) == Outcome::Damaged(number);
     be_at(rt, is_found, "a check", number);
     refused
 }
 
 /// The disks after the life, of which no page waits to go home.
-fn ended<D: Disks>(rt: &impl Abort, stage: &Stage<D>) -> D {
+fn ended(rt: &impl Abort, stage: &Stage) -> Both {
     let mut archive = opened(rt, stage.alloc, stage.disks.copy(rt));
     be_at(rt, play_from(stage, &mut archive, 0), "a life", 0);
-    D::given_up(archive).laid_anew(rt, stage.alloc)
+    laid_anew(rt, stage.alloc, given_up(archive))
 }
 
 /// A block, and how many questions its damage refuses.
@@ -128,7 +176,7 @@ const REFUSED: [Refused; 12] = [
 
 #[test]
 fn damage_of_a_block_refuses_what_reads_it(rt: HostRuntime) {
-    let stage: Stage<Both> = prepare(&rt, rt.alloc(), &LONG);
+    let stage = prepare(&rt, rt.alloc(), &LONG);
     let disks = ended(&rt, &stage);
     for refused in &REFUSED {
         let questions = refusals(&rt, &stage, &disks, refused.block);

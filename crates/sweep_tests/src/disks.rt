@@ -1,16 +1,13 @@
-//! Both disks in memory below an archive: copied, cut off at a call, torn by a crash, and opened.
+//! Both disks below an archive: copied, cut off at a call, torn by a crash, and opened.
 
-use crate::failing::{Device, fail_call, faults_of};
-use crate::laid::{lay, octets_of, with_pages_anew};
-use crate::loads::{BLOCKS, HOMES, PAGE, SETTINGS};
-use crate::played::Played;
-use crate::spoiled::with_spoiled;
-use crate::subject::{Disk, Disks, Handed};
+use crate::be;
 use disk_archive::{Archive, OpenError, Refused};
-use disk_memory::{Burn, Call, MemErase, MemOnce, MemPen, Torn, crash_all};
+use disk_memory::{MemErase, MemOnce, MemPen, Torn, crash_all};
 use std::alloc::Global;
 use std::process::Abort;
 use std::sync::Arc;
+
+pub(crate) type Played = Archive<MemErase, MemOnce>;
 
 /// Both disks, with the pen of the write-once one.
 #[derive(Drop)]
@@ -20,7 +17,20 @@ pub(crate) struct Both {
     pub(crate) pen: MemPen,
 }
 
-/// What a range holds that a crash of this kind tears.
+/// One of both.
+#[derive(Clone, Copy)]
+pub(crate) enum Disk {
+    Erasable,
+    Once,
+}
+
+/// The kinds of what a range holds that a crash tears.
+pub(crate) const KINDS: u64 = 4;
+
+/// The ways in which a life may be stopped: a crash of each kind, or the end of the program alone, after which the disks still have what
+/// isn't synced.
+pub(crate) const WAYS: u64 = 5;
+
 pub(crate) fn torn(kind: u64) -> Torn {
     match kind {
         0 => Torn::Old,
@@ -30,7 +40,56 @@ pub(crate) fn torn(kind: u64) -> Torn {
     }
 }
 
-fn handed_back(refused: Refused<MemErase, MemOnce, OpenError>) -> Handed<Both> {
+impl Both {
+    /// The same disks once more. No failure is to come.
+    pub(crate) fn copy(&self, rt: &impl Abort) -> Both {
+        let erase = self.erase.copy().expect(rt, "memory");
+        let (_, pen) = self.once.copy(&self.pen).expect(rt, "memory");
+        let once = self.once.clone().expect(rt, "memory");
+        Both { erase, once, pen }
+    }
+
+    /// Cuts one of them off at its k-th call that writes, the first one being 1.
+    pub(crate) fn cut(&mut self, disk: Disk, k: u64) {
+        match disk {
+            Disk::Erasable => self.erase.stop_at(k),
+            Disk::Once => self.once.stop_at(&mut self.pen, k),
+        }
+    }
+
+    /// The disks after a stop of this way now. A crash tears all that it may change in one way.
+    pub(crate) fn stop(&self, rt: &impl Abort, way: u64) -> Both {
+        if way < KINDS {
+            self.crash(rt, way)
+        } else {
+            self.copy(rt)
+        }
+    }
+
+    fn crash(&self, rt: &impl Abort, kind: u64) -> Both {
+        let torn = torn(kind);
+        let (erase, _, pen) = crash_all(&self.erase, &self.once, &self.pen, &torn).expect(
+            rt, "memory",
+        );
+        let once = self.once.clone().expect(rt, "memory");
+        Both { erase, once, pen }
+    }
+}
+
+/// The disks of an archive.
+pub(crate) fn given_up(archive: Played) -> Both {
+    let (erase, once, pen) = archive.into_disks();
+    Both { erase, once, pen }
+}
+
+/// The disks that an opening handed back, and why.
+#[derive(Drop)]
+pub(crate) struct Handed {
+    pub(crate) disks: Both,
+    pub(crate) error: OpenError,
+}
+
+fn handed_back(refused: Refused<MemErase, MemOnce, OpenError>) -> Handed {
     let Refused {
         erase,
         once,
@@ -43,94 +102,24 @@ fn handed_back(refused: Refused<MemErase, MemOnce, OpenError>) -> Handed<Both> {
     }
 }
 
-impl Disks for Both {
-    type Archive = Played;
-
-    fn created(rt: &impl Abort, alloc: Global) -> Played {
-        let erase = MemErase::new(alloc, (265 + HOMES) * PAGE);
-        let (once, pen) = MemOnce::new(alloc, BLOCKS);
-        let once = Arc::new(alloc, once).expect(rt, "memory");
-        match Archive::create(alloc, erase, once, pen, SETTINGS) {
-            Ok(archive) => archive,
-            Err(_) => panic!(rt; "an archive"),
-        }
+/// What opening these disks returns. It takes no memory but the archive's.
+pub(crate) fn try_open(alloc: Global, disks: Both) -> Result<Played, Handed> {
+    match Archive::open(alloc, disks.erase, disks.once, disks.pen) {
+        Ok(archive) => Ok(archive),
+        Err(refused) => Err(handed_back(refused)),
     }
+}
 
-    fn try_open(self, alloc: Global) -> Result<Played, Handed<Both>> {
-        match Archive::open(alloc, self.erase, self.once, self.pen) {
-            Ok(archive) => Ok(archive),
-            Err(refused) => Err(handed_back(refused)),
-        }
+/// The archive on these disks.
+pub(crate) fn opened(rt: &impl Abort, alloc: Global, disks: Both) -> Played {
+    match try_open(alloc, disks) {
+        Ok(archive) => archive,
+        Err(_) => panic!(rt; "the disks are refused"),
     }
+}
 
-    fn given_up(archive: Played) -> Both {
-        let (erase, once, pen) = archive.into_disks();
-        Both { erase, once, pen }
-    }
-
-    fn copy(&self, rt: &impl Abort) -> Both {
-        let erase = self.erase.copy().expect(rt, "memory");
-        let (_, pen) = self.once.copy(&self.pen).expect(rt, "memory");
-        let once = self.once.clone().expect(rt, "memory");
-        Both { erase, once, pen }
-    }
-
-    fn cut(&mut self, disk: Disk, k: u64) {
-        match disk {
-            Disk::Erasable => self.erase.stop_at(k),
-            Disk::Once => self.once.stop_at(&mut self.pen, k),
-        }
-    }
-
-    fn is_stopped(&self) -> bool {
-        self.erase.is_stopped() || self.pen.has_stopped()
-    }
-
-    fn crash(&self, rt: &impl Abort, kind: u64) -> Both {
-        let torn = torn(kind);
-        let (erase, _, pen) = crash_all(&self.erase, &self.once, &self.pen, &torn).expect(
-            rt, "memory",
-        );
-        let once = self.once.clone().expect(rt, "memory");
-        Both { erase, once, pen }
-    }
-
-    fn fail(&mut self, rt: &impl Abort, alloc: Global, call: Device, number: u64) {
-        fail_call(rt, alloc, self, call, number);
-    }
-
-    fn faults(&self) -> u64 {
-        faults_of(self)
-    }
-
-    fn calls(&self) -> &[Call] {
-        self.erase.calls()
-    }
-
-    fn settled(&self) -> &[Burn] {
-        self.pen.settled()
-    }
-
-    fn waiting(&self) -> &[Burn] {
-        self.pen.waiting()
-    }
-
-    fn octets_of(&mut self, rt: &impl Abort, alloc: Global, page: u64) -> Vec<u8> {
-        octets_of(rt, alloc, &mut self.erase, page)
-    }
-
-    fn lay(&mut self, rt: &impl Abort, at: u64, octets: &[u8]) {
-        lay(rt, &mut self.erase, at, octets);
-    }
-
-    fn laid_anew(self, rt: &impl Abort, alloc: Global) -> Both {
-        let Both { erase, once, pen } = self;
-        let mut erase = erase;
-        let erase = with_pages_anew(rt, alloc, &mut erase);
-        Both { erase, once, pen }
-    }
-
-    fn with_spoiled(&self, rt: &impl Abort, alloc: Global, number: u64) -> Both {
-        with_spoiled(rt, alloc, self, number)
-    }
+/// The disks of an opening that was refused because one of them failed.
+pub(crate) fn failed(rt: &impl Abort, handed: Handed) -> Both {
+    be(rt, handed.error == OpenError::Fault, "a disk failed");
+    handed.disks
 }

@@ -2,13 +2,12 @@
 
 use crate::acts::{LONG, RISING, Script};
 use crate::be_at;
-use crate::disks::Both;
+use crate::disks::opened;
 use crate::failing::Device;
-use crate::played::Outcome;
+use crate::played::{Outcome, check};
 use crate::pure::NOW;
 use crate::refused::{Refusal, Trial, end, live};
 use crate::stage::{Stage, prepare};
-use crate::subject::{Disks, Subject, opened};
 use std::alloc::Global;
 use std::process::Abort;
 
@@ -29,7 +28,7 @@ fn refusal_of(call: Device) -> Refusal {
 }
 
 /// A life in which this failure may come. Each that comes is returned by a call. Returns how many came.
-fn fail<D: Disks>(rt: &impl Abort, stage: &Stage<D>, call: Device, number: u64) -> u64 {
+fn fail(rt: &impl Abort, stage: &Stage, call: Device, number: u64) -> u64 {
     let mut trial = Trial::new(refusal_of(call), number);
     let mut disks = stage.disks.copy(rt);
     disks.fail(rt, stage.alloc, call, number);
@@ -41,7 +40,7 @@ fn fail<D: Disks>(rt: &impl Abort, stage: &Stage<D>, call: Device, number: u64) 
 }
 
 /// Each failure of a deal, of which there are as many as it says.
-fn sweep<D: Disks>(rt: &impl Abort, stage: &Stage<D>, deal: &Deal) {
+fn sweep(rt: &impl Abort, stage: &Stage, deal: &Deal) {
     let mut failures: u64 = 0;
     for number in deal.from..deal.to {
         let came = fail(rt, stage, deal.call, number);
@@ -51,8 +50,8 @@ fn sweep<D: Disks>(rt: &impl Abort, stage: &Stage<D>, deal: &Deal) {
 }
 
 /// Each of these deals of a life.
-fn sweep_all<D: Disks>(rt: &impl Abort, alloc: Global, life: &Script, deals: &[Deal]) {
-    let stage: Stage<D> = prepare(rt, alloc, life);
+fn sweep_all(rt: &impl Abort, alloc: Global, life: &Script, deals: &[Deal]) {
+    let stage = prepare(rt, alloc, life);
     for deal in deals {
         sweep(rt, &stage, deal);
     }
@@ -66,7 +65,7 @@ fn is_fault(rt: &impl Abort, outcome: Outcome, number: u64) -> u64 {
 }
 
 /// How many questions, and whether a check, are refused where each read of a block that has this number in its question fails.
-fn refused_reads<D: Disks>(rt: &impl Abort, stage: &Stage<D>, number: u64) -> u64 {
+fn refused_reads(rt: &impl Abort, stage: &Stage, number: u64) -> u64 {
     let mut disks = stage.disks.copy(rt);
     disks.fail(rt, stage.alloc, Device::ReadBlock, number);
     let mut archive = opened(rt, stage.alloc, disks);
@@ -75,7 +74,7 @@ fn refused_reads<D: Disks>(rt: &impl Abort, stage: &Stage<D>, number: u64) -> u6
         let outcome = stage.ask(&mut archive, 0, turn);
         refused = refused.saturating_add(is_fault(rt, outcome, number));
     }
-    let outcome = archive.check(stage.applied_at(0));
+    let outcome = check(&mut archive, stage.applied_at(0));
     refused.saturating_add(is_fault(rt, outcome, number))
 }
 
@@ -186,27 +185,27 @@ const READS: [u64; 3] = [5, 2, 2];
 
 #[test]
 fn all_calls_but_writes_fail_once(rt: HostRuntime) {
-    sweep_all::<Both>(&rt, rt.alloc(), &LONG, &CALLS);
+    sweep_all(&rt, rt.alloc(), &LONG, &CALLS);
 }
 
 #[test]
 fn writes_fail_once(rt: HostRuntime) {
-    sweep_all::<Both>(&rt, rt.alloc(), &LONG, &WRITES);
+    sweep_all(&rt, rt.alloc(), &LONG, &WRITES);
 }
 
 #[test]
 fn later_writes_fail_once(rt: HostRuntime) {
-    sweep_all::<Both>(&rt, rt.alloc(), &LONG, &LATER_WRITES);
+    sweep_all(&rt, rt.alloc(), &LONG, &LATER_WRITES);
 }
 
 #[test]
 fn calls_fail_once_where_the_root_rises(rt: HostRuntime) {
-    sweep_all::<Both>(&rt, rt.alloc(), &RISING, &RISE);
+    sweep_all(&rt, rt.alloc(), &RISING, &RISE);
 }
 
 #[test]
 fn reads_of_blocks_fail(rt: HostRuntime) {
-    let stage: Stage<Both> = prepare(&rt, rt.alloc(), &LONG);
+    let stage = prepare(&rt, rt.alloc(), &LONG);
     for (number, expected) in READS.iter().enumerate() {
         let refused = refused_reads(&rt, &stage, number as u64);
         be_at(&rt, refused == *expected, "refused questions", refused);

@@ -1,5 +1,6 @@
 //! The pages of a disk in memory, and the same disk with each page written once, so that copies of it are cheap.
 
+use crate::disks::Both;
 use crate::loads::{HOMES, PAGE};
 use disk_memory::MemErase;
 use disk_models::EraseDisk;
@@ -38,14 +39,15 @@ fn lay_again(rt: &impl Abort, to: &mut MemErase, page: u64, octets: &[u8], zeros
     }
 }
 
-/// A disk that has each page of this one that isn't of zeros written once, and synced.
-pub(crate) fn with_pages_anew(rt: &impl Abort, alloc: Global, disk: &mut MemErase) -> MemErase {
+/// The disks, of which the erasable one has each page that isn't of zeros written once, and synced.
+pub(crate) fn laid_anew(rt: &impl Abort, alloc: Global, mut disks: Both) -> Both {
     let zeros = page_of(rt, alloc, 0);
     let mut erase = MemErase::new(alloc, (265 + HOMES) * PAGE);
     for page in 0..265 + HOMES {
-        let octets = octets_of(rt, alloc, disk, page);
+        let octets = octets_of(rt, alloc, &mut disks.erase, page);
         lay_again(rt, &mut erase, page, &octets, &zeros);
     }
     erase.sync().expect(rt, "a sync");
-    erase
+    disks.erase = erase;
+    disks
 }

@@ -45,13 +45,9 @@ mod records;
 #[cfg(test)]
 mod refused;
 #[cfg(test)]
-mod spoiled;
-#[cfg(test)]
 mod stage;
 #[cfg(test)]
 mod stops;
-#[cfg(test)]
-mod subject;
 #[cfg(test)]
 mod sweeps;
 

@@ -3,13 +3,13 @@
 use crate::acts::{LONG, RISING};
 use crate::asked::count_of;
 use crate::be;
-use crate::disks::Both;
+use crate::disks::{Both, given_up, opened};
+use crate::laid::octets_of;
 use crate::loads::PAGE;
-use crate::played::Outcome;
+use crate::played::{Outcome, check};
 use crate::pure::{Answered, NOW};
 use crate::stage::{Stage, prepare};
 use crate::stops::play;
-use crate::subject::{Disks, Subject, opened};
 use disk_memory::{Burn, Call};
 use route_model::octets::u64_at;
 use std::alloc::Global;
@@ -62,12 +62,12 @@ const LONG_CHANGES: u64 = 1_323;
 const RISING_CHANGES: u64 = 7;
 
 /// The disks after the life, where a check counts this many changes.
-fn live<D: Disks>(rt: &impl Abort, stage: &Stage<D>, changes: u64) -> D {
+fn live(rt: &impl Abort, stage: &Stage, changes: u64) -> Both {
     let mut archive = opened(rt, stage.alloc, stage.disks.copy(rt));
     let is_done = play(stage, &mut archive) == stage.script.life;
-    let is_counted = is_done && archive.check(changes) == Outcome::Done;
+    let is_counted = is_done && check(&mut archive, changes) == Outcome::Done;
     be(rt, is_counted, "a life, and its changes");
-    D::given_up(archive)
+    given_up(archive)
 }
 
 /// How many blocks begin so.
@@ -122,14 +122,14 @@ fn level_of(octets: &[u8]) -> u8 {
     }
 }
 
-fn tree_of<D: Disks>(rt: &impl Abort, alloc: Global, disks: &D) -> Tree {
-    let mut disks = D::given_up(opened(rt, alloc, disks.copy(rt)));
-    let head = disks.octets_of(rt, alloc, 265);
+fn tree_of(rt: &impl Abort, alloc: Global, disks: &Both) -> Tree {
+    let mut disks = given_up(opened(rt, alloc, disks.copy(rt)));
+    let head = octets_of(rt, alloc, &mut disks.erase, 265);
     if head.len() < 48 {
         panic!(rt; "a head");
     }
     let root = u64_at(&head, 40).saturating_add(265);
-    let page = disks.octets_of(rt, alloc, root);
+    let page = octets_of(rt, alloc, &mut disks.erase, root);
     Tree {
         next: u64_at(&head, 24),
         level: level_of(&page),
@@ -137,7 +137,7 @@ fn tree_of<D: Disks>(rt: &impl Abort, alloc: Global, disks: &D) -> Tree {
 }
 
 /// How many records of collector 1 were late.
-fn late<D: Disks>(stage: &Stage<D>) -> u64 {
+fn late(stage: &Stage) -> u64 {
     let Some(known) = stage.known.last() else {
         return u64::MAX;
     };
@@ -148,7 +148,7 @@ fn late<D: Disks>(stage: &Stage<D>) -> u64 {
 }
 
 /// How many pages are used, and how many levels there are, that weren't before.
-fn grown<D: Disks>(rt: &impl Abort, stage: &Stage<D>, lived: &D) -> Tree {
+fn grown(rt: &impl Abort, stage: &Stage, lived: &Both) -> Tree {
     let before = tree_of(rt, stage.alloc, &stage.disks);
     let after = tree_of(rt, stage.alloc, lived);
     Tree {
@@ -158,12 +158,12 @@ fn grown<D: Disks>(rt: &impl Abort, stage: &Stage<D>, lived: &D) -> Tree {
 }
 
 /// What happens in a life, after which the disks are these.
-fn what_happens<D: Disks>(rt: &impl Abort, stage: &Stage<D>, lived: &D) -> Happened {
+fn what_happens(rt: &impl Abort, stage: &Stage, lived: &Both) -> Happened {
     let grown = grown(rt, stage, lived);
-    let calls = stage.disks.calls().len();
-    let burns = stage.disks.settled().len();
-    let calls = lived.calls().get(calls..).unwrap_or(&[]);
-    let burns = lived.settled().get(burns..).unwrap_or(&[]);
+    let calls = stage.disks.erase.calls().len();
+    let burns = stage.disks.pen.settled().len();
+    let calls = lived.erase.calls().get(calls..).unwrap_or(&[]);
+    let burns = lived.pen.settled().get(burns..).unwrap_or(&[]);
     Happened {
         writes_and_syncs: calls.len(),
         burns: burns.len(),
@@ -177,7 +177,7 @@ fn what_happens<D: Disks>(rt: &impl Abort, stage: &Stage<D>, lived: &D) -> Happe
 }
 
 /// This happens in a life.
-fn happens<D: Disks>(rt: &impl Abort, stage: &Stage<D>, changes: u64, expected: &Happened) {
+fn happens(rt: &impl Abort, stage: &Stage, changes: u64, expected: &Happened) {
     let lived = live(rt, stage, changes);
     let happened = what_happens(rt, stage, &lived);
     be(rt, happened == *expected, "what happens");
@@ -198,7 +198,7 @@ fn are_counted(answers: &[Answered]) -> bool {
 
 #[test]
 fn a_life_has_splits_of_each_kind_and_a_checkpoint(rt: HostRuntime) {
-    let stage: Stage<Both> = prepare(&rt, rt.alloc(), &LONG);
+    let stage = prepare(&rt, rt.alloc(), &LONG);
     happens(&rt, &stage, LONG_CHANGES, &LONG_LIFE);
     let known = stage.known.last().expect(&rt, "a state");
     be(&rt, are_counted(&known.answers), "rows and events");
@@ -206,6 +206,6 @@ fn a_life_has_splits_of_each_kind_and_a_checkpoint(rt: HostRuntime) {
 
 #[test]
 fn a_life_has_a_root_that_rises(rt: HostRuntime) {
-    let stage: Stage<Both> = prepare(&rt, rt.alloc(), &RISING);
+    let stage = prepare(&rt, rt.alloc(), &RISING);
     happens(&rt, &stage, RISING_CHANGES, &RISING_LIFE);
 }

@@ -2,10 +2,8 @@
 
 use crate::acts::RISING;
 use crate::be;
-use crate::disks::Both;
 use crate::refused::{Refusal, Trial, end, live};
-use crate::stage::{Stage, prepare};
-use crate::subject::Disks;
+use crate::stage::prepare;
 use std::alloc::Global;
 use std::process::Abort;
 
@@ -22,7 +20,7 @@ fn take(rt: &impl Abort, alloc: Global, size: usize) {
 
 #[test]
 fn a_life_answers_the_same_where_memory_is_refused(rt: HostRuntime) {
-    let stage: Stage<Both> = prepare(&rt, rt.alloc(), &RISING);
+    let stage = prepare(&rt, rt.alloc(), &RISING);
     let disks = stage.disks.copy(&rt);
     let mut trial = Trial::new(Refusal::Memory, 0);
     take(&rt, rt.alloc(), FIRST);

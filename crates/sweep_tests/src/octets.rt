@@ -2,11 +2,11 @@
 
 use crate::acts::{LONG, RISING};
 use crate::be_at;
-use crate::disks::Both;
-use crate::laid::page_of;
+use crate::disks::{Both, Played, given_up, opened, try_open};
+use crate::laid::{laid_anew, lay, octets_of, page_of};
 use crate::loads::PAGE;
+use crate::played::{apply, check, flush, flush_all};
 use crate::stage::{Stage, prepare};
-use crate::subject::{Disks, Subject, flush_all, opened};
 use disk_archive::OpenError;
 use std::alloc::Global;
 use std::process::Abort;
@@ -33,7 +33,7 @@ struct Counts {
 const EACH: [usize; 6] = [1, 2, 4, 6, 9, 12];
 
 /// Whether questions are answered, or refused for damage, or for the watermark that a damaged page has.
-fn are_answered<D: Disks>(stage: &Stage<D>, archive: &mut D::Archive) -> bool {
+fn are_answered(stage: &Stage, archive: &mut Played) -> bool {
     for number in &EACH {
         if !stage.ask(archive, 0, *number).is_no_failure() {
             return false;
@@ -44,8 +44,8 @@ fn are_answered<D: Disks>(stage: &Stage<D>, archive: &mut D::Archive) -> bool {
 
 /// Whether the calls that aren't questions return so: a check counts something or finds damage, and a step of applying is made, or refused
 /// for what the pages have.
-fn returns<A: Subject>(archive: &mut A) -> bool {
-    archive.check(0).is_no_failure() && archive.apply().is_no_failure() && archive.flush().is_done()
+fn returns(archive: &mut Played) -> bool {
+    check(archive, 0).is_no_failure() && apply(archive).is_no_failure() && flush(archive).is_done()
 }
 
 /// Whether an opening is refused for what the pages have.
@@ -54,14 +54,8 @@ fn is_named(error: OpenError) -> bool {
 }
 
 /// Whether disks are opened: then questions return, and all other calls if these are to be made. Else the refusal is named.
-fn opens<D: Disks>(
-    rt: &impl Abort,
-    stage: &Stage<D>,
-    disks: D,
-    number: u64,
-    makes_all: bool,
-) -> bool {
-    match disks.try_open(stage.alloc) {
+fn opens(rt: &impl Abort, stage: &Stage, disks: Both, number: u64, makes_all: bool) -> bool {
+    match try_open(stage.alloc, disks) {
         Ok(mut archive) => {
             be_at(rt, are_answered(stage, &mut archive), "questions", number);
             if makes_all {
@@ -77,34 +71,27 @@ fn opens<D: Disks>(
 }
 
 /// The same disks with these octets in a page, from one on.
-fn with_octets<D: Disks>(rt: &impl Abort, disks: &D, page: u64, at: u64, octets: &[u8]) -> D {
+fn with_octets(rt: &impl Abort, disks: &Both, page: u64, at: u64, octets: &[u8]) -> Both {
     let mut disks = disks.copy(rt);
     let at = page.saturating_mul(PAGE).saturating_add(at);
-    disks.lay(rt, at, octets);
+    lay(rt, &mut disks.erase, at, octets);
     disks
 }
 
 impl Counts {
     /// Opens disks of which an octet is another one.
-    fn set<D: Disks>(
-        &mut self,
-        rt: &impl Abort,
-        stage: &Stage<D>,
-        disks: D,
-        at: u64,
-        makes_all: bool,
-    ) {
+    fn set(&mut self, rt: &impl Abort, stage: &Stage, disks: Both, at: u64, makes_all: bool) {
         let is_opened = opens(rt, stage, disks, at, makes_all);
         self.changed = self.changed.saturating_add(1);
         self.opened = self.opened.saturating_add(u64::from(is_opened));
     }
 
     /// Sets an octet of an area to 00 and to FF, where it's another one.
-    fn set_both<D: Disks>(
+    fn set_both(
         &mut self,
         rt: &impl Abort,
-        stage: &Stage<D>,
-        disks: &D,
+        stage: &Stage,
+        disks: &Both,
         area: &Area,
         at: u64,
         was: u8,
@@ -122,13 +109,13 @@ impl Counts {
 }
 
 /// The octets of a page.
-fn octets_in<D: Disks>(rt: &impl Abort, alloc: Global, disks: &D, page: u64) -> Vec<u8> {
+fn octets_in(rt: &impl Abort, alloc: Global, disks: &Both, page: u64) -> Vec<u8> {
     let mut disks = disks.copy(rt);
-    disks.octets_of(rt, alloc, page)
+    octets_of(rt, alloc, &mut disks.erase, page)
 }
 
 /// Sets the octets of an area.
-fn sweep<D: Disks>(rt: &impl Abort, stage: &Stage<D>, disks: &D, area: &Area) {
+fn sweep(rt: &impl Abort, stage: &Stage, disks: &Both, area: &Area) {
     let octets = octets_in(rt, stage.alloc, disks, area.page);
     let mut counts = Counts {
         changed: 0,
@@ -145,17 +132,17 @@ fn sweep<D: Disks>(rt: &impl Abort, stage: &Stage<D>, disks: &D, area: &Area) {
 }
 
 /// The disks after the first acts of a life, of which no page waits to go home.
-fn waiting<D: Disks>(rt: &impl Abort, stage: &Stage<D>, acts: usize) -> D {
+fn waiting(rt: &impl Abort, stage: &Stage, acts: usize) -> Both {
     let mut archive = opened(rt, stage.alloc, stage.disks.copy(rt));
     for number in 0..acts {
         let is_done = stage.make(&mut archive, number).is_done();
         be_at(rt, is_done, "an act", number as u64);
     }
     be_at(rt, flush_all(&mut archive), "all pages are home", 0);
-    D::given_up(archive).laid_anew(rt, stage.alloc)
+    laid_anew(rt, stage.alloc, given_up(archive))
 }
 
-fn sweep_all<D: Disks>(rt: &impl Abort, stage: &Stage<D>, acts: usize, areas: &[Area]) {
+fn sweep_all(rt: &impl Abort, stage: &Stage, acts: usize, areas: &[Area]) {
     let disks = waiting(rt, stage, acts);
     for area in areas {
         sweep(rt, stage, &disks, area);
@@ -255,31 +242,31 @@ const PARTED: [Area; 1] = [Area {
 
 #[test]
 fn octets_of_the_heads_are_changed(rt: HostRuntime) {
-    let stage: Stage<Both> = prepare(&rt, rt.alloc(), &RISING);
+    let stage = prepare(&rt, rt.alloc(), &RISING);
     sweep_all(&rt, &stage, RISEN_ACTS, &HEADS);
 }
 
 #[test]
 fn octets_of_a_first_column_are_changed(rt: HostRuntime) {
-    let stage: Stage<Both> = prepare(&rt, rt.alloc(), &RISING);
+    let stage = prepare(&rt, rt.alloc(), &RISING);
     sweep_all(&rt, &stage, RISEN_ACTS, &FIRST);
 }
 
 #[test]
 fn octets_of_a_second_column_are_changed(rt: HostRuntime) {
-    let stage: Stage<Both> = prepare(&rt, rt.alloc(), &RISING);
+    let stage = prepare(&rt, rt.alloc(), &RISING);
     sweep_all(&rt, &stage, RISEN_ACTS, &SECOND);
 }
 
 #[test]
 fn octets_of_the_root_are_changed(rt: HostRuntime) {
-    let stage: Stage<Both> = prepare(&rt, rt.alloc(), &RISING);
+    let stage = prepare(&rt, rt.alloc(), &RISING);
     sweep_all(&rt, &stage, RISEN_ACTS, &ROOT);
 }
 
 #[test]
 fn octets_of_a_column_of_648_parts_are_changed(rt: HostRuntime) {
-    let stage: Stage<Both> = prepare(&rt, rt.alloc(), &LONG);
+    let stage = prepare(&rt, rt.alloc(), &LONG);
     sweep_all(&rt, &stage, 0, &PARTED);
 }
 
@@ -287,7 +274,7 @@ fn octets_of_a_column_of_648_parts_are_changed(rt: HostRuntime) {
 const PAGES: [u64; 8] = [0, 265, 266, 284, 285, 286, 287, 288];
 
 /// The disks with two pages in one another's place.
-fn swapped<D: Disks>(rt: &impl Abort, alloc: Global, disks: &D, one: u64, other: u64) -> D {
+fn swapped(rt: &impl Abort, alloc: Global, disks: &Both, one: u64, other: u64) -> Both {
     let first = octets_in(rt, alloc, disks, one);
     let second = octets_in(rt, alloc, disks, other);
     let disks = with_octets(rt, disks, one, 0, &second);
@@ -295,7 +282,7 @@ fn swapped<D: Disks>(rt: &impl Abort, alloc: Global, disks: &D, one: u64, other:
 }
 
 /// Swaps a page with each one.
-fn swap<D: Disks>(rt: &impl Abort, stage: &Stage<D>, disks: &D, one: u64) {
+fn swap(rt: &impl Abort, stage: &Stage, disks: &Both, one: u64) {
     for other in &PAGES {
         let swapped = swapped(rt, stage.alloc, disks, one, *other);
         let _opened = opens(rt, stage, swapped, *other, true);
@@ -303,7 +290,7 @@ fn swap<D: Disks>(rt: &impl Abort, stage: &Stage<D>, disks: &D, one: u64) {
 }
 
 /// Fills a page.
-fn fill<D: Disks>(rt: &impl Abort, stage: &Stage<D>, disks: &D, page: u64, octet: u8) {
+fn fill(rt: &impl Abort, stage: &Stage, disks: &Both, page: u64, octet: u8) {
     let octets = page_of(rt, stage.alloc, octet);
     let filled = with_octets(rt, disks, page, 0, &octets);
     let _opened = opens(rt, stage, filled, page, true);
@@ -311,7 +298,7 @@ fn fill<D: Disks>(rt: &impl Abort, stage: &Stage<D>, disks: &D, page: u64, octet
 
 #[test]
 fn pages_are_swapped_and_filled(rt: HostRuntime) {
-    let stage: Stage<Both> = prepare(&rt, rt.alloc(), &RISING);
+    let stage = prepare(&rt, rt.alloc(), &RISING);
     let disks = waiting(&rt, &stage, RISEN_ACTS);
     for page in &PAGES {
         swap(&rt, &stage, &disks, *page);

@@ -1,19 +1,15 @@
-//! An archive on disks in memory, of whose calls nothing more is known than what they come to.
+//! Calls of an archive, each made here alone, of which nothing more is known than what they come to.
 
 use crate::asked::same;
+use crate::disks::Played;
 use crate::records::mark_at;
-use crate::subject::Subject;
 use disk_archive::{
-    AdmitError, ApplyError, Archive, AskError, CheckError, Flush, FlushError, MarkError, OpenError,
-    Step,
+    AdmitError, ApplyError, AskError, CheckError, Flush, FlushError, MarkError, OpenError, Step,
 };
-use disk_memory::{MemErase, MemOnce};
+use disk_memory::MemOnce;
 use interleaving_core::{Answer, Query, Reply, Resume};
 use once_store::ShelfReader;
 use route_model::{Admission, Mark};
-use std::process::Abort;
-
-pub(crate) type Played = Archive<MemErase, MemOnce>;
 
 /// What a call came to.
 #[derive(Clone, Copy, PartialEq, Eq)]
@@ -65,12 +61,28 @@ fn of_admit(error: AdmitError) -> Outcome {
     }
 }
 
+/// Gives a batch of a collector: done where it is acknowledged, and its receipt ends where the collector goes on.
+pub(crate) fn give(archive: &mut Played, collector: u8, batch: &[Admission]) -> Outcome {
+    match archive.admit(collector, batch) {
+        Ok(reply) => given(archive, collector, reply.receipt.to),
+        Err(error) => of_admit(error),
+    }
+}
+
 fn of_mark(error: MarkError) -> Outcome {
     match error {
         MarkError::Fault => Outcome::Fault,
         MarkError::OutOfMemory => Outcome::OutOfMemory,
         MarkError::NeedsRecovery => Outcome::NeedsRecovery,
         _ => Outcome::Other,
+    }
+}
+
+/// Sets a collector's mark.
+pub(crate) fn set_mark(archive: &mut Played, collector: u8, seconds: u32) -> Outcome {
+    match archive.mark(collector, mark_at(seconds)) {
+        Ok(()) => Outcome::Done,
+        Err(error) => of_mark(error),
     }
 }
 
@@ -81,6 +93,45 @@ fn of_apply(error: ApplyError) -> Outcome {
         ApplyError::NeedsRecovery => Outcome::NeedsRecovery,
         _ => Outcome::Other,
     }
+}
+
+/// Makes a step of applying.
+pub(crate) fn apply(archive: &mut Played) -> Outcome {
+    match archive.apply_step() {
+        Ok(Step::Applied) => Outcome::Done,
+        Ok(Step::Idle) => Outcome::Idle,
+        Err(error) => of_apply(error),
+    }
+}
+
+/// Makes steps of applying until nothing may be applied.
+pub(crate) fn apply_all(archive: &mut Played) -> bool {
+    for _ in 0..1_000 {
+        if apply(archive) == Outcome::Idle {
+            return true;
+        }
+    }
+    false
+}
+
+/// Makes a step of flushing.
+pub(crate) fn flush(archive: &mut Played) -> Outcome {
+    match archive.flush_step() {
+        Ok(Flush::Flushed) => Outcome::Done,
+        Ok(Flush::Clean) => Outcome::Idle,
+        Err(FlushError::Fault) => Outcome::Fault,
+        Err(FlushError::NeedsRecovery) => Outcome::NeedsRecovery,
+    }
+}
+
+/// Makes steps of flushing until no page waits to go home.
+pub(crate) fn flush_all(archive: &mut Played) -> bool {
+    for _ in 0..1_000 {
+        if flush(archive) == Outcome::Idle {
+            return true;
+        }
+    }
+    false
 }
 
 fn resume_of(archive: &Played, collector: u8) -> Option<Resume> {
@@ -95,6 +146,15 @@ fn given(archive: &Played, collector: u8, to: u64) -> Outcome {
     match resume_of(archive, collector) {
         Some(resume) if resume.admitted == to => Outcome::Done,
         _ => Outcome::Other,
+    }
+}
+
+pub(crate) fn state_of(archive: &Played) -> State {
+    State {
+        first: resume_of(archive, 0),
+        second: resume_of(archive, 1),
+        settled: archive.settled(),
+        applied: archive.applied(),
     }
 }
 
@@ -119,6 +179,32 @@ fn of_answer(answer: &Result<Answer, AskError>, expected: &Reply) -> Outcome {
     }
 }
 
+/// Asks a question: done where it is answered so.
+pub(crate) fn ask(archive: &mut Played, query: &Query, expected: &Reply) -> Outcome {
+    let answer = archive.answer(*query);
+    of_answer(&answer, expected)
+}
+
+/// The same by a reader that keeps the blocks which it reads.
+pub(crate) fn ask_with(
+    archive: &mut Played,
+    reader: &mut ShelfReader<MemOnce>,
+    query: &Query,
+    expected: &Reply,
+) -> Outcome {
+    let answer = archive.answer_with(reader, *query);
+    of_answer(&answer, expected)
+}
+
+/// Makes the first turn of a question.
+pub(crate) fn begin_asking(archive: &mut Played, query: &Query) -> Outcome {
+    let mut cursor = archive.start(*query);
+    match archive.descend(&mut cursor) {
+        Ok(_) => Outcome::Done,
+        Err(error) => of_ask(error),
+    }
+}
+
 fn of_check(error: CheckError) -> Outcome {
     match error {
         CheckError::Fault => Outcome::Fault,
@@ -129,90 +215,20 @@ fn of_check(error: CheckError) -> Outcome {
     }
 }
 
+/// Checks the archive: done where this many changes are counted.
+pub(crate) fn check(archive: &mut Played, changes: u64) -> Outcome {
+    match archive.check() {
+        Ok(count) if count == changes => Outcome::Done,
+        Ok(_) => Outcome::Other,
+        Err(error) => of_check(error),
+    }
+}
+
 /// What a refused opening came to.
 pub(crate) fn of_open(error: OpenError) -> Outcome {
     match error {
         OpenError::Fault => Outcome::Fault,
         OpenError::OutOfMemory => Outcome::OutOfMemory,
         _ => Outcome::Other,
-    }
-}
-
-impl Subject for Played {
-    type Reader = ShelfReader<MemOnce>;
-
-    fn give(&mut self, collector: u8, batch: &[Admission]) -> Outcome {
-        match self.admit(collector, batch) {
-            Ok(reply) => given(self, collector, reply.receipt.to),
-            Err(error) => of_admit(error),
-        }
-    }
-
-    fn set_mark(&mut self, collector: u8, seconds: u32) -> Outcome {
-        match self.mark(collector, mark_at(seconds)) {
-            Ok(()) => Outcome::Done,
-            Err(error) => of_mark(error),
-        }
-    }
-
-    fn apply(&mut self) -> Outcome {
-        match self.apply_step() {
-            Ok(Step::Applied) => Outcome::Done,
-            Ok(Step::Idle) => Outcome::Idle,
-            Err(error) => of_apply(error),
-        }
-    }
-
-    fn flush(&mut self) -> Outcome {
-        match self.flush_step() {
-            Ok(Flush::Flushed) => Outcome::Done,
-            Ok(Flush::Clean) => Outcome::Idle,
-            Err(FlushError::Fault) => Outcome::Fault,
-            Err(FlushError::NeedsRecovery) => Outcome::NeedsRecovery,
-        }
-    }
-
-    fn state(&self) -> State {
-        State {
-            first: resume_of(self, 0),
-            second: resume_of(self, 1),
-            settled: self.settled(),
-            applied: self.applied(),
-        }
-    }
-
-    fn ask(&mut self, query: &Query, expected: &Reply) -> Outcome {
-        let answer = self.answer(*query);
-        of_answer(&answer, expected)
-    }
-
-    fn reader(&mut self, rt: &impl Abort) -> ShelfReader<MemOnce> {
-        Archive::reader(self, 64).expect(rt, "a reader")
-    }
-
-    fn ask_with(
-        &mut self,
-        reader: &mut ShelfReader<MemOnce>,
-        query: &Query,
-        expected: &Reply,
-    ) -> Outcome {
-        let answer = self.answer_with(reader, *query);
-        of_answer(&answer, expected)
-    }
-
-    fn begin_asking(&mut self, query: &Query) -> Outcome {
-        let mut cursor = self.start(*query);
-        match self.descend(&mut cursor) {
-            Ok(_) => Outcome::Done,
-            Err(error) => of_ask(error),
-        }
-    }
-
-    fn check(&mut self, changes: u64) -> Outcome {
-        match Archive::check(self) {
-            Ok(count) if count == changes => Outcome::Done,
-            Ok(_) => Outcome::Other,
-            Err(error) => of_check(error),
-        }
     }
 }

@@ -2,11 +2,11 @@
 
 use crate::acts::Act;
 use crate::be_at;
-use crate::played::{Outcome, of_open};
+use crate::disks::{Both, Played, given_up, opened, try_open};
+use crate::played::{Outcome, apply, check, flush, of_open, set_mark, state_of};
 use crate::pure::NOW;
 use crate::stage::{Stage, call};
 use crate::stops::numbered;
-use crate::subject::{Disks, Subject, opened, stop};
 use std::process::Abort;
 
 /// What is refused in a life.
@@ -66,8 +66,8 @@ impl Trial {
 }
 
 /// Opens the disks; where that is refused, once more on those that were handed back.
-fn begin<D: Disks>(rt: &impl Abort, trial: &mut Trial, stage: &Stage<D>, disks: D) -> D::Archive {
-    match disks.try_open(stage.alloc) {
+fn begin(rt: &impl Abort, trial: &mut Trial, stage: &Stage, disks: Both) -> Played {
+    match try_open(stage.alloc, disks) {
         Ok(archive) => archive,
         Err(handed) => {
             trial.refuse(rt, of_open(handed.error));
@@ -77,51 +77,39 @@ fn begin<D: Disks>(rt: &impl Abort, trial: &mut Trial, stage: &Stage<D>, disks: 
 }
 
 /// Whether the archive must be opened again. It has no collector of this number.
-fn is_down<A: Subject>(archive: &mut A) -> bool {
-    archive.set_mark(99, 0) == Outcome::NeedsRecovery
+fn is_down(archive: &mut Played) -> bool {
+    set_mark(archive, 99, 0) == Outcome::NeedsRecovery
 }
 
 /// Whether each call that changes something is refused until the archive is opened again.
-fn does_nothing<D: Disks>(stage: &Stage<D>, archive: &mut D::Archive) -> bool {
+fn does_nothing(stage: &Stage, archive: &mut Played) -> bool {
     call(archive, &stage.batches, &Act::Admit(0, 0)) == Outcome::NeedsRecovery
-        && archive.set_mark(0, 9_999) == Outcome::NeedsRecovery
-        && archive.apply() == Outcome::NeedsRecovery
-        && archive.flush() == Outcome::NeedsRecovery
+        && set_mark(archive, 0, 9_999) == Outcome::NeedsRecovery
+        && apply(archive) == Outcome::NeedsRecovery
+        && flush(archive) == Outcome::NeedsRecovery
 }
 
 /// Whether nothing is answered until then.
-fn answers_nothing<D: Disks>(stage: &Stage<D>, archive: &mut D::Archive, place: usize) -> bool {
+fn answers_nothing(stage: &Stage, archive: &mut Played, place: usize) -> bool {
     stage.ask(archive, place, NOW) == Outcome::NeedsRecovery
         && stage.begin_asking(archive, place) == Outcome::NeedsRecovery
-        && archive.check(0) == Outcome::NeedsRecovery
+        && check(archive, 0) == Outcome::NeedsRecovery
 }
 
 /// Whether an archive is in the state before an act.
-fn is_before<D: Disks>(stage: &Stage<D>, archive: &D::Archive, number: usize) -> bool {
+fn is_before(stage: &Stage, archive: &Played, number: usize) -> bool {
     stage.is_state(archive, stage.place_at(number))
 }
 
 /// Makes an act again, which isn't refused then: the archive is as before the next one.
-fn make_again<D: Disks>(
-    rt: &impl Abort,
-    trial: &Trial,
-    stage: &Stage<D>,
-    archive: &mut D::Archive,
-    number: usize,
-) {
+fn make_again(rt: &impl Abort, trial: &Trial, stage: &Stage, archive: &mut Played, number: usize) {
     let is_done = stage.make(archive, number).is_done();
     let is_next = is_before(stage, archive, number.saturating_add(1));
     trial.be(rt, is_done && is_next, "an act is made again");
 }
 
 /// Makes an act again where the archive is as before it, and answers so.
-fn make_undone<D: Disks>(
-    rt: &impl Abort,
-    trial: &Trial,
-    stage: &Stage<D>,
-    archive: &mut D::Archive,
-    number: usize,
-) {
+fn make_undone(rt: &impl Abort, trial: &Trial, stage: &Stage, archive: &mut Played, number: usize) {
     let is_there = stage.is_at(archive, stage.place_at(number));
     trial.be(rt, is_there, "what was answered is answered");
     make_again(rt, trial, stage, archive, number);
@@ -129,18 +117,18 @@ fn make_undone<D: Disks>(
 
 /// An archive that must be opened again returns the state of before, and does nothing. Once it's opened it is as before the act or as after
 /// it, and the act is made again where it isn't there.
-fn open_again<D: Disks>(
+fn open_again(
     rt: &impl Abort,
     trial: &Trial,
-    stage: &Stage<D>,
-    mut archive: D::Archive,
+    stage: &Stage,
+    mut archive: Played,
     number: usize,
-) -> D::Archive {
+) -> Played {
     let is_idle = does_nothing(stage, &mut archive)
         && answers_nothing(stage, &mut archive, stage.place_at(number))
         && is_before(stage, &archive, number);
     trial.be(rt, is_idle, "it does and answers nothing");
-    let mut archive = opened(rt, stage.alloc, D::given_up(archive));
+    let mut archive = opened(rt, stage.alloc, given_up(archive));
     if !stage.is_at(&mut archive, stage.place_at(number.saturating_add(1))) {
         make_undone(rt, trial, stage, &mut archive, number);
     }
@@ -148,11 +136,11 @@ fn open_again<D: Disks>(
 }
 
 /// An act that was refused so changed nothing. Returns whether the archive must be opened again.
-fn refuse_act<D: Disks>(
+fn refuse_act(
     rt: &impl Abort,
     trial: &mut Trial,
-    stage: &Stage<D>,
-    archive: &mut D::Archive,
+    stage: &Stage,
+    archive: &mut Played,
     number: usize,
     outcome: Outcome,
 ) -> bool {
@@ -165,14 +153,14 @@ fn refuse_act<D: Disks>(
 }
 
 /// The archive after an act that was refused, and is made again.
-fn recover<D: Disks>(
+fn recover(
     rt: &impl Abort,
     trial: &Trial,
-    stage: &Stage<D>,
-    mut archive: D::Archive,
+    stage: &Stage,
+    mut archive: Played,
     number: usize,
     is_down: bool,
-) -> D::Archive {
+) -> Played {
     if is_down {
         return open_again(rt, trial, stage, archive, number);
     }
@@ -182,11 +170,11 @@ fn recover<D: Disks>(
 
 /// Makes the rest of an act that was done: where memory was refused, an application may have been of fewer changes, which leaves a state
 /// between both.
-fn make_rest<D: Disks>(
+fn make_rest(
     rt: &impl Abort,
     trial: &mut Trial,
-    stage: &Stage<D>,
-    archive: &mut D::Archive,
+    stage: &Stage,
+    archive: &mut Played,
     number: usize,
 ) {
     let after = stage.place_at(number.saturating_add(1));
@@ -200,13 +188,13 @@ fn make_rest<D: Disks>(
 }
 
 /// The archive after an act that may be refused.
-fn live_on<D: Disks>(
+fn live_on(
     rt: &impl Abort,
     trial: &mut Trial,
-    stage: &Stage<D>,
-    mut archive: D::Archive,
+    stage: &Stage,
+    mut archive: Played,
     number: usize,
-) -> D::Archive {
+) -> Played {
     let outcome = stage.make(&mut archive, number);
     if !outcome.is_done() {
         let is_down = refuse_act(rt, trial, stage, &mut archive, number, outcome);
@@ -217,11 +205,11 @@ fn live_on<D: Disks>(
 }
 
 /// A question of this number is answered as at a place; where it's refused, then the next time.
-fn asks<D: Disks>(
+fn asks(
     rt: &impl Abort,
     trial: &mut Trial,
-    stage: &Stage<D>,
-    archive: &mut D::Archive,
+    stage: &Stage,
+    archive: &mut Played,
     place: usize,
     number: usize,
 ) {
@@ -234,36 +222,25 @@ fn asks<D: Disks>(
 }
 
 /// Each question is.
-fn asks_all<D: Disks>(
-    rt: &impl Abort,
-    trial: &mut Trial,
-    stage: &Stage<D>,
-    archive: &mut D::Archive,
-    place: usize,
-) {
+fn asks_all(rt: &impl Abort, trial: &mut Trial, stage: &Stage, archive: &mut Played, place: usize) {
     for number in 0..NOW {
         asks(rt, trial, stage, archive, place, number);
     }
 }
 
 /// A check counts all changes; where it's refused, then the next time.
-fn checks<A: Subject>(rt: &impl Abort, trial: &mut Trial, archive: &mut A) {
-    let changes = archive.state().applied;
-    let outcome = archive.check(changes);
+fn checks(rt: &impl Abort, trial: &mut Trial, archive: &mut Played) {
+    let changes = state_of(archive).applied;
+    let outcome = check(archive, changes);
     if outcome != Outcome::Done {
         trial.refuse(rt, outcome);
-        let is_counted = !is_down(archive) && archive.check(changes) == Outcome::Done;
+        let is_counted = !is_down(archive) && check(archive, changes) == Outcome::Done;
         trial.be(rt, is_counted, "a check counts changes");
     }
 }
 
 /// The archive after all acts, in which something may be refused.
-fn live_all<D: Disks>(
-    rt: &impl Abort,
-    trial: &mut Trial,
-    stage: &Stage<D>,
-    mut archive: D::Archive,
-) -> D::Archive {
+fn live_all(rt: &impl Abort, trial: &mut Trial, stage: &Stage, mut archive: Played) -> Played {
     for number in 0..stage.script.acts.len() {
         archive = live_on(rt, trial, stage, archive, number);
         let after = stage.place_at(number.saturating_add(1));
@@ -273,31 +250,31 @@ fn live_all<D: Disks>(
 }
 
 /// The disks after a life on these in which something may be refused. Each answer is what it has to be.
-pub(crate) fn live<D: Disks>(rt: &impl Abort, trial: &mut Trial, stage: &Stage<D>, disks: D) -> D {
+pub(crate) fn live(rt: &impl Abort, trial: &mut Trial, stage: &Stage, disks: Both) -> Both {
     let mut archive = begin(rt, trial, stage, disks);
     asks_all(rt, trial, stage, &mut archive, 0);
     let mut archive = live_all(rt, trial, stage, archive);
     asks_all(rt, trial, stage, &mut archive, stage.last_place());
     // A check reads all blocks.
-    if stage.disks.settled().len() < 100 {
+    if stage.disks.pen.settled().len() < 100 {
         checks(rt, trial, &mut archive);
     }
-    D::given_up(archive)
+    given_up(archive)
 }
 
 /// Whether each block was tried once, one after another. A disk that was refused memory for a burn leaves its block blank, and it's given up.
-fn are_in_turn<D: Disks>(trial: &Trial, disks: &D) -> bool {
+fn are_in_turn(trial: &Trial, disks: &Both) -> bool {
     let may_skip = trial.is_of_memory();
-    match numbered(disks.settled(), 0, may_skip) {
-        Some(next) => numbered(disks.waiting(), next, may_skip).is_some(),
+    match numbered(disks.pen.settled(), 0, may_skip) {
+        Some(next) => numbered(disks.pen.waiting(), next, may_skip).is_some(),
         None => false,
     }
 }
 
 /// A crash after the life leaves the end of one in which nothing is refused.
-pub(crate) fn end<D: Disks>(rt: &impl Abort, trial: &Trial, stage: &Stage<D>, disks: &D) {
+pub(crate) fn end(rt: &impl Abort, trial: &Trial, stage: &Stage, disks: &Both) {
     trial.be(rt, are_in_turn(trial, disks), "blocks in turn");
-    let mut archive = opened(rt, stage.alloc, stop(rt, disks, 0));
+    let mut archive = opened(rt, stage.alloc, disks.stop(rt, 0));
     let is_at_end = stage.is_at(&mut archive, stage.last_place());
     trial.be(rt, is_at_end, "the end");
 }

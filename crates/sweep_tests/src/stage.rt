@@ -2,11 +2,11 @@
 
 use crate::acts::{Act, Script};
 use crate::be;
+use crate::disks::{Both, Played, given_up, opened};
 use crate::loads::load_disks;
-use crate::played::Outcome;
+use crate::played::{Outcome, apply, ask, begin_asking, flush, give, set_mark, state_of};
 use crate::pure::{Known, NOW, Pure};
 use crate::records::{Record, batch_of};
-use crate::subject::{Disks, Subject, opened};
 use route_model::Admission;
 use std::alloc::Global;
 use std::process::Abort;
@@ -19,10 +19,10 @@ pub(crate) struct Batch {
 
 /// The prepared disks, and the batches.
 #[derive(Drop)]
-pub(crate) struct Stage<D> {
+pub(crate) struct Stage {
     pub(crate) alloc: Global,
     pub(crate) script: Script,
-    pub(crate) disks: D,
+    pub(crate) disks: Both,
     pub(crate) batches: Vec<Batch>,
     /// The states from the beginning on, of which applications have one for each change.
     pub(crate) known: Vec<Known>,
@@ -40,20 +40,20 @@ fn batches(rt: &impl Abort, alloc: Global, all: &[&[Record]]) -> Vec<Batch> {
 }
 
 /// The archive makes a call of a life.
-pub(crate) fn call<A: Subject>(archive: &mut A, batches: &[Batch], act: &Act) -> Outcome {
+pub(crate) fn call(archive: &mut Played, batches: &[Batch], act: &Act) -> Outcome {
     match *act {
         Act::Admit(collector, number) => match batches.get(number) {
-            Some(batch) => archive.give(collector, &batch.records),
+            Some(batch) => give(archive, collector, &batch.records),
             None => Outcome::Other,
         },
-        Act::Mark(collector, seconds) => archive.set_mark(collector, seconds),
-        Act::Apply => archive.apply(),
-        Act::Flush => archive.flush(),
+        Act::Mark(collector, seconds) => set_mark(archive, collector, seconds),
+        Act::Apply => apply(archive),
+        Act::Flush => flush(archive),
     }
 }
 
 /// The archive makes these calls, and nothing stops it.
-pub(crate) fn does_all<A: Subject>(archive: &mut A, batches: &[Batch], acts: &[Act]) -> bool {
+pub(crate) fn does_all(archive: &mut Played, batches: &[Batch], acts: &[Act]) -> bool {
     for act in acts {
         if !call(archive, batches, act).is_done() {
             return false;
@@ -75,36 +75,30 @@ fn follows(pure: &mut Pure, batches: &[Batch], act: &Act) -> bool {
 }
 
 /// Both make a call.
-fn both_do<A: Subject>(
-    rt: &impl Abort,
-    archive: &mut A,
-    pure: &mut Pure,
-    batches: &[Batch],
-    act: &Act,
-) {
+fn both_do(rt: &impl Abort, archive: &mut Played, pure: &mut Pure, batches: &[Batch], act: &Act) {
     let is_done = call(archive, batches, act).is_done() && follows(pure, batches, act);
     be(rt, is_done, "an act of both");
 }
 
 /// The disks on which records wait and slots are open.
-fn begun<D: Disks>(
+fn begun(
     rt: &impl Abort,
     alloc: Global,
     script: &Script,
     pure: &mut Pure,
     batches: &[Batch],
-) -> D {
-    let disks: D = load_disks(rt, alloc, script, pure);
+) -> Both {
+    let disks = load_disks(rt, alloc, script, pure);
     let mut archive = opened(rt, alloc, disks);
     for act in script.before {
         both_do(rt, &mut archive, pure, batches, act);
     }
-    D::given_up(archive)
+    given_up(archive)
 }
 
-impl<D: Disks> Stage<D> {
+impl Stage {
     /// The archive makes the act of this number.
-    pub(crate) fn make(&self, archive: &mut D::Archive, number: usize) -> Outcome {
+    pub(crate) fn make(&self, archive: &mut Played, number: usize) -> Outcome {
         match self.script.acts.get(number) {
             Some(act) => call(archive, &self.batches, act),
             None => Outcome::Other,
@@ -133,15 +127,15 @@ impl<D: Disks> Stage<D> {
     }
 
     /// Whether an archive is in the state at a place.
-    pub(crate) fn is_state(&self, archive: &D::Archive, place: usize) -> bool {
+    pub(crate) fn is_state(&self, archive: &Played, place: usize) -> bool {
         match self.known.get(place) {
-            Some(known) => known.state == archive.state(),
+            Some(known) => known.state == state_of(archive),
             None => false,
         }
     }
 
     /// The first of these places at which the state is that of an archive.
-    pub(crate) fn find(&self, archive: &D::Archive, from: usize, to: usize) -> Option<usize> {
+    pub(crate) fn find(&self, archive: &Played, from: usize, to: usize) -> Option<usize> {
         for place in from..to.saturating_add(1) {
             if self.is_state(archive, place) {
                 return Some(place);
@@ -151,29 +145,29 @@ impl<D: Disks> Stage<D> {
     }
 
     /// Asks the question of this number: done where it's answered as at a place.
-    pub(crate) fn ask(&self, archive: &mut D::Archive, place: usize, number: usize) -> Outcome {
+    pub(crate) fn ask(&self, archive: &mut Played, place: usize, number: usize) -> Outcome {
         let Some(known) = self.known.get(place) else {
             return Outcome::Other;
         };
         match known.answers.get(number) {
-            Some(asked) => archive.ask(&asked.query, &asked.reply),
+            Some(asked) => ask(archive, &asked.query, &asked.reply),
             None => Outcome::Other,
         }
     }
 
     /// Makes the first turn of the question of now at a place.
-    pub(crate) fn begin_asking(&self, archive: &mut D::Archive, place: usize) -> Outcome {
+    pub(crate) fn begin_asking(&self, archive: &mut Played, place: usize) -> Outcome {
         let Some(known) = self.known.get(place) else {
             return Outcome::Other;
         };
         match known.answers.get(NOW) {
-            Some(asked) => archive.begin_asking(&asked.query),
+            Some(asked) => begin_asking(archive, &asked.query),
             None => Outcome::Other,
         }
     }
 
     /// Whether an archive is in the state at a place, and answers each question so, that of now among them.
-    pub(crate) fn is_at(&self, archive: &mut D::Archive, place: usize) -> bool {
+    pub(crate) fn is_at(&self, archive: &mut Played, place: usize) -> bool {
         for number in 0..NOW + 1 {
             if self.ask(archive, place, number) != Outcome::Done {
                 return false;
@@ -200,10 +194,10 @@ impl<D: Disks> Stage<D> {
     }
 
     /// Both make a call of the life, and all states are remembered, and which place the last one has.
-    fn make_both(&mut self, rt: &impl Abort, archive: &mut D::Archive, pure: &mut Pure, act: &Act) {
+    fn make_both(&mut self, rt: &impl Abort, archive: &mut Played, pure: &mut Pure, act: &Act) {
         both_do(rt, archive, pure, &self.batches, act);
         match act {
-            Act::Apply => self.know_changes(rt, pure, archive.state().applied),
+            Act::Apply => self.know_changes(rt, pure, state_of(archive).applied),
             _ => self.know(rt, pure),
         }
         let place = self.last_place();
@@ -223,7 +217,7 @@ impl<D: Disks> Stage<D> {
 }
 
 /// The stage whose life is to be made.
-fn bare<D: Disks>(rt: &impl Abort, alloc: Global, script: &Script, pure: &mut Pure) -> Stage<D> {
+fn bare(rt: &impl Abort, alloc: Global, script: &Script, pure: &mut Pure) -> Stage {
     let batches = batches(rt, alloc, script.batches);
     let disks = begun(rt, alloc, script, pure, &batches);
     Stage {
@@ -237,7 +231,7 @@ fn bare<D: Disks>(rt: &impl Abort, alloc: Global, script: &Script, pure: &mut Pu
 }
 
 /// The stage for all stops of a life.
-pub(crate) fn prepare<D: Disks>(rt: &impl Abort, alloc: Global, script: &Script) -> Stage<D> {
+pub(crate) fn prepare(rt: &impl Abort, alloc: Global, script: &Script) -> Stage {
     let mut pure = Pure::new(rt, alloc);
     let mut stage = bare(rt, alloc, script, &mut pure);
     stage.make_life(rt, &mut pure);

@@ -2,10 +2,9 @@
 
 use crate::acts::{LONG, RISING, Script};
 use crate::be;
-use crate::disks::Both;
-use crate::stage::{Stage, prepare};
+use crate::disks::{Disk, WAYS};
+use crate::stage::prepare;
 use crate::stops::{Stop, go_on};
-use crate::subject::{Disk, Disks, WAYS};
 use std::alloc::Global;
 use std::process::Abort;
 
@@ -20,8 +19,8 @@ struct Deal {
 }
 
 /// Each stop of a deal goes on, and there are as many as it says.
-fn sweep<D: Disks>(rt: &impl Abort, alloc: Global, deal: &Deal) {
-    let stage: Stage<D> = prepare(rt, alloc, &deal.life);
+fn sweep(rt: &impl Abort, alloc: Global, deal: &Deal) {
+    let stage = prepare(rt, alloc, &deal.life);
     let mut lives: u64 = 0;
     let mut openings: u64 = 0;
     for number in deal.from.saturating_mul(WAYS)..deal.to.saturating_mul(WAYS) {
@@ -96,30 +95,30 @@ const RISE_BURNS: Deal = Deal {
 
 #[test]
 fn burns_and_settles_are_cut_off(rt: HostRuntime) {
-    sweep::<Both>(&rt, rt.alloc(), &BURNS);
+    sweep(&rt, rt.alloc(), &BURNS);
 }
 
 #[test]
 fn writes_and_syncs_of_the_first_deal_are_cut_off(rt: HostRuntime) {
-    sweep::<Both>(&rt, rt.alloc(), &FIRST);
+    sweep(&rt, rt.alloc(), &FIRST);
 }
 
 #[test]
 fn writes_and_syncs_of_the_second_deal_are_cut_off(rt: HostRuntime) {
-    sweep::<Both>(&rt, rt.alloc(), &SECOND);
+    sweep(&rt, rt.alloc(), &SECOND);
 }
 
 #[test]
 fn writes_and_syncs_of_the_third_deal_are_cut_off(rt: HostRuntime) {
-    sweep::<Both>(&rt, rt.alloc(), &THIRD);
+    sweep(&rt, rt.alloc(), &THIRD);
 }
 
 #[test]
 fn writes_and_syncs_are_cut_off_where_the_root_rises(rt: HostRuntime) {
-    sweep::<Both>(&rt, rt.alloc(), &RISE);
+    sweep(&rt, rt.alloc(), &RISE);
 }
 
 #[test]
 fn burns_and_settles_are_cut_off_where_the_root_rises(rt: HostRuntime) {
-    sweep::<Both>(&rt, rt.alloc(), &RISE_BURNS);
+    sweep(&rt, rt.alloc(), &RISE_BURNS);
 }
