@@ -8,7 +8,7 @@
 //! and goes on with one that has it (`settle_part`, after which the block is a part of the column; `migrate_leaf` makes both, without a
 //! new version).
 //!
-//! What settled blocks represent is any map each of whose nodes is settled (`ShelfSays`); after a call it is that map with one node more. A
+//! What settled blocks represent is any map each of whose nodes is settled (`ShelfRepresents`); after a call it is that map with one node more. A
 //! block takes up to 649 parts, one more than a page has room for besides its current leaf, so a full past can move into a block before
 //! or after a part is added. A block refers to settled blocks alone, since a shelf returns no number before that.
 #![tactic(auto)]
