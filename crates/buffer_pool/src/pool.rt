@@ -99,6 +99,13 @@ impl<D: EraseDisk + Drop> Pool<D> {
         self.journal.note()
     }
 
+    /// Whether no write and no sync has failed since the journal was opened.
+    pub fn is_usable(&self) -> bool
+        ensures usable { result ≡ not (needs_recovery (journal_of self.now)) }
+    {
+        self.journal.is_usable()
+    }
+
     /// How many of the journal's eight slots are closed. A commit takes one.
     pub fn closed(&self) -> usize
         ensures closed { result ≡ closed_slots (journal_of self.now) }

@@ -1,7 +1,7 @@
 //! What the commands print, one after another.
 
 use crate::played::{Filled, Played};
-use crate::playing::play;
+use crate::playing::{play, play_in_files};
 use archive_pages::Settings;
 use route_model::Mark;
 use service::{Creation, FileLoad, Loading, Output, Question};
@@ -54,8 +54,21 @@ fn loading(alloc: Global) -> Option<Loading<'static>> {
     })
 }
 
+/// Which disks the archive is on.
+#[derive(Clone, Copy, PartialEq)]
+enum Where {
+    Memory,
+    Files,
+}
+
 /// How the commands end whose last one asks this line. None where there is no memory.
-fn play_line(alloc: Global, line: &str, out: &mut Vec<u8>, err: &mut Vec<u8>) -> Option<Played> {
+fn play_line(
+    alloc: Global,
+    place: Where,
+    line: &str,
+    out: &mut Vec<u8>,
+    err: &mut Vec<u8>,
+) -> Option<Played> {
     let settings = Settings {
         collectors: MADE.collectors,
         ring: MADE.ring,
@@ -73,16 +86,16 @@ fn play_line(alloc: Global, line: &str, out: &mut Vec<u8>, err: &mut Vec<u8>) ->
         line: String::from_str(alloc, line).ok()?,
     };
     let mut files = [FileLoad::new(record.as_slice())];
-    play(
-        alloc,
-        (265 + MADE.pages) * 16_384,
-        &MADE,
-        &how,
-        &mut files,
-        &asked,
-        &mut Output::new(out),
-        &mut Output::new(err),
-    )
+    let size = (265 + MADE.pages) * 16_384;
+    let (mut out, mut err) = (Output::new(out), Output::new(err));
+    match place {
+        Where::Memory => play(
+            alloc, size, &MADE, &how, &mut files, &asked, &mut out, &mut err,
+        ),
+        Where::Files => play_in_files(
+            alloc, size, &MADE, &how, &mut files, &asked, &mut out, &mut err,
+        ),
+    }
 }
 
 const DONE: Played = Played {
@@ -94,21 +107,26 @@ const DONE: Played = Played {
 };
 
 /// Whether all is done, and exactly this is printed.
-fn prints(alloc: Global, line: &str, text: &str) -> bool {
+fn prints(alloc: Global, place: Where, line: &str, text: &str) -> bool {
     let mut out: Vec<u8> = Vec::new(alloc);
     let mut err: Vec<u8> = Vec::new(alloc);
-    let played = play_line(alloc, line, &mut out, &mut err);
+    let played = play_line(alloc, place, line, &mut out, &mut err);
     played == Some(DONE) && out.as_slice() == text.as_bytes() && err.is_empty()
 }
 
-/// Ends the test if this isn't printed.
-fn be(rt: &impl Abort, alloc: Global, line: &str, text: &str) {
-    assert!(rt; prints(alloc, line, text), "{line}");
+/// Ends the test if one of the lines isn't answered so on these disks.
+fn be(rt: &impl Abort, alloc: Global, place: Where) {
+    for (line, text) in &LINES {
+        assert!(rt; prints(alloc, place, line, text), "{line}");
+    }
 }
 
 #[test]
 fn a_new_archive_answers_by_what_is_loaded(rt: HostRuntime) {
-    for (line, text) in &LINES {
-        be(&rt, rt.alloc(), line, text);
-    }
+    be(&rt, rt.alloc(), Where::Memory);
+}
+
+#[test]
+fn an_archive_over_files_answers_by_what_is_loaded(rt: HostRuntime) {
+    be(&rt, rt.alloc(), Where::Files);
 }

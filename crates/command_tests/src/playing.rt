@@ -10,8 +10,10 @@ ghost use Rattle.command_tests.specs.Plays.{IsFilled, IsPlayed};
 
 use crate::played::{Filled, Played};
 use disk_commands::{Disks, ask_on, create_on, load_on};
+use disk_files::{FileErase, FileOnce};
 use disk_memory::{MemErase, MemOnce};
 use disk_models::{EraseDisk, OnceDisk};
+use memory_files::MemFile;
 use service::{Creation, FileLoad, Loading, Output, Question};
 use std::alloc::Global;
 use std::io::{Read, Write};
@@ -101,6 +103,42 @@ pub fn play<R: Read, W: Write, X: Write>(
 {
     let erase = MemErase::new(alloc, octets);
     let (once, pen) = MemOnce::new(alloc, made.blocks);
+    match Arc::new(alloc, once) {
+        Ok(once) => play_on(
+            alloc,
+            Disks { erase, once, pen },
+            made,
+            how,
+            files,
+            asked,
+            out,
+            err,
+        ),
+        Err(_) => None,
+    }
+}
+
+/// The same on disks over new files in memory, which do as their models say. None also where no disks have such sizes.
+pub fn play_in_files<R: Read, W: Write, X: Write>(
+    alloc: Global,
+    octets: u64,
+    made: &Creation<'_>,
+    how: &Loading<'_>,
+    files: &mut [FileLoad<R>],
+    asked: &Question<'_>,
+    out: &mut Output<W>,
+    err: &mut Output<X>,
+) -> Option<Played>
+    requires settings { AreSettings (settings_for made.now) }
+    ensures played { IfSome result (λ played. IsPlayed made.now how.now (string_bytes asked.now.line) (map (λ f. record { input = f.input; report = f.report }) files.old) (map (λ f. record { input = f.input; report = f.report }) files.new) played out.old out.new err.old err.new) }
+{
+    let Ok(erase) = FileErase::create_on(MemFile::new(alloc), octets) else {
+        return None;
+    };
+    let (map, blocks) = (MemFile::new(alloc), MemFile::new(alloc));
+    let Ok((once, pen)) = FileOnce::create_on(alloc, map, blocks, made.blocks) else {
+        return None;
+    };
     match Arc::new(alloc, once) {
         Ok(once) => play_on(
             alloc,

@@ -25,7 +25,7 @@ use Rattle.tsb_walk.specs.declared.page_place.PagePlace.{PagePlace}
 use Rattle.tsb_walk.specs.Knowing.{ReadsWell}
 use Rattle.tsb_walk.specs.Shown.{RepresentNodes, RepresentsShown, keys_at}
 use Rattle.route_history.specs.Blame.{BlamesNone as NodeBlamesNone}
-use Rattle.version_model.specs.Pages.{Keys, Store, RepresentsIn, TreeRepresents, all_keys}
+use Rattle.version_model.specs.Pages.{Keys, Store, NodeRepresentsIn, TreeRepresents, all_keys}
 use Rattle.version_model.specs.Versions.{Version}
 use Rattle.tree_questions.specs.Reading.{ReadsTree}
 use Rattle.disk_archive.specs.declared.archive.Archive.{Archive}
@@ -66,8 +66,8 @@ rises_applied h = rises_front h.whole h.some (all_of h) (rises_by_time time_of (
 pub at_root : (shown : List (List ℕ)) (s : Store) (all : List Version) (root level : ℕ) (place : PagePlace) → place.page ≡ root → place.level ≡ level → keys_at place ≡ all_keys → RepresentNodes shown s.nodes → TreeRepresents s all root level → RepresentsShown shown s all place
 at_root shown s all root level place page_is level_is keys_are are t = record {
   are_shown = are;
-  represents_all = subst (λ (p : ℕ). RepresentsIn s all place.level (keys_at place) p) (sym page_is)
-      (subst (λ (k : Keys). RepresentsIn s all place.level k root) (sym keys_are) (subst (λ (l : ℕ). RepresentsIn s all l all_keys root) (sym level_is) t.represents_all));
+  represents_all = subst (λ (p : ℕ). NodeRepresentsIn s all place.level (keys_at place) p) (sym page_is)
+      (subst (λ (k : Keys). NodeRepresentsIn s all place.level k root) (sym keys_are) (subst (λ (l : ℕ). NodeRepresentsIn s all l all_keys root) (sym level_is) t.represents_all));
 }
 
 -- what is settled is what a reader of the same disk knows

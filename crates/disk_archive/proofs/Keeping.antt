@@ -13,7 +13,7 @@ use Rattle.tsb_tree.specs.Shelves.{LeavesShelf, SpendsAtMost}
 use Rattle.disk_archive.specs.inner.Applications.{KeepsBlocks}
 
 pub spends_none : (most : ℕ) (o : OnceState) → SpendsAtMost most o o
-spends_none most o = record { spent = []; few = omega arith; tried = λ i not. refl; burnt = λ i not. refl }
+spends_none most o = record { spent = []; few = omega arith; tried = λ i not. refl; burnt = λ i not block is. is }
 
 -- no block was tried
 pub keeps_none : {O Pen Seen : Type 0} (device : OnceGhosts O Pen Seen) (most : ℕ) (shelf : Shelf O Pen Seen) (full : Type 0) → (full → ⊥) → KeepsBlocks device most shelf shelf full
@@ -69,7 +69,7 @@ spends_then m n a b c one two = record {
   spent = one.spent ++ two.spent;
   few = omega (arith, length-append one.spent two.spent, one.few, two.few);
   tried = λ i not. two.tried i (λ h. not (listed_right i one.spent two.spent h)) ∙ one.tried i (λ h. not (listed_left i one.spent two.spent h));
-  burnt = λ i not. two.burnt i (λ h. not (listed_right i one.spent two.spent h)) ∙ one.burnt i (λ h. not (listed_left i one.spent two.spent h));
+  burnt = λ i not block is. one.burnt i (λ h. not (listed_left i one.spent two.spent h)) block (two.burnt i (λ h. not (listed_right i one.spent two.spent h)) block is);
 }
 
 -- one call after another, of which only the second may report a full disk

@@ -5,7 +5,7 @@ use Rattle.std.proofs.lemmas.Option.{slice_get_within}
 use Rattle.disk_models.specs.Once.{OnceState, settled_in}
 use Rattle.route_meaning.specs.History.{History}
 use Rattle.version_model.specs.Versions.{Version}
-use Rattle.version_model.specs.Pages.{PageNode, Keys, Store, RepresentsIn, all_keys, ColumnNode, KeyNode, column, key_node}
+use Rattle.version_model.specs.Pages.{PageNode, Keys, Store, NodeRepresentsIn, all_keys, ColumnNode, KeyNode, column, key_node}
 use Rattle.archive_head.specs.Head.{Contents}
 use Rattle.archive_pages.specs.declared.settings.Settings.{Settings}
 use Rattle.archive_pages.specs.Represented.{HeadRepresents}
@@ -20,7 +20,7 @@ pub record IsUsed (s : Store) (page : ℕ) : Type 0 where
   pub here : s.nodes page ≡ Some node
   pub used : page < s.limit
 
-used_by : (s : Store) (all : List Version) (level : ℕ) (keys : Keys) (page : ℕ) → RepresentsIn s all level keys page → IsUsed s page
+used_by : (s : Store) (all : List Version) (level : ℕ) (keys : Keys) (page : ℕ) → NodeRepresentsIn s all level keys page → IsUsed s page
 used_by s all _ _ _ (column keys page c) = record { node = ColumnNode keys c.parts c.start c.current; here = c.at; used = c.in_limit }
 used_by s all _ _ _ (key_node level keys page children in_limit at are stand) = record { node = KeyNode (suc level) keys children; here = at; used = in_limit }
 

@@ -12,7 +12,7 @@ use Rattle.page_tx.specs.declared.pages.Pages.{Ghosts}
 use Rattle.page_tx.specs.Start.{Start}
 use Rattle.version_model.specs.Versions.{Version}
 use Rattle.version_model.specs.Blocks.{BlockNode}
-use Rattle.version_model.specs.Pages.{Keys, PageNode, Store, PartsRepresent, Represents, column, key_node, all_keys}
+use Rattle.version_model.specs.Pages.{Keys, PageNode, Store, PartsRepresent, NodeRepresents, column, key_node, all_keys}
 use Rattle.tsb_walk.specs.Shown.{RepresentNodes}
 use Rattle.tsb_tree.specs.Trees.{TreeHas, TreeRepresented}
 use Rattle.tsb_tree.specs.Inserted.{TakenIn}
@@ -33,7 +33,7 @@ module _ (nodes : ℕ → Option PageNode) (limit limit' : ℕ) (blocks : ℕ �
     stand = past.stand;
   }
 
-  stands_wider : (level : ℕ) (keys : Keys) (page : ℕ) → Represents nodes limit blocks next all level keys page → Represents nodes limit' blocks next' all level keys page
+  stands_wider : (level : ℕ) (keys : Keys) (page : ℕ) → NodeRepresents nodes limit blocks next all level keys page → NodeRepresents nodes limit' blocks next' all level keys page
   stands_wider _ _ _ (column keys page c) = column keys page (record {
     parts = c.parts;
     current = c.current;
@@ -51,7 +51,7 @@ module _ (nodes : ℕ → Option PageNode) (limit limit' : ℕ) (blocks : ℕ �
       key_node level keys page children (inside page _ in_limit at) at are (λ inner child is. stands_wider level inner child.page (stand inner child is))
 
 -- the page of a root is in use, and says something
-root_there : (nodes : ℕ → Option PageNode) (limit : ℕ) (blocks : ℕ → Option BlockNode) (next : ℕ) (all : List Version) (level : ℕ) (keys : Keys) (page : ℕ) → Represents nodes limit blocks next all level keys page → (page < limit) × (node : PageNode) × (nodes page ≡ Some node)
+root_there : (nodes : ℕ → Option PageNode) (limit : ℕ) (blocks : ℕ → Option BlockNode) (next : ℕ) (all : List Version) (level : ℕ) (keys : Keys) (page : ℕ) → NodeRepresents nodes limit blocks next all level keys page → (page < limit) × (node : PageNode) × (nodes page ≡ Some node)
 root_there nodes limit blocks next all _ _ _ (column keys page c) = (c.in_limit, _, c.at)
 root_there nodes limit blocks next all _ _ _ (key_node level keys page children in_limit at are stand) = (in_limit, _, at)
 

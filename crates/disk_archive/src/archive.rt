@@ -1,6 +1,6 @@
 //! The archive, and what it reports.
 
-ghost use Rattle.std.specs.Prelude.{◌≡◌, ◌↔◌, ◌<◌, ◌≤◌, ℕ, List, length, map, sum_by, Some, IfOk, slice_get};
+ghost use Rattle.std.specs.Prelude.{◌≡◌, ◌↔◌, ◌<◌, ◌≤◌, ℕ, List, length, map, not, sum_by, Some, IfOk, slice_get};
 ghost use Rattle.page_journal.specs.Journal.{home_pages};
 ghost use Rattle.buffer_pool.specs.Pool.{journal_of};
 ghost use Rattle.once_store.specs.Shelves.{next_of};
@@ -132,6 +132,14 @@ impl<E: EraseDisk + Drop, O: OnceDisk + Drop> Archive<E, O> {
         ensures blocks { IsHonest self.old → once_state self.new ≡ once_state self.old }
     {
         self.shelf.seen()
+    }
+
+    /// Whether its erasable disk can be used: no write and no sync of it has failed since the archive was created or opened. Where one has,
+    /// calls return `NeedsRecovery`. A burn or a settle that failed doesn't count.
+    pub fn is_usable(&self) -> bool
+        ensures usable { result ≡ not (is_down self.now) }
+    {
+        self.tx.pool().is_usable()
     }
 
     /// Returns both disks.

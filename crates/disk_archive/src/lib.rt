@@ -9,7 +9,7 @@
 //!     the head in memory is replaced                                                  that of after
 //!
 //! Nothing is burnt after the first erasable write: `commit`, by which a call changes the history, is given a transaction and no shelf.
-//! So what a crash inside a call leaves is stated with the write-once disk as it is after the call (`Crashes`). `Holds` is an
+//! So what a crash inside a call leaves is stated with the write-once disk as it is after the call (`Crashes`). `RepresentsIfHonest` is an
 //! implication, from disks that follow their models, so the same program serves disks of which nothing is promised, as files.
 //!
 //! A step of applying goes on with the next change while one image has room beside the head's: most changes set one page, or none. If

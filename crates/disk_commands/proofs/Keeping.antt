@@ -1,5 +1,6 @@
 -- What disks keep, before they are opened as an archive and after they are taken out of it.
-use Rattle.std.proofs.Common.{◌≡◌, ◌⊎◌, inl, inr, ⊎_elim, Bool, true, false, Result, Ok, Err, OnOk, is_ok, ◌∙◌, ap, refl, subst, sym}
+use Rattle.std.proofs.Common.{◌≡◌, ◌⊎◌, inl, inr, ⊎_elim, Bool, false, not, ◌∙◌, ap, refl, subst, sym}
+use Rattle.std.proofs.lemmas.Bool.{not-true}
 use Rattle.disk_models.specs.declared.erase.EraseDisk.{Ghosts as EraseGhosts}
 use Rattle.disk_models.specs.declared.once.OnceDisk.{Ghosts as OnceGhosts}
 use Rattle.disk_models.specs.Once.{settled_in}
@@ -19,11 +20,6 @@ use Rattle.disk_archive.specs.Trees.{TreeLocated}
 use Rattle.disk_archive.proofs.api.Trees.{tree_grows}
 use Rattle.disk_commands.specs.declared.disks.Disks.{Disks}
 use Rattle.disk_commands.specs.Disks.{FollowModels, Keep, Leave, Represent}
-
--- what is so after a success
-on_ok : {R X : Type 0} (r : Result R X) (P : Type 0) → is_ok r ≡ true → OnOk r P → P
-on_ok (Ok x) P is p = p
-on_ok (Err e) P is p = absurd (cc)
 
 -- an archive goes on with a history only on disks that follow their models
 honest_of : {E O Pen Seen : Type 0} {erase : EraseGhosts E} {once : OnceGhosts O Pen Seen} (a : Archive E O Pen Seen erase once) (h : History) → GoesOn a h → IsHonest a
@@ -94,12 +90,12 @@ represent_given {erase = erase} {once = once} a d h is_erase is_once is_pen repr
       refl,
     )
 
--- what an archive leaves once both disks are taken out of it, if it took a batch before
-pub leave_given : {E O Pen Seen R X : Type 0} {erase : EraseGhosts E} {once : OnceGhosts O Pen Seen} (a : Archive E O Pen Seen erase once) (d : Disks E O Pen Seen) (taken : Result R X) (is_read : Bool) (h : History) → d.erase ≡ erase_of a → d.once.value ≡ once_of a → d.pen ≡ pen_in a
-    → OnOk taken (is_down a ≡ false) → is_read ≡ is_ok taken → GoesOn a h → Leave erase once d is_read h
-leave_given a d taken is_read h is_erase is_once is_pen up is goes = record {
+-- what an archive leaves once both disks are taken out of it, if it is known whether it was usable
+pub leave_given : {E O Pen Seen : Type 0} {erase : EraseGhosts E} {once : OnceGhosts O Pen Seen} (a : Archive E O Pen Seen erase once) (d : Disks E O Pen Seen) (is_read : Bool) (h : History) → d.erase ≡ erase_of a → d.once.value ≡ once_of a → d.pen ≡ pen_in a → is_read ≡ not (is_down a) → GoesOn a h
+    → Leave erase once d is_read h
+leave_given a d is_read h is_erase is_once is_pen usable goes = record {
   keep = keep_given a d h is_erase is_once is_pen goes;
-  read = λ read. (represent_given a d h is_erase is_once is_pen (represents_up a h (on_ok taken (is_down a ≡ false) (sym is ∙ read) up) goes)).0;
+  read = λ read. (represent_given a d h is_erase is_once is_pen (represents_up a h (not-true (is_down a) (sym usable ∙ read)) goes)).0;
 }
 
 -- disks that keep a history read as one that it begins

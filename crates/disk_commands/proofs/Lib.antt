@@ -1,2 +1,4 @@
 mod Keeping
+mod Loads
+mod Outcomes
 pub mod api

@@ -7,13 +7,35 @@ ghost use Rattle.disk_archive.specs.Openings.{IsFaultOrMemory};
 ghost use Rattle.disk_commands.specs.Disks.{Keep, Leave, Represent};
 ghost use Rattle.service.specs.Running.{IsArchiveChecked};
 
+use crate::command::Command;
 use crate::disks::{Disks, Ended};
-use crate::opening::{Unopened, close_disks, open_disks};
+use crate::running::run_on;
+use archive_calls::RouteArchive;
 use disk_archive::OpenError;
+use disk_calls::NoReasons;
 use disk_models::{EraseDisk, OnceDisk};
 use service::{Output, check_archive};
 use std::alloc::Global;
 use std::io::Write;
+
+/// All that is kept is read.
+#[derive(Drop)]
+struct CheckAll<'o, 'e, W: Write, X: Write> {
+    out: &'o mut Output<W>,
+    err: &'e mut Output<X>,
+}
+
+impl<A: RouteArchive, W: Write, X: Write> Command<A> for CheckAll<'_, '_, W, X> {
+    ghost always = { λ was now status. (was.out.ghost_name ≡ now.out.ghost_name) × (was.err.ghost_name ≡ now.err.ghost_name) };
+
+    ghost does = { λ was now most h g status. IsArchiveChecked h status was.out.now now.out.now was.err.now now.err.now × (g ≡ h) };
+
+    fn run(&mut self, alloc: Global, archive: A) -> (A, u8) {
+        let mut archive = archive;
+        let status = check_archive(alloc, &mut archive, self.out, self.err);
+        (archive, status)
+    }
+}
 
 /// Checks the archive on both disks, and writes out what is buffered. The exit status is that of the check, and 1 if not all could be
 /// written. Disks that read as an archive are refused only if a device fails or memory runs out.
@@ -29,21 +51,6 @@ pub fn check_on<E: EraseDisk + Drop, O: OnceDisk + Drop, W: Write, X: Write>(
     ensures idle { IfErr result.outcome (λ why. (out.new ≡ out.old) × (err.new ≡ err.old)) }
     ensures kept { (h : History) → Keep E.EraseDisk O.OnceDisk disks h → Keep E.EraseDisk O.OnceDisk result.disks h }
 {
-    match open_disks(alloc, disks) {
-        Ok(archive) => {
-            let mut archive = archive;
-            let status = check_archive(alloc, &mut archive, out, err);
-            let (disks, is_read) = close_disks(archive.into_archive());
-            Ended {
-                outcome: Ok(status),
-                disks,
-                is_read,
-            }
-        }
-        Err(Unopened { why, disks }) => Ended {
-            outcome: Err(why),
-            disks,
-            is_read: false,
-        },
-    }
+    let mut command = CheckAll { out, err };
+    run_on(alloc, disks, NoReasons, &mut command)
 }

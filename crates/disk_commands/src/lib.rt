@@ -1,12 +1,15 @@
 //! The commands of the program on any two disks: from disks to disks, with the lines that they write and their status.
 //!
-//!     disks --> Archive --> DiskArchive --> service: what is asked, checked or loaded --> DiskArchive --> disks
+//!     disks --> Archive --> DiskArchive --> Command --> DiskArchive --> disks
 //!
-//! A command opens the archive on two disks, or makes it, does what it is asked for by `service`, which knows an archive by the trait
-//! `RouteArchive` alone, and returns both disks. So its contract speaks of disks and not of an archive in memory: if both follow their
-//! models and read as an archive that represents a history (`Represent`), the lines and the status are those of that history, and what the
-//! disks keep afterwards is the history that the command left (`Keep`). Both are premises that a caller can meet: `create_on` gives them, each
-//! command gives `Keep` on, and disks that keep a history read as one that it begins (`laws`).
+//! `run_on` opens the archive on two disks, runs a command over it, and returns both disks. The command is any type with the trait
+//! `Command`: it knows an archive by the trait `RouteArchive`, and says by its ghost member `does` what it makes of the history before.
+//! `ask_on`, `check_on` and `load_on` are `run_on` with the functions of `service`; `create_on` makes an archive.
+//!
+//! So a contract speaks of disks and not of an archive in memory: if both follow their models and read as an archive that represents a
+//! history (`Represent`), the command did what it says to that history, and what the disks keep afterwards is the history that it left
+//! (`Keep`). Both are premises that a caller can meet: `create_on` gives them, each command gives `Keep` on, and disks that keep a history
+//! read as one that it begins (`laws`).
 //!
 //! `Keep` is what outlasts a crash: whatever both disks read as, or a crash may leave of them now, represents a history that begins with
 //! this one. After a failed write a device may read as the history before the call or after it, so a command says what is kept, and the next
@@ -14,19 +17,43 @@
 //!
 //! If the disks aren't opened or the archive isn't made, nothing is written, and the reason is returned: the caller prints it, since
 //! only it knows what the disks are.
+//!
+//! A program opens its disks, makes a command of its own, and calls `run_on` with it and with what knows why its disks fail (`Reasons`). What
+//! it does round a call of `service` stands in `run`: it wraps the archive to count its calls, reads of it what an advice needs, or
+//! writes lines in a form of its own. The command has its files and writers, so what became of them is there when `run_on` returns:
+//!
+//!     struct Load<'a, R, W> { asked: &'a Loading<'a>, files: Vec<FileLoad<R>>, meter: &'a Meter<'a>, out: Output<W>, .. }
+//!
+//!     impl<A: RouteArchive + Applied, ..> Command<A> for Load<'_, R, W> {
+//!         ghost does = { λ was now most h g status. AreFilesLoaded was.asked.now most h .. status (λ left. left ≡ g) .. };
+//!
+//!         fn run(&mut self, alloc: Global, archive: A) -> (A, u8) {
+//!             let mut archive = WatchedArchive::new(archive, self.meter);
+//!             let status = load_files(alloc, &mut archive, self.asked, self.files.as_mut_slice(), &mut self.out, ..);
+//!             (archive.into_archive(), status)
+//!         }
+//!     }
+//!
+//!     let ended = run_on(alloc, Disks { erase, once, pen }, FileReasons { failures }, &mut command);
+//!
+//! The type of the archive is a parameter of the trait, so a command asks of it what it needs besides `RouteArchive`.
 #![tactic(auto)]
 
 mod asking;
 mod checking;
+mod command;
 mod creating;
 mod disks;
 mod laws;
 mod loading;
 mod opening;
+mod running;
 
 pub use asking::ask_on;
 pub use checking::check_on;
+pub use command::Command;
 pub use creating::create_on;
 pub use disks::{Disks, Ended};
 pub use laws::kept_is_read;
 pub use loading::load_on;
+pub use running::run_on;

@@ -8,13 +8,45 @@ ghost use Rattle.disk_calls.specs.Represented.{limit_for};
 ghost use Rattle.disk_commands.specs.Disks.{Keep, Leave, Represent};
 ghost use Rattle.service.specs.Running.{AreFilesLoaded};
 
+use crate::command::Command;
 use crate::disks::{Disks, Ended};
-use crate::opening::{Unopened, close_disks, open_disks};
+use crate::running::run_on;
+use archive_calls::RouteArchive;
 use disk_archive::OpenError;
+use disk_calls::NoReasons;
 use disk_models::{EraseDisk, OnceDisk};
 use service::{FileLoad, Loading, Output, load_files};
 use std::alloc::Global;
 use std::io::{Read, Write};
+
+/// Files that are loaded, one after another.
+#[derive(Drop)]
+struct LoadFiles<'l, 't, 'f, 'o, 'e, R: Read, W: Write, X: Write> {
+    asked: &'l Loading<'t>,
+    files: &'f mut [FileLoad<R>],
+    out: &'o mut Output<W>,
+    err: &'e mut Output<X>,
+}
+
+impl<A: RouteArchive, R: Read, W: Write, X: Write> Command<A>
+    for LoadFiles<'_, '_, '_, '_, '_, R, W, X> {
+    ghost always = { λ was now status. (was.files.ghost_name ≡ now.files.ghost_name) × (was.out.ghost_name ≡ now.out.ghost_name) × (was.err.ghost_name ≡ now.err.ghost_name) × (status ≡ 0 → map (λ f. f.input.failed) now.files.now ≡ map (λ f. f.input.failed) was.files.now) };
+
+    ghost does = { λ was now most h g status. AreFilesLoaded was.asked.now most h (map (λ f. record { input = f.input; report = f.report }) was.files.now) (map (λ f. record { input = f.input; report = f.report }) now.files.now) status (λ left. left ≡ g) was.out.now now.out.now was.err.now now.err.now };
+
+    fn run(&mut self, alloc: Global, archive: A) -> (A, u8) {
+        let mut archive = archive;
+        let status = load_files(
+            alloc,
+            &mut archive,
+            self.asked,
+            self.files,
+            self.out,
+            self.err,
+        );
+        (archive, status)
+    }
+}
 
 /// Loads the files as they are asked for into the archive on both disks, and writes out what is buffered. The exit status is that of the load,
 /// and 1 if not all lines could be written. Disks that read as an archive are refused only if a device fails or memory runs out.
@@ -33,21 +65,11 @@ pub fn load_on<E: EraseDisk + Drop, O: OnceDisk + Drop, R: Read, W: Write, X: Wr
     ensures idle { IfErr result.outcome (λ why. (files.new ≡ files.old) × (out.new ≡ out.old) × (err.new ≡ err.old)) }
     ensures kept { IfErr result.outcome (λ why. (h : History) → Keep E.EraseDisk O.OnceDisk disks h → Keep E.EraseDisk O.OnceDisk result.disks h) }
 {
-    match open_disks(alloc, disks) {
-        Ok(archive) => {
-            let mut archive = archive;
-            let status = load_files(alloc, &mut archive, asked, files, out, err);
-            let (disks, is_read) = close_disks(archive.into_archive());
-            Ended {
-                outcome: Ok(status),
-                disks,
-                is_read,
-            }
-        }
-        Err(Unopened { why, disks }) => Ended {
-            outcome: Err(why),
-            disks,
-            is_read: false,
-        },
-    }
+    let mut command = LoadFiles {
+        asked,
+        files,
+        out,
+        err,
+    };
+    run_on(alloc, disks, NoReasons, &mut command)
 }

@@ -10,7 +10,7 @@ ghost use Rattle.disk_commands.specs.Disks.{Keep, Leave, Represent};
 
 use crate::disks::Disks;
 use disk_archive::{Archive, OpenError, Refused};
-use disk_calls::{DiskArchive, NoReasons};
+use disk_calls::{DiskArchive, Reasons};
 use disk_models::{EraseDisk, OnceDisk};
 use std::alloc::Global;
 
@@ -21,18 +21,19 @@ pub(crate) struct Unopened<E, O: OnceDisk + Drop> {
     pub(crate) disks: Disks<E, O>,
 }
 
-/// Opens both disks as an archive for one command.
-pub(crate) fn open_disks<E: EraseDisk + Drop, O: OnceDisk + Drop>(
+/// Opens both disks as an archive for one command. `reasons` knows why calls on them fail.
+pub(crate) fn open_disks<E: EraseDisk + Drop, O: OnceDisk + Drop, R: Reasons + Drop>(
     alloc: Global,
     disks: Disks<E, O>,
-) -> Result<DiskArchive<E, O>, Unopened<E, O>>
+    reasons: R,
+) -> Result<DiskArchive<E, O, R>, Unopened<E, O>>
     ensures represents { IfOk result (λ archive. (h : History) (r : Represent E.EraseDisk O.OnceDisk disks h) → GoesOnWith archive h × (site_in archive ≡ r.site)) }
     ensures why { IfErr result (λ unopened. (h : History) (r : Represent E.EraseDisk O.OnceDisk disks h) → home_place r.site.homes ≤ E.octet_count disks.erase → IsFaultOrMemory unopened.why) }
     ensures kept { IfErr result (λ unopened. (h : History) → Keep E.EraseDisk O.OnceDisk disks h → Keep E.EraseDisk O.OnceDisk unopened.disks h) }
 {
     let Disks { erase, once, pen } = disks;
     match Archive::open(alloc, erase, once, pen) {
-        Ok(archive) => Ok(DiskArchive::new(archive, NoReasons)),
+        Ok(archive) => Ok(DiskArchive::new(archive, reasons)),
         Err(
             Refused {
                 erase,
@@ -47,8 +48,7 @@ pub(crate) fn open_disks<E: EraseDisk + Drop, O: OnceDisk + Drop>(
     }
 }
 
-/// Takes both disks out of the archive. They read as the history with which it went on, unless it had to be opened again: then not even a batch
-/// without a record is taken.
+/// Takes both disks out of the archive. They read as the history with which it went on, unless it had to be opened again.
 pub(crate) fn close_disks<E: EraseDisk + Drop, O: OnceDisk + Drop>(
     archive: Archive<E, O>,
 ) -> (Disks<E, O>, bool)
@@ -57,8 +57,7 @@ pub(crate) fn close_disks<E: EraseDisk + Drop, O: OnceDisk + Drop>(
     ensures disk { result.0.once.value ≡ once_of archive }
     ensures erase { result.0.erase ≡ erase_of archive }
 {
-    let mut archive = archive;
-    let is_read = archive.admit(0, &[]).is_ok();
+    let is_read = archive.is_usable();
     let (erase, once, pen) = archive.into_disks();
     (Disks { erase, once, pen }, is_read)
 }

@@ -45,6 +45,7 @@ file_stays_none file f = record { follows = (λ h. h, λ h. h); size = λ h. ref
 pub seen_stays_none : {F : Type 0} (file : Ghosts F) (seen : FileSeen F) → SeenStays file seen seen
 seen_stays_none file seen = record {
   identity = refl;
+  unsettled = refl;
   follows_map = (λ h. h, λ h. h);
   follows = (λ h. h, λ h. h);
   map = λ h. stays_none (file.model (seen_map_of seen));

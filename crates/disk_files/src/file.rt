@@ -110,10 +110,13 @@ pub trait OctetFile {
         ensures lingers { follows self.old → Lingers (model self.old) (model self.new) }
         ensures nothing_settled { follows self.old → OnErr result ((i : ℕ) → (model self.old).unsynced i → (model self.new).unsynced i) };
 
-    /// The same file, opened once more for a reader.
+    /// The same file, opened once more for a reader, which reads it as it is on the device now. A handle of the system's shows what is
+    /// written later, too: of a write-once disk these are later marks and burns, and never a block that is marked now.
     fn twin(&self) -> io::Result<Self>
     where
-        Self: Sized;
+        Self: Sized,
+        ensures follows { follows self.now → IfOk result (λ twin. follows twin) }
+        ensures octets { follows self.now → IfOk result (λ twin. (i : ℕ) → ¬ (model self.now).unsynced i → (model twin).octet i ≡ (model self.now).octet i) };
 
     /// Notes why a disk over it fails, for whoever asks later. By itself a file keeps nothing.
     fn note(&self, _call: Call, _reason: Reason) {}

@@ -139,7 +139,7 @@ module _ (settled old new_settled new : List Burning) (moved : new_settled ≡ s
   pub settle_only : SettlesOnly (once_state_of settled old) (once_state_of new_settled new)
   settle_only = record {
     tried = λ i. λ n. ap (λ (l : List Burning). is_some (tried_block_in n l)) all_moved i;
-    burnt = λ i. λ n. ap (λ (l : List Burning). burnt_in n l) all_moved i;
+    burnt = λ n block is. ap (λ (l : List Burning). burnt_in n l) (sym all_moved) ∙ is;
     settled = λ n block is. ap (λ (l : List Burning). burnt_in n l) moved ∙ burnt_still settled old n block is;
   }
 
@@ -187,7 +187,7 @@ pub settle_same : (settled old new_settled new : List Burning) → new_settled �
 settle_same settled old new_settled new same none =
     subst (λ (s : List Burning). SettlesOnly (once_state_of settled old) (once_state_of s new)) (sym same)
     (subst (λ (l : List Burning). SettlesOnly (once_state_of settled old) (once_state_of settled l)) (sym none)
-    (record { tried = refl; burnt = refl; settled = λ n block is. is }))
+    (record { tried = refl; burnt = λ n block is. is; settled = λ n block is. is }))
 
 -- what a burn that was to fail left
 pub kept_failed : (n : ℕ) (block : List ℕ) (failure : Option (Bor Torn)) (fails : Bool) (old new : List Burning) → fails ≡ is_some failure → fails ≡ true

@@ -4,7 +4,6 @@ use Rattle.disk_files.specs.declared.blocks.FileOnce.{FileOnce}
 use Rattle.disk_files.specs.declared.pages.FileErase.{FileErase}
 use Rattle.disk_files.specs.declared.file.Access.{Access}
 use Rattle.disk_files.specs.declared.noting.NotedFile.{NotedFile}
-use Rattle.disk_files.specs.declared.pen.FilePen.{FilePen}
 use Rattle.disk_files.specs.Blocks.{count_of, identity_of}
 use Rattle.disk_files.specs.Pages.{IsFresh, access_of, size_of}
 use Rattle.disk_files.specs.Pens.{IsFreshPen, pen_access, pen_identity}
@@ -19,19 +18,15 @@ erase_in disks = disks.erase
 abbrev pub once_in : FileDisks → FileOnce NotedFile
 once_in disks = disks.once.value
 
--- its pen
-abbrev pub pen_in : FileDisks → FilePen NotedFile
-pen_in disks = disks.pen
-
 -- They have sizes that such disks can have, the pen is the write-once disk's, and nothing has failed yet.
 pub record AreDisks (disks : FileDisks) : Type 0 where
   pub pages : ArePages (size_of (erase_in disks))
   pub blocks : AreBlocks (count_of (once_in disks))
-  pub own : pen_identity (pen_in disks) ≡ identity_of (once_in disks)
+  pub own : pen_identity disks.pen ≡ identity_of (once_in disks)
   pub fresh : IsFresh (erase_in disks)
-  pub fresh_pen : IsFreshPen (pen_in disks)
+  pub fresh_pen : IsFreshPen disks.pen
 
 -- the files of both are held so
 pub record AreHeld (access : Access) (disks : FileDisks) : Type 0 where
   pub pages : access_of (erase_in disks) ≡ access
-  pub blocks : pen_access (pen_in disks) ≡ access
+  pub blocks : pen_access disks.pen ≡ access

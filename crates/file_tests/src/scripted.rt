@@ -193,7 +193,7 @@ struct Burner {
 fn burner_of(alloc: Global, map: Wrong, blocks: Wrong) -> Option<Burner> {
     let map = SlowFile::new(alloc, 99, map);
     let blocks = SlowFile::new(alloc, 99, blocks);
-    let (disk, pen) = FileOnce::create_on(map, blocks, 2).ok()?;
+    let (disk, pen) = FileOnce::create_on(alloc, map, blocks, 2).ok()?;
     let block = Block::new(alloc).ok()?;
     if disk.blocks() != 2 {
         return None;

@@ -1,5 +1,5 @@
 -- The terms of contracts on a shelf, and what its calls do to the write-once disk.
-use Rattle.std.specs.Prelude.{ℕ, suc, ◌≡◌, ◌≢◌, ◌<◌, ◌≤◌, ◌⊎◌, true, false, Result, Ok, Err}
+use Rattle.std.specs.Prelude.{ℕ, List, Some, suc, ◌≡◌, ◌≢◌, ◌<◌, ◌≤◌, ◌⊎◌, true, false, Result, Ok, Err}
 use Rattle.disk_models.specs.Once.{OnceState}
 use Rattle.once_store.specs.declared.refused.Refused.{Refused}
 use Rattle.once_store.specs.declared.shelf.Shelf.{Shelf}
@@ -41,12 +41,12 @@ pub record IsFirstBlank (o : OnceState) (count from n : ℕ) : Type 0 where
   pub blank : n < count → o.tried n ≡ false
 
 -- At most one block became tried or burnt, the last one below `to`, if `to` has moved past it; all before it from
--- `from` on were tried.
+-- `from` on were tried. What was burnt and isn't settled may be lost.
 pub record Spends (from to : ℕ) (old new : OnceState) : Type 0 where
   pub forward : from ≤ to
   pub passed : (i : ℕ) → from ≤ i → suc i < to → old.tried i ≡ true
   pub tried : (i : ℕ) → (i < from) ⊎ (suc i ≢ to) → new.tried i ≡ old.tried i
-  pub burnt : (i : ℕ) → (i < from) ⊎ (suc i ≢ to) → new.burnt i ≡ old.burnt i
+  pub burnt : (i : ℕ) → (i < from) ⊎ (suc i ≢ to) → (block : List ℕ) → new.burnt i ≡ Some block → old.burnt i ≡ Some block
 
 -- The next number has moved over tried blocks alone, and the disk is as it was.
 pub record HasPassed (from to : ℕ) (old new : OnceState) : Type 0 where

@@ -2,117 +2,51 @@
 
 ghost use Rattle.route_meaning.specs.History.{History};
 
+use crate::candidates::places_between;
+use crate::changes::Span;
 use crate::cursor::Cursor;
-use crate::ending::{end_lines, of_memory};
+use crate::differences::{Differences, order_of};
+use crate::ending::end_lines;
+use crate::pages::row_at;
 use crate::reading::Comparison;
 use crate::scope::Scope;
 use archive_calls::{AskError, RouteSource, Trouble};
-use route_meaning::{Row, Spot};
-use route_text::write_route;
-use service::{Output, Status, write_place};
-use std::alloc::{AllocError, Global};
+use route_meaning::Spot;
+use route_model::Moment;
+use service::{Output, Status};
+use std::alloc::Global;
 use std::cmp::Ordering;
 use std::io::Write;
 
-/// Writes a sign, the place of the row and the fields of its route.
-fn write_side(out: &mut String, sign: char, row: &Row) -> Result<(), AllocError> {
-    out.push(sign)?;
-    out.push('|')?;
-    write_place(out, &row.peer, &row.prefix)?;
-    out.push('|')?;
-    write_route(out, row.route.route())
+/// How many seconds at most may lie between two tables if only the places that changed are asked for. In a longer span a few prefixes may
+/// have changed more often than both tables have rows.
+const SHORT: u64 = 3_600;
+
+/// Which prefixes are compared, or all if there is none.
+fn scope_of(asked: &Comparison) -> Option<Scope> {
+    asked.within.map(Scope::More)
 }
 
-/// Writes the line of a place that has a route at one moment alone.
-fn write_one(out: &mut String, sign: char, row: &Row) -> Result<(), AllocError> {
-    write_side(out, sign, row)?;
-    out.push('\n')
-}
-
-/// Writes the line of a place whose routes aren't the same.
-fn write_two(out: &mut String, first: &Row, second: &Row) -> Result<(), AllocError> {
-    write_side(out, '~', first)?;
-    out.push('|')?;
-    write_route(out, second.route.route())?;
-    out.push('\n')
-}
-
-/// Where the first row stands beside the second one; a side without a row is after all rows.
-fn order_of(first: &Option<Row>, second: &Option<Row>) -> Ordering {
-    match (first, second) {
-        (Some(first), Some(second)) => {
-            let spot = Spot {
-                peer: first.peer,
-                prefix: first.prefix,
-            };
-            spot.cmp(&Spot {
-                peer: second.peer,
-                prefix: second.prefix,
-            })
-        }
-        (Some(_), None) => Ordering::Less,
-        (None, Some(_)) => Ordering::Greater,
-        (None, None) => Ordering::Equal,
-    }
-}
-
-/// Writes the line of two rows of one place, if their routes aren't the same: whether it did.
-fn write_change(out: &mut String, first: &Row, second: &Row) -> Result<bool, AllocError> {
-    if first.route.encoding() == second.route.encoding() {
-        return Ok(false);
-    }
-    write_two(out, first, second)?;
-    Ok(true)
-}
-
-/// Writes the line of the rows at the next place, if they differ there: whether it did.
-fn write_next(
-    out: &mut String,
-    order: Ordering,
-    first: &Option<Row>,
-    second: &Option<Row>,
-) -> Result<bool, AllocError> {
-    match (order, first, second) {
-        (Ordering::Less, Some(first), _) => {
-            write_one(out, '-', first)?;
-            Ok(true)
-        }
-        (Ordering::Greater, _, Some(second)) => {
-            write_one(out, '+', second)?;
-            Ok(true)
-        }
-        (_, Some(first), Some(second)) => write_change(out, first, second),
-        _ => Ok(false),
-    }
-}
-
-/// Writes a line for each place where the tables differ: how many there are. Once a write failed no more rows are asked for.
-fn write_lines<A: RouteSource, W: Write>(
+/// Writes a line for each place where the tables differ, which are read side by side. Once a write failed no more rows are asked for.
+fn write_tables<A: RouteSource, W: Write>(
     alloc: Global,
     archive: &mut A,
-    old: &mut Cursor,
-    new: &mut Cursor,
+    asked: &Comparison,
+    lines: &mut Differences,
     out: &mut Output<W>,
-) -> Result<u64, AskError>
+) -> Result<(), AskError>
     ensures kept { (h : History) → A.represents archive.old h → A.represents archive.new h }
 {
+    let mut old = Cursor::new(alloc, asked.from, scope_of(asked));
+    let mut new = Cursor::new(alloc, asked.to, scope_of(asked));
     let mut first = old.take(archive)?;
     let mut second = new.take(archive)?;
-    let mut text = String::new(alloc);
-    let mut count = 0u64;
     'places: for _ in 0..u64::MAX {
         if out.has_failed() || (first.is_none() && second.is_none()) {
-            return Ok(count);
+            return Ok(());
         }
         let order = order_of(&first, &second);
-        text.clear();
-        if of_memory(write_next(&mut text, order, &first, &second))? {
-            out.text(text.as_str());
-            let Some(sum) = count.checked_add(1) else {
-                return Err(AskError::Trouble(Trouble::CounterFull));
-            };
-            count = sum;
-        }
+        lines.write(order, &first, &second, out)?;
         if order != Ordering::Greater {
             first = old.take(archive)?;
         }
@@ -123,9 +57,72 @@ fn write_lines<A: RouteSource, W: Write>(
     Err(AskError::Trouble(Trouble::CounterFull))
 }
 
-/// Which prefixes are compared, or all if there is none.
-fn scope_of(asked: &Comparison) -> Option<Scope> {
-    asked.within.map(Scope::More)
+/// What happened between the two moments, if they are near to one another.
+fn short_span(asked: &Comparison) -> Option<Span> {
+    let (from, to) = (asked.from.seconds(), asked.to.seconds());
+    let length = to.checked_sub(from)?;
+    if length == 0 || SHORT < length {
+        return None;
+    }
+    Some(Span {
+        from: Moment::new(from.checked_add(1)?)?,
+        to: asked.to,
+    })
+}
+
+/// Writes a line for each of the places where the tables differ. Once a write failed no more rows are asked for.
+fn write_places<A: RouteSource, W: Write>(
+    archive: &mut A,
+    asked: &Comparison,
+    places: &[Spot],
+    lines: &mut Differences,
+    out: &mut Output<W>,
+) -> Result<(), AskError>
+    ensures kept { (h : History) → A.represents archive.old h → A.represents archive.new h }
+{
+    let mut last = None;
+    for place in places {
+        if out.has_failed() {
+            return Ok(());
+        }
+        if last != Some(*place) {
+            let first = row_at(archive, asked.from, place)?;
+            let second = row_at(archive, asked.to, place)?;
+            lines.write(order_of(&first, &second), &first, &second, out)?;
+            last = Some(*place);
+        }
+    }
+    Ok(())
+}
+
+/// The places where the tables may differ, if the moments are near to one another and few places changed.
+fn few_places<A: RouteSource>(
+    alloc: Global,
+    archive: &mut A,
+    asked: &Comparison,
+) -> Result<Option<Vec<Spot>>, AskError>
+    ensures kept { (h : History) → A.represents archive.old h → A.represents archive.new h }
+{
+    match short_span(asked) {
+        Some(span) => places_between(alloc, archive, asked.from, &span, &asked.within),
+        None => Ok(None),
+    }
+}
+
+/// Writes a line for each place where the tables differ.
+fn write_lines<A: RouteSource, W: Write>(
+    alloc: Global,
+    archive: &mut A,
+    asked: &Comparison,
+    lines: &mut Differences,
+    out: &mut Output<W>,
+) -> Result<(), AskError>
+    ensures kept { (h : History) → A.represents archive.old h → A.represents archive.new h }
+{
+    match few_places(alloc, archive, asked)? {
+        Some(places) => write_places(archive, asked, &places, lines, out),
+        None => write_tables(alloc, archive, asked, lines, out),
+    }
 }
 
 /// Writes the line of each place where the tables of two moments differ, of all prefixes or of those inside one, and then `E|LINES`; a
@@ -139,9 +136,11 @@ pub(crate) fn write_differences<A: RouteSource, W: Write, E: Write>(
 ) -> (u64, Status)
     ensures kept { (h : History) → A.represents archive.old h → A.represents archive.new h }
 {
-    let mut old = Cursor::new(alloc, asked.from, scope_of(asked));
-    let mut new = Cursor::new(alloc, asked.to, scope_of(asked));
-    let ended = write_lines(alloc, archive, &mut old, &mut new, out);
+    let mut lines = Differences::new(alloc);
+    let ended = match write_lines(alloc, archive, asked, &mut lines, out) {
+        Ok(()) => Ok(lines.count()),
+        Err(why) => Err(why),
+    };
     let count = match ended {
         Ok(count) => count,
         Err(_) => 0,

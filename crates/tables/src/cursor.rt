@@ -6,7 +6,7 @@ use crate::pages::{question_after, rows_page};
 use crate::scope::Scope;
 use archive_calls::{AskError, RouteSource, Trouble};
 use route_meaning::{Row, RowsAnswer, RowsQuestion, Select};
-use route_model::Moment;
+use route_model::{Moment, Peer};
 use std::alloc::Global;
 
 /// All rows of a moment that weren't taken yet, or those of some prefixes.
@@ -27,6 +27,21 @@ impl Cursor {
             Some(scope) => scope.select(),
             None => Select::All,
         };
+        Cursor::over(alloc, moment, select, scope)
+    }
+
+    /// A cursor before the peer's first row.
+    pub(crate) fn of_peer(
+        alloc: Global,
+        moment: Moment,
+        peer: Peer,
+        scope: Option<Scope>,
+    ) -> Cursor {
+        Cursor::over(alloc, moment, Select::PeerTable(peer), scope)
+    }
+
+    /// A cursor before the first row of these.
+    fn over(alloc: Global, moment: Moment, select: Select, scope: Option<Scope>) -> Cursor {
         Cursor {
             question: Some(RowsQuestion {
                 moment,

@@ -2,13 +2,13 @@
 
 ghost use Rattle.route_meaning.specs.History.{History};
 
-use crate::changes::{Held, Span, changed_spots, held_before};
+use crate::changes::{Held, Span, changed_spots, events_of, held_before, held_of_ended};
 use crate::ending::of_memory;
 use crate::matching::Numbers;
 use crate::pages::events_page;
 use crate::scope::Scope;
 use archive_calls::{AskError, RouteSource, Trouble};
-use route_meaning::{Event, EventsQuestion, Spot};
+use route_meaning::{Event, Spot};
 use route_model::{Change, Moment, Peer, SharedRoute};
 use std::alloc::{AllocError, Global};
 
@@ -32,17 +32,6 @@ impl Found {
             time: self.event.time,
             spot: self.spot,
         }
-    }
-}
-
-/// The question of a spot's events in a span, without this many.
-fn question_of(span: &Span, spot: &Spot, skip: u64) -> EventsQuestion {
-    EventsQuestion {
-        from: span.from,
-        to: span.to,
-        peer: spot.peer,
-        prefix: spot.prefix,
-        skip,
     }
 }
 
@@ -103,7 +92,7 @@ fn find_at<A: RouteSource>(
     let mut held = held;
     let mut skip = 0u64;
     'pages: for _ in 0..u64::MAX {
-        let answer = events_page(archive, question_of(span, spot, skip))?;
+        let answer = events_page(archive, events_of(span, spot, skip))?;
         let Some(skipped) = skip.checked_add(answer.events.len() as u64) else {
             return Err(AskError::Trouble(Trouble::CounterFull));
         };
@@ -143,7 +132,7 @@ fn first_end<A: RouteSource>(
 ) -> Result<Option<Moment>, AskError>
     ensures kept { (h : History) → A.represents archive.old h → A.represents archive.new h }
 {
-    let answer = events_page(archive, question_of(span, spot, 0))?;
+    let answer = events_page(archive, events_of(span, spot, 0))?;
     match answer.events.first() {
         Some(event) => Ok(Some(event.time)),
         None => Ok(None),
@@ -213,6 +202,23 @@ fn find_ended<A: RouteSource>(
     Ok(())
 }
 
+/// The routes that held before the span, as far as what is found depends on them: all if AS numbers are asked for, and else those that the end
+/// of a session ended. Of a prefix alone and of those that contain it all are few.
+fn held_for<A: RouteSource>(
+    alloc: Global,
+    archive: &mut A,
+    span: &Span,
+    scope: &Scope,
+    numbers: &Numbers,
+) -> Result<Held, AskError>
+    ensures kept { (h : History) → A.represents archive.old h → A.represents archive.new h }
+{
+    match scope {
+        Scope::More(_) if numbers.are_any() => held_of_ended(alloc, archive, span, scope),
+        _ => held_before(alloc, archive, span.from, *scope),
+    }
+}
+
 /// What happened to the prefixes that are asked for, in the order of time; in one second by place, and at one place as it happened.
 pub(crate) fn find_all<A: RouteSource>(
     alloc: Global,
@@ -228,7 +234,7 @@ pub(crate) fn find_all<A: RouteSource>(
     if span.to < span.from {
         return Ok(found);
     }
-    let mut held = held_before(alloc, archive, span.from, *scope)?;
+    let mut held = held_for(alloc, archive, span, scope, numbers)?;
     find_changed(archive, span, &spots, &mut held, numbers, &mut found)?;
     find_ended(archive, span, held, numbers, &mut found)?;
     of_memory(found.sort_by_key(|one| one.place()))?;

@@ -13,14 +13,17 @@
 //!
 //! Rows come in the order of peers, and of prefixes for each peer. So `peers` needs one count at a time, and `diff` goes through two tables
 //! side by side (`cursor`, `comparing`): the lesser place has a route at one moment alone, `-` for the first and `+` for the second; at the
-//! same place two routes differ, `~`, if their encodings do. Of the prefixes inside one, rows are asked for among those of all prefixes: where
-//! a page ends before or past them, the next question begins where they do, or after the peer's last prefix (`scope`).
+//! same place two routes differ, `~`, if their encodings do. Where the second moment is at most an hour after the first, and few
+//! places changed, it asks for these alone, and for those of peers whose session ended (`candidates`, `sessions`). Of the prefixes inside
+//! one, rows are asked for among those of all prefixes: where a page ends before or past them, the next question begins where they do, or
+//! after the peer's last prefix (`scope`).
 //!
 //! `find --since` asks which places changed, page after page (`changes`), and then for the events of each (`finding`). Which route holds at
 //! a place is known from the moment before the span on: so the end of a session is shown where it ends a route, and an event is chosen
 //! by the route that it begins, replaces or ends (`matching`). A place that had a route and didn't change can only lose it, by the first end
-//! of its peer's session, which is asked for once a peer. Events are found place by place and written in the order of time, so all are kept
-//! in memory until the last one is found: memory grows with this answer, and with the routes of these prefixes before the span.
+//! of its peer's session, which is asked for once a peer. So of all prefixes inside one only the routes before the span are read that an end
+//! may end, unless AS numbers choose. Events are found place by place and written in the order of time, so all are kept in memory until the
+//! last one is found: memory grows with this answer, and with those routes.
 //!
 //! Without a moment `dump`, `peers` and `find` take the last that is settled; if none is, the question is refused. A table ends in E and the
 //! count of lines, and a refusal is the last line, so a table that was cut can be seen. The forms bgpdump and json, which other programs
@@ -33,10 +36,12 @@
 
 mod asking;
 mod bgpdump;
+mod candidates;
 mod changes;
 mod comparing;
 mod counting;
 mod cursor;
+mod differences;
 mod ending;
 mod events;
 mod fields;
@@ -55,6 +60,7 @@ mod rows;
 mod running;
 mod scope;
 mod searching;
+mod sessions;
 
 pub use form::Form;
 pub use matching::Numbers;

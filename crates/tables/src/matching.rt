@@ -28,7 +28,7 @@ fn ends_in(segment: &Segment, number: u32) -> bool {
 
 impl Numbers {
     /// Whether any route is asked for, and what has none, too.
-    fn are_any(&self) -> bool {
+    pub(crate) fn are_any(&self) -> bool {
         self.origin.is_none() && self.via.is_none()
     }
 

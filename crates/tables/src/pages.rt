@@ -8,7 +8,8 @@ ghost use Rattle.route_meaning.specs.Events.{IsEventsAnswer};
 
 use archive_calls::{AskError, RouteSource, Trouble};
 use interleaving_core::{Answer, Query};
-use route_meaning::{EventsAnswer, EventsQuestion, RowsAnswer, RowsQuestion, Spot};
+use route_meaning::{EventsAnswer, EventsQuestion, Row, RowsAnswer, RowsQuestion, Select, Spot};
+use route_model::Moment;
 
 /// The first rows of a question, 256 at most, and whether more follow.
 pub(crate) fn rows_page<A: RouteSource>(
@@ -42,6 +43,23 @@ pub(crate) fn events_page<A: RouteSource>(
         Ok(Answer::Rows(_)) => Err(AskError::Trouble(Trouble::Fault)),
         Err(why) => Err(why),
     }
+}
+
+/// The row of a place at a moment, if it has a route then.
+pub(crate) fn row_at<A: RouteSource>(
+    archive: &mut A,
+    moment: Moment,
+    place: &Spot,
+) -> Result<Option<Row>, AskError>
+    ensures kept { (h : History) → A.represents archive.old h → A.represents archive.new h }
+{
+    let question = RowsQuestion {
+        moment,
+        select: Select::Route(place.peer, place.prefix),
+        after: None,
+    };
+    let mut answer = rows_page(archive, question)?;
+    Ok(answer.rows.pop())
 }
 
 /// The question of the rows after those of an answer, if more follow.

@@ -79,8 +79,13 @@ pub fn last_inside(prefix: &Prefix) -> Prefix {
     last_with(prefix.address(), prefix.length())
 }
 
+/// The first prefix of all, in the order of rows.
+pub(crate) fn first_of_all() -> Prefix {
+    Prefix::containing(Address::V4([0; 4]), 0)
+}
+
 /// The last prefix of all, in the order of rows.
-fn last_of_all() -> Prefix {
+pub(crate) fn last_of_all() -> Prefix {
     of_one(Address::V6([255; 16]))
 }
 

@@ -9,7 +9,7 @@ use Rattle.version_model.specs.declared.child.Child.{Child}
 use Rattle.version_model.specs.Versions.{Version, IsRising}
 use Rattle.version_model.specs.Ranges.{Range, range_of, high_or, stamp_end}
 use Rattle.version_model.specs.Blocks.{BlockNode, OldLeaf, OldColumn, AreParts, PartRepresents, PlaceRepresents, range_at}
-use Rattle.version_model.specs.Pages.{Keys, PageNode, CurrentLeaf, ColumnNode, KeyNode, Store, Represents, RepresentsIn, TreeRepresents, column, key_node, PartsRepresent, AreChildren, all_keys, child_keys, current_range, past_range}
+use Rattle.version_model.specs.Pages.{Keys, PageNode, CurrentLeaf, ColumnNode, KeyNode, Store, NodeRepresents, NodeRepresentsIn, TreeRepresents, column, key_node, PartsRepresent, AreChildren, all_keys, child_keys, current_range, past_range}
 use Rattle.version_model.specs.Counts.{NodeCounts, column_counts, children_count, PartCounts, count_in, sum_of}
 use Rattle.version_model.proofs.api.Representing.{column_of, key_node_of}
 use Rattle.version_model.proofs.api.Counting.{tree_counted}
@@ -72,16 +72,16 @@ module _ (known : ℕ → Option (List ℕ)) (count : ℕ) (blocks : ℕ → Opt
 
 -- ---- the pages
 
-level_some : (s : Store) (all : List Version) (level : ℕ) (keys : Keys) (page : ℕ) → RepresentsIn s all level keys page → 0 < level
+level_some : (s : Store) (all : List Version) (level : ℕ) (keys : Keys) (page : ℕ) → NodeRepresentsIn s all level keys page → 0 < level
 level_some s all _ _ _ (column keys page c) = omega arith
 level_some s all _ _ _ (key_node level keys page children inside at are stand) = omega arith
 
-pub in_limit : (s : Store) (all : List Version) (level : ℕ) (keys : Keys) (page : ℕ) → RepresentsIn s all level keys page → page < s.limit
+pub in_limit : (s : Store) (all : List Version) (level : ℕ) (keys : Keys) (page : ℕ) → NodeRepresentsIn s all level keys page → page < s.limit
 in_limit s all _ _ _ (column keys page c) = c.in_limit
 in_limit s all _ _ _ (key_node level keys page children inside at are stand) = inside
 
 -- what stands is a column, or above
-above_one : (s : Store) (all : List Version) (level : ℕ) (keys : Keys) (page : ℕ) → RepresentsIn s all level keys page → (level ≡ 1 → ⊥) → 1 < level
+above_one : (s : Store) (all : List Version) (level : ℕ) (keys : Keys) (page : ℕ) → NodeRepresentsIn s all level keys page → (level ≡ 1 → ⊥) → 1 < level
 above_one s all _ _ _ (column keys page c) not = absurd (not refl)
 above_one s all _ _ _ (key_node level keys page children inside at are stand) not =
     let some : 0 < level = level_some s all level (child_keys keys children 0 are.first) are.first.page (stand (child_keys keys children 0 are.first) are.first (record { place = 0; at = are.at_first; range = refl })) in
@@ -89,7 +89,7 @@ above_one s all _ _ _ (key_node level keys page children inside at are stand) no
 
 module _ (shown : List (List ℕ)) (s : Store) (all : List Version) (are_shown : RepresentNodes shown s.nodes) where
   abbrev pub PlaceIn : PagePlace → Type 0
-  PlaceIn place = RepresentsIn s all place.level (keys_at place) place.page
+  PlaceIn place = NodeRepresentsIn s all place.level (keys_at place) place.page
 
   -- a column that stands, by what its page represents
   pub record ColumnIn (place : PagePlace) (parts : List Part) (start current : ℕ) : Type 0 where
@@ -124,7 +124,7 @@ module _ (shown : List (List ℕ)) (s : Store) (all : List Version) (are_shown :
     pub is : place.level ≡ suc level
     pub at : s.nodes place.page ≡ Some (KeyNode (suc level) (keys_at place) children)
     pub are : AreChildren (keys_at place) children
-    pub stand : (i : ℕ) (child : Child) → slice_get children i ≡ Some child → RepresentsIn s all level (child_keys (keys_at place) children i child) child.page
+    pub stand : (i : ℕ) (child : Child) → slice_get children i ≡ Some child → NodeRepresentsIn s all level (child_keys (keys_at place) children i child) child.page
 
   key_node_in : (place : PagePlace) (children : List Child) → RepresentsNode shown place.page (KeyNode place.level (keys_at place) children) → PlaceIn place → KeyNodeIn place children
   key_node_in place children represents_node represents_all =
@@ -138,7 +138,7 @@ module _ (shown : List (List ℕ)) (s : Store) (all : List Version) (are_shown :
         at = k.at ∙ ap (λ (x : List Child). Some (KeyNode (suc k.level) (keys_at place) x)) cs;
         are = subst (AreChildren (keys_at place)) cs k.are;
         stand = λ i child at. (let at' : slice_get k.children i ≡ Some child = ap (λ (x : List Child). slice_get x i) cs ∙ at in
-            subst (λ (x : List Child). RepresentsIn s all k.level (child_keys (keys_at place) x i child) child.page) cs
+            subst (λ (x : List Child). NodeRepresentsIn s all k.level (child_keys (keys_at place) x i child) child.page) cs
             (k.stand (child_keys (keys_at place) k.children i child) child (record { place = i; at = at'; range = refl })));
       }
 
@@ -146,8 +146,8 @@ module _ (shown : List (List ℕ)) (s : Store) (all : List Version) (are_shown :
   children_represent place children represents_node represents_all =
       let k = key_node_in place children represents_node represents_all in
       let level : k.level ≡ place.level - 1 = omega (arith, k.is) in
-      children_are (λ l keys page. RepresentsIn s all l keys page) (place.level - 1) place.low place.high children
-      (λ i child at. subst (λ (l : ℕ). RepresentsIn s all l (child_keys (keys_at place) children i child) child.page) level (k.stand i child at))
+      children_are (λ l keys page. NodeRepresentsIn s all l keys page) (place.level - 1) place.low place.high children
+      (λ i child at. subst (λ (l : ℕ). NodeRepresentsIn s all l (child_keys (keys_at place) children i child) child.page) level (k.stand i child at))
 
   pub under_represents : (places : List PagePlace) (place : PagePlace) → IsUnder shown places place → AllByRecursion PlaceIn places → PlaceIn place
   under_represents places _ (at_top place is) stand = all_at PlaceIn places place stand is
@@ -245,7 +245,7 @@ module _ (shown : List (List ℕ)) (s : Store) (all : List Version) (are_shown :
     -- what is counted under the root of a tree is how many versions it represents
     pub tree_reported : (root : PagePlace) (n : ℕ) → keys_at root ≡ all_keys → TreeRepresents s all root.page root.level → AreCountedUnder shown known count (root ∷ []) n → n ≡ length all
     tree_reported root n keys tree counted =
-        let represents_all : PlaceIn root = subst (λ (k : Keys). RepresentsIn s all root.level k root.page) (sym keys) tree.represents_all in
+        let represents_all : PlaceIn root = subst (λ (k : Keys). NodeRepresentsIn s all root.level k root.page) (sym keys) tree.represents_all in
         let counts = nodes_counted (root ∷ []) n counted (represents_all, tt) in
         one_node root n keys tree counts.ns counts.same counts.sum counts.each
       where

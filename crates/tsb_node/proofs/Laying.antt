@@ -241,6 +241,6 @@ laid_all o old same = ap (λ (t : List ℕ). o ++ t) (drop_over (0 + length o) o
     drop_over (suc n) [] le = refl
     drop_over (suc n) (x ∷ xs) le = drop_over n xs (omega (arith, le))
 
--- a version of a key within the bounds, of what the types represent of its parts
+-- a version of a key within the bounds, each part of which is as wide as its type
 pub version_valid : (b : Bounds) (key stamp : ℕ) (value : Option (List ℕ)) → IsKeyWithin b key → key < 256 ^ 40 → stamp < 256 ^ 16 → length (value_encoded value) ≤ 3072 → AreOctets (value_encoded value) → IsVersionOf b (version key stamp value)
 version_valid b key stamp value within fits in_time short each = record { short = record { low = within.low; high = within.high; size = short }; key = fits; stamp = in_time; octets = each }

@@ -26,7 +26,7 @@ version_next leaf n rest next = ap version_in next.encoded ∙ (entry_read leaf.
 pub versions_more : (kept new : List Entry) (e : Entry) (v : Version) → new ≡ kept ++ e ∷ [] → version_of e ≡ v → versions_of new ≡ versions_of kept ++ v ∷ []
 versions_more kept new e v items same = ap versions_of items ∙ map-append version_of kept (e ∷ []) ∙ ap (λ x. versions_of kept ++ x ∷ []) same
 
--- what the fields of the entry at the front represent of the version
+-- the fields of the entry at the front, and those of its version
 pub key_there : (bytes : List ℕ) (v : Version) → version_in bytes ≡ v → number_in 40 0 bytes ≡ v.key
 key_there bytes v is = sym (key_decoded bytes) ∙ ap (λ (w : Version). w.key) is
 

@@ -63,7 +63,7 @@ filling-size h es page f le =
     let z : length (replicate {A = ℕ} (16264 - length es) 0) ≡ 16264 - length es = length-replicate {A = ℕ} (16264 - length es) 0 in
     ap length f.encoded ∙ omega (arith, f.size, z, length-append (h ++ es) (replicate (16264 - length es) 0), length-append h es)
 
--- what types represent of a child
+-- a child is as wide as its type is
 abbrev pub ChildFits : Child → Type 0
 ChildFits c = (c.low < 256 ^ 40) × (c.page < 256 ^ 8)
 

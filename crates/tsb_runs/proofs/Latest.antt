@@ -15,7 +15,7 @@ use Rattle.version_model.proofs.api.LooksShown.{Has-tail, Has-head, rising_tail,
 use Rattle.version_model.proofs.api.Pushed.{Has-nil, Has-push_cases, Has-push_old, Has-push_new}
 use Rattle.tsb_runs.specs.inner.Latest.{IsLatest, AreLatest}
 
--- ---- what the map represents
+-- ---- what the map has
 
 no_gt : (a b : ℕ) → is_gt (nat_cmp a b) ≡ false → a ≤ b
 no_gt a b is = grind (arith, nat_tests)

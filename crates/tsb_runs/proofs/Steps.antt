@@ -11,7 +11,7 @@ use Rattle.tsb_runs.specs.inner.Latest.{AreLatest}
 use Rattle.tsb_runs.proofs.LiveKeys.{live_more, live_push}
 use Rattle.tsb_runs.proofs.Latest.{first_above, first_after, first_has, others_represent}
 
--- what has a value up to a key is listed, and the map represents what the keys from there on have
+-- what has a value up to a key is listed, and the map has the latest of the keys from there on
 pub record AreTaken (vs : List Version) (s from high : ℕ) (rows : List LiveKey) (m : BTreeMap ℕ Entry) : Type 0 where
   pub at : ℕ
   pub low : from ≤ at

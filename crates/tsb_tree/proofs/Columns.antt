@@ -17,7 +17,7 @@ use Rattle.version_model.specs.declared.part.Place.{Place}
 use Rattle.version_model.specs.Blocks.{IsPartOf}
 use Rattle.version_model.specs.Ranges.{range_of}
 use Rattle.version_model.specs.Versions.{Version, Has}
-use Rattle.version_model.specs.Pages.{PageNode, ColumnNode, CurrentLeaf, ColumnRepresents, Store, RepresentsIn, past_range}
+use Rattle.version_model.specs.Pages.{PageNode, ColumnNode, CurrentLeaf, ColumnRepresents, Store, NodeRepresentsIn, past_range}
 use Rattle.version_model.proofs.api.Pushed.{no_at_nil}
 use Rattle.version_model.proofs.api.Representing.{column_of}
 use Rattle.tsb_tree.specs.declared.whole.Whole.{Whole}
@@ -33,7 +33,7 @@ one_shown shown page octets a b at p q = one_decoded octets a b p (subst (λ (o 
 pub represents_one : (shown : List (List ℕ)) (page : ℕ) (a b : PageNode) → RepresentsNode shown page a → RepresentsNode shown page b → a ≡ b
 represents_one shown page a b p q = one_shown shown page p.octets a b p.at p.represents_node q
 
-module _ (s : Store) (all : List Version) (place : PagePlace) (shown : List (List ℕ)) (level : place.level ≡ 1) (are : RepresentNodes shown s.nodes) (represents_all : RepresentsIn s all place.level (keys_at place) place.page) where
+module _ (s : Store) (all : List Version) (place : PagePlace) (shown : List (List ℕ)) (level : place.level ≡ 1) (are : RepresentNodes shown s.nodes) (represents_all : NodeRepresentsIn s all place.level (keys_at place) place.page) where
   pub column : ColumnRepresents s.nodes s.limit s.blocks s.next all (keys_at place) place.page
   column = column_of s.nodes s.limit s.blocks s.next all place.level (keys_at place) place.page level represents_all
 

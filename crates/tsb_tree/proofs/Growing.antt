@@ -6,10 +6,10 @@ use Rattle.version_model.specs.Versions.{Version, Has, IsAbove}
 use Rattle.version_model.specs.Ranges.{Range, key_end, stamp_end}
 use Rattle.version_model.specs.LeafVersions.{LeafRepresents}
 use Rattle.version_model.specs.Blocks.{BlockNode, Grows}
-use Rattle.version_model.specs.Pages.{PageNode, CurrentLeaf, ColumnNode, KeyNode, column, Store, RepresentsIn, all_keys, current_range}
+use Rattle.version_model.specs.Pages.{PageNode, CurrentLeaf, ColumnNode, KeyNode, column, Store, NodeRepresentsIn, all_keys, current_range}
 use Rattle.version_model.specs.Inserts.{Splits, Became}
 use Rattle.version_model.proofs.api.Pushed.{Has-push_cases, Has-push_new, IsRising-push, Adds-push}
-use Rattle.version_model.proofs.api.Grown.{Represents-grows}
+use Rattle.version_model.proofs.api.Grown.{NodeRepresents-grows}
 use Rattle.tsb_tree.specs.Trees.{TreeHas}
 use Rattle.tsb_tree.proofs.Laying.{put, put_same, put_other}
 use Rattle.tsb_tree.proofs.KeySplit.{root_represents}
@@ -19,7 +19,7 @@ abbrev pub with_root : Store → ℕ → ℕ → Child → Store
 with_root t level root new = record { nodes = put t.limit (KeyNode (suc level) all_keys (record { low = 0; page = root } ∷ new ∷ [])) t.nodes; limit = t.limit + 1; blocks = t.blocks; next = t.next }
 
 -- a root that became two has a new one above it
-pub grown_root : (t : Store) (all : List Version) (level root : ℕ) (new : Child) → Became t all level all_keys root (Some new) → RepresentsIn (with_root t level root new) all (suc level) all_keys t.limit
+pub grown_root : (t : Store) (all : List Version) (level root : ℕ) (new : Child) → Became t all level all_keys root (Some new) → NodeRepresentsIn (with_root t level root new) all (suc level) all_keys t.limit
 grown_root t all level root new became =
     let n : PageNode = KeyNode (suc level) all_keys (record { low = 0; page = root } ∷ new ∷ []) in
     root_represents t (with_root t level root new) all level root all_keys new became
@@ -33,7 +33,7 @@ TreeHas-grown s t all root level least same_nodes same_limit grows next_grows ha
   represents_all = record {
     some_level = has.represents_all.some_level;
     few_levels = has.represents_all.few_levels;
-    represents_all = rw (same_nodes, same_limit) (Represents-grows s.blocks t.blocks s.next t.next all grows next_grows s.nodes s.limit level all_keys root has.represents_all.represents_all);
+    represents_all = rw (same_nodes, same_limit) (NodeRepresents-grows s.blocks t.blocks s.next t.next all grows next_grows s.nodes s.limit level all_keys root has.represents_all.represents_all);
     rising = has.represents_all.rising;
     in_keys = has.represents_all.in_keys;
     in_time = has.represents_all.in_time;
@@ -53,7 +53,7 @@ module _ (s t : Store) (v : Version) (root level least : ℕ) (new : Option Chil
   pub took : Became t (all ++ v ∷ []) level all_keys root new
   took = splits.represents_all all (all ++ v ∷ []) all_keys (record { low = omega arith; high = omega arith }) above_all (Adds-push all v) has.represents_all.represents_all
 
-  pub TreeHas-with : (u : Store) (root' level' : ℕ) → 1 ≤ level' → level' ≤ 7 → RepresentsIn u (all ++ v ∷ []) level' all_keys root' → TreeHas u (all ++ v ∷ []) root' level' (v.stamp + 1)
+  pub TreeHas-with : (u : Store) (root' level' : ℕ) → 1 ≤ level' → level' ≤ 7 → NodeRepresentsIn u (all ++ v ∷ []) level' all_keys root' → TreeHas u (all ++ v ∷ []) root' level' (v.stamp + 1)
   TreeHas-with u root' level' low high represents_all = record {
     represents_all = record {
       some_level = low;

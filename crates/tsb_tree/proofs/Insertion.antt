@@ -19,7 +19,7 @@ use Rattle.page_tx.proofs.Laying.{length_pages_of}
 use Rattle.version_model.specs.declared.child.Child.{Child}
 use Rattle.version_model.specs.Versions.{Version}
 use Rattle.version_model.specs.Ranges.{key_end, stamp_end}
-use Rattle.version_model.specs.Pages.{Keys, PageNode, KeyNode, Store, RepresentsIn, all_keys}
+use Rattle.version_model.specs.Pages.{Keys, PageNode, KeyNode, Store, NodeRepresentsIn, all_keys}
 use Rattle.version_model.specs.Inserts.{Became}
 use Rattle.tsb_walk.specs.Refusals.{OnlyReads}
 use Rattle.tsb_walk.specs.declared.page_place.PagePlace.{PagePlace}
@@ -53,7 +53,7 @@ module _ {O Pen Seen : Type 0} (device : OnceGhosts O Pen Seen) (shelf : Shelf O
   pub tree_same : change.new ≡ None → (now : TreePlace) → now.root ≡ root → now.level ≡ level → now.least ≡ v.stamp + 1 → PlansTree device shelf homes s (all ++ v ∷ []) change now
   tree_same none now root_is level_is least_is =
       let splits = rw none at plans.splits in
-      let represents_all : RepresentsIn between (all ++ v ∷ []) level all_keys root = took s between v root level least None later key in_time splits all has in
+      let represents_all : NodeRepresentsIn between (all ++ v ∷ []) level all_keys root = took s between v root level least None later key in_time splits all has in
       record {
         nodes = plans.nodes;
         blocks = plans.blocks;
@@ -79,7 +79,7 @@ module _ {O Pen Seen : Type 0} (device : OnceGhosts O Pen Seen) (shelf : Shelf O
         let node : PageNode = KeyNode (suc level) all_keys (record { low = 0; page = root } ∷ new ∷ []) in
         let nodes : ℕ → Option PageNode = put change.unused node plans.nodes in
         let u : Store = record { nodes = nodes; limit = change.unused + 1; blocks = plans.blocks; next = next_of shelf } in
-        let represents_all : RepresentsIn u (all ++ v ∷ []) (suc level) all_keys change.unused = grown_root between (all ++ v ∷ []) level root new became in
+        let represents_all : NodeRepresentsIn u (all ++ v ∷ []) (suc level) all_keys change.unused = grown_root between (all ++ v ∷ []) level root new became in
         let up : level + 1 ≡ suc level = omega arith in
         let apart : (p : ℕ) → p < s.limit → p ≡ change.unused → ⊥ = λ p in_limit e. omega (arith, e, in_limit, plans.splits.limit_grows) in
         record {
@@ -176,8 +176,8 @@ root_can pages held device shelf start shown all place root level least v page_i
   start = start;
   shown = shown;
   is = tree.is;
-  represents_all = subst (λ (p : ℕ). RepresentsIn tree.store all place.level (keys_at place) p) (sym page_is)
-      (subst (λ (k : Keys). RepresentsIn tree.store all place.level k root) (sym keys_are) (subst (λ (l : ℕ). RepresentsIn tree.store all l all_keys root) (sym level_is) tree.has.represents_all.represents_all));
+  represents_all = subst (λ (p : ℕ). NodeRepresentsIn tree.store all place.level (keys_at place) p) (sym page_is)
+      (subst (λ (k : Keys). NodeRepresentsIn tree.store all place.level k root) (sym keys_are) (subst (λ (l : ℕ). NodeRepresentsIn tree.store all l all_keys root) (sym level_is) tree.has.represents_all.represents_all));
   above = not_back tree.store all root level least v.stamp tree.has later;
   bounded = tree.has.bounded;
   inside = key;

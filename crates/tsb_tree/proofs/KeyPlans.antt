@@ -11,7 +11,7 @@ use Rattle.page_tx.specs.inner.Laid.{length_laid}
 use Rattle.version_model.specs.declared.child.Child.{Child}
 use Rattle.version_model.specs.Versions.{Version}
 use Rattle.version_model.specs.Ranges.{high_or}
-use Rattle.version_model.specs.Pages.{Keys, PageNode, KeyNode, Store, RepresentsIn, IsChildOf, child_keys, low_or}
+use Rattle.version_model.specs.Pages.{Keys, PageNode, KeyNode, Store, NodeRepresentsIn, IsChildOf, child_keys, low_or}
 use Rattle.version_model.proofs.api.Children.{key_represents}
 use Rattle.version_model.proofs.api.Put.{Splits-child}
 use Rattle.version_model.proofs.api.Representing.{key_node_of}
@@ -35,7 +35,7 @@ module _ {O Pen Seen : Type 0} (device : Ghosts O Pen Seen) (shelf : Shelf O Pen
   between : Store
   between = record { nodes = plans.nodes; limit = change.unused; blocks = plans.blocks; next = next_of shelf }
 
-  own_child : (all : List Version) (k : Keys) → RepresentsIn s all (suc level) k page → KeepsOwn s change
+  own_child : (all : List Version) (k : Keys) → NodeRepresentsIn s all (suc level) k page → KeepsOwn s change
   own_child all k represents_all =
       let ks = (key_represents s.nodes s.limit s.blocks s.next all (suc level) k page level wide children at represents_all).1 in
       plans.own all (child_keys k children i child) (ks.stand (child_keys k children i child) child (record { place = i; at = at_child; range = refl }))
@@ -109,10 +109,10 @@ module _ {O Pen Seen : Type 0} (device : Ghosts O Pen Seen) (shelf : Shelf O Pen
 -- the page represents its key node in the store, and the child stands
 pub record IsFound (s : Store) (all : List Version) (place next : PagePlace) (children : List Child) : Type 0 where
   pub at : s.nodes place.page ≡ Some (KeyNode (suc next.level) (keys_at place) children)
-  pub represents_all : RepresentsIn s all next.level (keys_at next) next.page
+  pub represents_all : NodeRepresentsIn s all next.level (keys_at next) next.page
   pub high : high_or next.high ≤ high_or place.high
 
-pub found_lower : (shown : List (List ℕ)) (s : Store) (all : List Version) (key : ℕ) (place next : PagePlace) → RepresentNodes shown s.nodes → (lower : IsLower shown key place next) → 1 < place.level → RepresentsIn s all place.level (keys_at place) place.page → IsFound s all place next lower.children
+pub found_lower : (shown : List (List ℕ)) (s : Store) (all : List Version) (key : ℕ) (place next : PagePlace) → RepresentNodes shown s.nodes → (lower : IsLower shown key place next) → 1 < place.level → NodeRepresentsIn s all place.level (keys_at place) place.page → IsFound s all place next lower.children
 found_lower shown s all key place next are lower above represents_all =
     let k = key_node_of s.nodes s.limit s.blocks s.next all place.level (keys_at place) place.page above represents_all in
     let decoded = are place.page _ k.at in
@@ -124,7 +124,7 @@ found_lower shown s all key place next are lower above represents_all =
     subst (λ (cs : List Child). IsChildOf (keys_at place) cs (keys_at next) (record { low = next.low; page = next.page })) (sym children) lower.child in
     record {
       at = k.at ∙ ap (λ (m : ℕ). Some (KeyNode (suc m) (keys_at place) k.children)) level ∙ ap (λ (cs : List Child). Some (KeyNode (suc next.level) (keys_at place) cs)) children;
-      represents_all = subst (λ (m : ℕ). RepresentsIn s all m (keys_at next) next.page) level (k.stand (keys_at next) (record { low = next.low; page = next.page }) child);
+      represents_all = subst (λ (m : ℕ). NodeRepresentsIn s all m (keys_at next) next.page) level (k.stand (keys_at next) (record { low = next.low; page = next.page }) child);
       high = (k.are.inside (keys_at next) (record { low = next.low; page = next.page }) child).2;
     }
 

@@ -4,7 +4,7 @@ use Rattle.std.proofs.lemmas.Option.{same_Some, none-some}
 use Rattle.std.proofs.lemmas.Bool.{cases_eq}
 use Rattle.version_model.specs.declared.child.Child.{Child}
 use Rattle.version_model.specs.Versions.{Version}
-use Rattle.version_model.specs.Pages.{Keys, PageNode, KeyNode, Store, RepresentsIn, IsChildOf, AreChildren, child_keys, low_or}
+use Rattle.version_model.specs.Pages.{Keys, PageNode, KeyNode, Store, NodeRepresentsIn, IsChildOf, AreChildren, child_keys, low_or}
 use Rattle.version_model.specs.Inserts.{LocatedUnder, Splits, Became}
 use Rattle.version_model.proofs.api.Children.{key_represents, KeyRepresents, disjoint}
 use Rattle.version_model.proofs.api.ChildrenTwo.{front_child, key_node_written, get-take}
@@ -79,7 +79,7 @@ module _ (s t : Store) (level page : ℕ) (wide : Keys) (children : List Child) 
     (at_back : t.nodes s.limit ≡ Some (KeyNode (suc level) (record { low = mid.low; high = wide.high }) (drop n children)))
     (others : (p : ℕ) → p < s.limit → (p ≡ page → ⊥) → t.nodes p ≡ s.nodes p)
     (limit : t.limit ≡ suc s.limit) (blocks : t.blocks ≡ s.blocks) (next : t.next ≡ s.next) where
-  pub key_node_two : (all : List Version) (k : Keys) → RepresentsIn s all (suc level) k page → Became t all (suc level) k page (Some (record { low = mid.low; page = s.limit }))
+  pub key_node_two : (all : List Version) (k : Keys) → NodeRepresentsIn s all (suc level) k page → Became t all (suc level) k page (Some (record { low = mid.low; page = s.limit }))
   key_node_two all k represents_all =
       let ks : KeyRepresents s.nodes s.limit s.blocks s.next all level k page children = (key_represents s.nodes s.limit s.blocks s.next all (suc level) k page level wide children at represents_all).1 in
       let node : KeyNode (suc level) wide children ≡ KeyNode (suc level) k children = same_Some _ _ (sym at ∙ ks.at) in
@@ -106,7 +106,7 @@ module _ (s t : Store) (level page : ℕ) (wide : Keys) (children : List Child) 
 module _ (s m t : Store) (v : Version) (level page : ℕ) (wide : Keys) (old : List Child) (new : Child)
     (at : s.nodes page ≡ Some (KeyNode (suc level) wide old))
     (one : Splits s m v (suc level) page None)
-    (two : (all : List Version) (k : Keys) → RepresentsIn m all (suc level) k page → Became t all (suc level) k page (Some new))
+    (two : (all : List Version) (k : Keys) → NodeRepresentsIn m all (suc level) k page → Became t all (suc level) k page (Some new))
     (others : (p : ℕ) → p < m.limit → (p ≡ page → ⊥) → t.nodes p ≡ m.nodes p)
     (limit : m.limit ≤ t.limit) (blocks : t.blocks ≡ m.blocks) (next : t.next ≡ m.next) where
   pub Splits-two : Splits s t v (suc level) page (Some new)
@@ -135,7 +135,7 @@ module _ (s t : Store) (all : List Version) (level page : ℕ) (k : Keys) (new :
     by_place (suc zero) at_i range = inr (sym range ∙ ap (λ (x : Child). record { low = x.low; high = k.high }) (sym (same_Some _ c at_i)), sym (same_Some _ c at_i))
     by_place (suc (suc i)) at_i range = absurd (none-some c at_i)
 
-  pub root_represents : RepresentsIn t all (suc level) k s.limit
+  pub root_represents : NodeRepresentsIn t all (suc level) k s.limit
   root_represents = rw (blocks, next) (key_node_written s.nodes t.nodes s.limit t.limit s.blocks s.next all (let h : s.limit ≤ t.limit = omega (arith, limit) in h) level k s.limit (record { low = k.low; page = page } ∷ new ∷ [])
       (let h : s.limit < t.limit = omega (arith, limit) in h)
       (record {

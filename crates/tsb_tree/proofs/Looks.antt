@@ -8,7 +8,7 @@ use Rattle.tsb_walk.specs.declared.page_place.PagePlace.{PagePlace}
 use Rattle.tsb_walk.specs.Refusals.{LookRefusal}
 use Rattle.tsb_walk.specs.Shown.{RepresentsShown, keys_at}
 use Rattle.version_model.specs.Blocks.{BlockNode}
-use Rattle.version_model.specs.Pages.{Keys, Store, RepresentsIn, all_keys}
+use Rattle.version_model.specs.Pages.{Keys, Store, NodeRepresentsIn, all_keys}
 use Rattle.version_model.specs.Versions.{Version}
 use Rattle.tsb_tree.specs.Opened.{RepresentsVersions}
 
@@ -23,8 +23,8 @@ module _ {P : Type 0} (pages : Ghosts P) (held : P) (root level : ℕ) where
       let s = store_of blocks all v in
       record {
         are_shown = v.reports;
-        represents_all = subst (λ (p : ℕ). RepresentsIn s all place.level (keys_at place) p) (sym page_is)
-            (subst (λ (k : Keys). RepresentsIn s all place.level k root) (sym keys_are) (subst (λ (l : ℕ). RepresentsIn s all l all_keys root) (sym level_is) v.tree.represents_all));
+        represents_all = subst (λ (p : ℕ). NodeRepresentsIn s all place.level (keys_at place) p) (sym page_is)
+            (subst (λ (k : Keys). NodeRepresentsIn s all place.level k root) (sym keys_are) (subst (λ (l : ℕ). NodeRepresentsIn s all l all_keys root) (sym level_is) v.tree.represents_all));
       }
 
   -- what an answer is for each such tree, it is for all of them

@@ -6,7 +6,7 @@ use Rattle.once_store.specs.declared.shelf.Shelf.{Shelf}
 use Rattle.once_store.specs.Shelves.{next_of}
 use Rattle.tsb_node.specs.Views.{PageRepresents}
 use Rattle.version_model.specs.Versions.{Version, IsAbove, Adds}
-use Rattle.version_model.specs.Pages.{Keys, PageNode, CurrentLeaf, ColumnNode, ColumnRepresents, Store, RepresentsIn, column, current_range}
+use Rattle.version_model.specs.Pages.{Keys, PageNode, CurrentLeaf, ColumnNode, ColumnRepresents, Store, NodeRepresentsIn, column, current_range}
 use Rattle.version_model.specs.Inserts.{LocatedUnder, Splits, KeepsOthers}
 use Rattle.version_model.proofs.api.Pushed.{Adds-push}
 use Rattle.version_model.proofs.api.Shown.{LeafRepresents-adds}
@@ -33,7 +33,7 @@ module _ (s : Store) (v : Version) (old : List Version) (k : Keys) (page : ℕ) 
       cc
 
   -- the column that represents any versions
-  takes : (all after : List Version) (k' : Keys) → IsAbove all v.stamp → Adds all v after → RepresentsIn s all 1 k' page → RepresentsIn pushed after 1 k' page
+  takes : (all after : List Version) (k' : Keys) → IsAbove all v.stamp → Adds all v after → NodeRepresentsIn s all 1 k' page → NodeRepresentsIn pushed after 1 k' page
   takes all after k' above adds represents_all =
       let d = column_of s.nodes s.limit s.blocks s.next all 1 k' page refl represents_all in
       let decoded : ColumnNode k' d.parts d.start d.current ≡ ColumnNode k c.parts c.start c.current = same_Some _ _ (sym d.at ∙ c.at) in
@@ -57,7 +57,7 @@ module _ (s : Store) (v : Version) (old : List Version) (k : Keys) (page : ℕ) 
         started = λ n up. d.started n (λ x h. up x (adds.keeps x h));
       })
 
-  keeps_others : (all : List Version) (k' : Keys) → k.low < k.high → RepresentsIn s all 1 k' page → KeepsOthers s.nodes pushed.nodes s.limit 1 k'
+  keeps_others : (all : List Version) (k' : Keys) → k.low < k.high → NodeRepresentsIn s all 1 k' page → KeepsOthers s.nodes pushed.nodes s.limit 1 k'
   keeps_others all k' some represents_all p node in_limit at never =
       let d = column_of s.nodes s.limit s.blocks s.next all 1 k' page refl represents_all in
       let decoded : ColumnNode k' d.parts d.start d.current ≡ ColumnNode k c.parts c.start c.current = same_Some _ _ (sym d.at ∙ c.at) in

@@ -16,7 +16,7 @@ use Rattle.tsb_walk.specs.Refusals.{OnlyReads}
 use Rattle.tsb_walk.specs.Shown.{RepresentNodes, HasKey, keys_at}
 use Rattle.version_model.specs.Versions.{Version, Has, IsAbove}
 use Rattle.version_model.specs.Ranges.{high_or}
-use Rattle.version_model.specs.Pages.{Keys, ColumnNode, CurrentLeaf, ColumnRepresents, Store, RepresentsIn, current_range}
+use Rattle.version_model.specs.Pages.{Keys, ColumnNode, CurrentLeaf, ColumnRepresents, Store, NodeRepresentsIn, current_range}
 use Rattle.version_model.specs.LeafVersions.{LeafRepresents}
 use Rattle.version_model.specs.Sizes.{octets, entry_octets}
 use Rattle.tsb_tree.specs.declared.whole.Whole.{Whole}
@@ -75,7 +75,7 @@ decoded_more leaf k start versions v new is page =
     = ap (λ (x : Keys). CurrentLeaf x leaf.bounds.start (leaf.versions ++ v ∷ [])) e_keys ∙ ap (λ (x : ℕ). CurrentLeaf k x (leaf.versions ++ v ∷ [])) e_start ∙ ap (λ (x : List Version). CurrentLeaf k start (x ++ v ∷ [])) e_versions in
     subst (PageRepresents new) same (represents_leaf (with_version leaf v) page)
 
-module _ (s : Store) (all : List Version) (place : PagePlace) (shown : List (List ℕ)) (level : place.level ≡ 1) (are : RepresentNodes shown s.nodes) (represents_all : RepresentsIn s all place.level (keys_at place) place.page)
+module _ (s : Store) (all : List Version) (place : PagePlace) (shown : List (List ℕ)) (level : place.level ≡ 1) (are : RepresentNodes shown s.nodes) (represents_all : NodeRepresentsIn s all place.level (keys_at place) place.page)
     (page : ℕ) (image : List ℕ) (of : IsLeafOf shown place page image) where
   abbrev pub standing : ColumnRepresents s.nodes s.limit s.blocks s.next all (keys_at place) place.page
   standing = column s all place shown level are represents_all
@@ -122,7 +122,7 @@ module _ (s : Store) (all : List Version) (place : PagePlace) (shown : List (Lis
       omega (arith, fits, entries-octets (l.leaf.versions ++ v ∷ []), octets-push l.leaf.versions v, ap octets versions, ap octets same)
 
 -- the keys and stamps of a column in memory that stands and whose leaf has no room for a version
-module _ (s : Store) (all : List Version) (place : PagePlace) (current : ℕ) (image : List ℕ) (w : Whole) (v : Version) (at : IsAt s.nodes place.page current w) (represents_all : RepresentsIn s all place.level (keys_at place) place.page) (leaf : IsLeafPage (leaf_in_page w) image) where
+module _ (s : Store) (all : List Version) (place : PagePlace) (current : ℕ) (image : List ℕ) (w : Whole) (v : Version) (at : IsAt s.nodes place.page current w) (represents_all : NodeRepresentsIn s all place.level (keys_at place) place.page) (leaf : IsLeafPage (leaf_in_page w) image) where
   pub whole_among : (x : Version) → Has w.leaf x → Has all x
   whole_among x h =
       let f = found s all place.level (keys_at place) place.page current w at represents_all in

@@ -12,7 +12,7 @@ use Rattle.page_tx.specs.Start.{Start}
 use Rattle.page_tx.specs.declared.error.PageError.TheVariants as pages
 use Rattle.version_model.specs.declared.child.Child.{Child}
 use Rattle.version_model.specs.Versions.{Version, IsAbove}
-use Rattle.version_model.specs.Pages.{Keys, KeyNode, Store, RepresentsIn}
+use Rattle.version_model.specs.Pages.{Keys, KeyNode, Store, NodeRepresentsIn}
 use Rattle.version_model.specs.Ranges.{high_or}
 use Rattle.tsb_node.specs.declared.decoded_key_node.DecodedKeyNode.{DecodedKeyNode}
 use Rattle.tsb_node.specs.Views.{keys_between}
@@ -85,7 +85,7 @@ unfolding take_lower
 outdated_lower pages a b F device shelf s all place next v reads can above lower rest = outdated_below place next lower rest
 
 module _ {O Pen Seen : Type 0} (device : OnceGhosts O Pen Seen) (shelf : Shelf O Pen Seen) (homes : ℕ) (shown : List (List ℕ)) (s : Store) (all : List Version) (v : Version) (place next : PagePlace) (are : RepresentNodes shown s.nodes)
-    (lower : IsLower shown v.key place next) (above : 1 < place.level) (represents_all : RepresentsIn s all place.level (keys_at place) place.page) (change : Change) (plans : Plans device shelf homes s v next.level next.page change) where
+    (lower : IsLower shown v.key place next) (above : 1 < place.level) (represents_all : NodeRepresentsIn s all place.level (keys_at place) place.page) (change : Change) (plans : Plans device shelf homes s v next.level next.page change) where
   pub found : IsFound s all place next lower.children
   found = found_lower shown s all v.key place next are lower above represents_all
 

@@ -3,7 +3,7 @@ use Rattle.std.proofs.Common.{◌≡◌, ℕ, suc, ◌<◌, ◌≤◌, ◌⊎◌
 use Rattle.std.proofs.lemmas.Option.{same_Some, slice_get_within}
 use Rattle.version_model.specs.Versions.{Version}
 use Rattle.version_model.specs.Blocks.{BlockNode}
-use Rattle.version_model.specs.Pages.{Keys, PageNode, ColumnNode, KeyNode, Represents, column, key_node, Store, TreeRepresents, all_keys}
+use Rattle.version_model.specs.Pages.{Keys, PageNode, ColumnNode, KeyNode, NodeRepresents, column, key_node, Store, TreeRepresents, all_keys}
 use Rattle.tsb_node.specs.Columns.{ColumnInPage}
 use Rattle.tsb_node.specs.Parts.{BeginsAsColumn}
 use Rattle.tsb_node.specs.KeyNodes.{KeyNodeInPage}
@@ -57,7 +57,7 @@ pub root_inside : (shown : List (List ℕ)) (root level : ℕ) → IsShownRoot s
 root_inside shown root level is = slice_get_within shown root is.0 is.1
 
 represents_root : (shown : List (List ℕ)) (nodes : ℕ → Option PageNode) (limit : ℕ) (blocks : ℕ → Option BlockNode) (next : ℕ) (all : List Version) → RepresentNodes shown nodes
-    → (level : ℕ) (k : Keys) (root : ℕ) → k ≡ all_keys → Represents nodes limit blocks next all level k root → IsShownRoot shown root level
+    → (level : ℕ) (k : Keys) (root : ℕ) → k ≡ all_keys → NodeRepresents nodes limit blocks next all level k root → IsShownRoot shown root level
 represents_root shown nodes limit blocks next all are _ _ _ e (column k page c) =
     let represents_node = are page (ColumnNode k c.parts c.start c.current) c.at in
     (represents_node.octets, represents_node.at, is_column c.parts c.start c.current (subst (λ (x : Keys). PageRepresents represents_node.octets (ColumnNode x c.parts c.start c.current)) e represents_node.represents_node))

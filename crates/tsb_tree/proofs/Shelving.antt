@@ -26,7 +26,7 @@ leaves_none device most s F G nf ng = record {
   within = omega arith;
   leaves = λ _. record {
     grows = record { tried = λ n h. h; settled = λ n block h. h };
-    spends = record { spent = []; few = omega arith; tried = λ i _. refl; burnt = λ i _. refl };
+    spends = record { spent = []; few = omega arith; tried = λ i _. refl; burnt = λ i _ block is. is };
     below = λ h. h;
     earlier = λ left h. h;
   };
@@ -115,7 +115,7 @@ spends_then m n a b c one two = record {
   spent = one.spent ++ two.spent;
   few = omega (arith, length-append one.spent two.spent, one.few, two.few);
   tried = λ i not. two.tried i (λ h. not (listed_right i one.spent two.spent h)) ∙ one.tried i (λ h. not (listed_left i one.spent two.spent h));
-  burnt = λ i not. two.burnt i (λ h. not (listed_right i one.spent two.spent h)) ∙ one.burnt i (λ h. not (listed_left i one.spent two.spent h));
+  burnt = λ i not block is. one.burnt i (λ h. not (listed_left i one.spent two.spent h)) block (two.burnt i (λ h. not (listed_right i one.spent two.spent h)) block is);
 }
 
 disk_then : (m n count from mid to : ℕ) (a b c : OnceState) → LeavesDisk m count from mid a b → LeavesDisk n count mid to b c → LeavesDisk (m + n) count from to a c
@@ -173,7 +173,7 @@ honest_on device most old new F G leaves honest = honest_then device most old ne
 
 -- one block is spent at most
 pub spends_none : {O Pen Seen : Type 0} (device : Ghosts O Pen Seen) (s : Shelf O Pen Seen) → SpendsOne device s s
-spends_none device s honest = record { spent = []; few = omega arith; tried = λ i _. refl; burnt = λ i _. refl }
+spends_none device s honest = record { spent = []; few = omega arith; tried = λ i _. refl; burnt = λ i _ block is. is }
 
 pub spends_same : {O Pen Seen : Type 0} (device : Ghosts O Pen Seen) (a b : Shelf O Pen Seen) → b ≡ a → SpendsOne device a b
 spends_same {O} {Pen} {Seen} device a b same = subst (λ (s : Shelf O Pen Seen). SpendsOne device s b) same (spends_none device b)

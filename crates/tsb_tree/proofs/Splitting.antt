@@ -5,7 +5,7 @@ use Rattle.version_model.specs.declared.child.Child.{Child}
 use Rattle.version_model.specs.Versions.{Version}
 use Rattle.version_model.specs.Ranges.{high_or}
 use Rattle.version_model.specs.Blocks.{Grows}
-use Rattle.version_model.specs.Pages.{Keys, CurrentLeaf, ColumnNode, KeyNode, Represents, column, key_node, Store, RepresentsIn}
+use Rattle.version_model.specs.Pages.{Keys, CurrentLeaf, ColumnNode, KeyNode, NodeRepresents, column, key_node, Store, NodeRepresentsIn}
 use Rattle.version_model.specs.Inserts.{LocatedUnder, Splits, KeepsOthers}
 use Rattle.tsb_tree.specs.declared.whole.Whole.{Whole}
 use Rattle.tsb_tree.specs.Wholes.{keys, WholeHas, IsAt, Takes, AreHalves, keys_of_whole, column_node, leaf_node}
@@ -17,8 +17,8 @@ pub record Found (s : Store) (all : List Version) (m : ℕ) (k : Keys) (page cur
   pub current_in_limit : current < s.limit
   pub has : WholeHas s.blocks s.next all w
 
--- what the pages represent of a column that stands
-pub found : (s : Store) (all : List Version) (m : ℕ) (k : Keys) (page current : ℕ) (w : Whole) → IsAt s.nodes page current w → Represents s.nodes s.limit s.blocks s.next all m k page → Found s all m k page current w
+-- the pages of a column
+pub found : (s : Store) (all : List Version) (m : ℕ) (k : Keys) (page current : ℕ) (w : Whole) → IsAt s.nodes page current w → NodeRepresents s.nodes s.limit s.blocks s.next all m k page → Found s all m k page current w
 found s all _ _ _ current w is (column k page c) =
     let node : ColumnNode k c.parts c.start c.current ≡ ColumnNode (keys_of_whole w) w.parts.items w.start current = same_Some _ _ (sym c.at ∙ is.at) in
     let e_keys : k ≡ keys_of_whole w = cc in
@@ -39,7 +39,7 @@ found s all _ _ _ current w is (key_node level k page children in_limit at are s
     absurd (cc)
 
 -- a column in memory stands in the pages that represent it
-pub represents_at : (t : Store) (all : List Version) (k : Keys) (page current : ℕ) (w : Whole) → IsAt t.nodes page current w → page < t.limit → current < t.limit → keys_of_whole w ≡ k → WholeHas t.blocks t.next all w → Represents t.nodes t.limit t.blocks t.next all 1 k page
+pub represents_at : (t : Store) (all : List Version) (k : Keys) (page current : ℕ) (w : Whole) → IsAt t.nodes page current w → page < t.limit → current < t.limit → keys_of_whole w ≡ k → WholeHas t.blocks t.next all w → NodeRepresents t.nodes t.limit t.blocks t.next all 1 k page
 represents_at t all k page current w is in_limit current_in_limit same_keys has = rw (← same_keys) (column (keys_of_whole w) page (record {
   parts = w.parts.items;
   current = current;
@@ -57,7 +57,7 @@ represents_at t all k page current w is in_limit current_in_limit same_keys has 
 module _ (s t : Store) (v : Version) (page current : ℕ) (w w' : Whole) (is : IsAt s.nodes page current w) (in_low : w.low ≤ v.key) (in_high : v.key < high_or w.high)
     (takes : Takes s.blocks s.next t.blocks t.next v w w') (grows : Grows s.blocks t.blocks) (next_grows : s.next ≤ t.next) (limit_grows : s.limit ≤ t.limit)
     (others : (p : ℕ) → p < s.limit → (p ≡ page → ⊥) → (p ≡ current → ⊥) → t.nodes p ≡ s.nodes p) where
-  column_others : (all : List Version) (k : Keys) → RepresentsIn s all 1 k page → KeepsOthers s.nodes t.nodes s.limit 1 k
+  column_others : (all : List Version) (k : Keys) → NodeRepresentsIn s all 1 k page → KeepsOthers s.nodes t.nodes s.limit 1 k
   column_others all k represents_all p node in_limit at never =
       let f = found s all 1 k page current w is represents_all in
       let low : k.low ≡ w.low = ap (λ (x : Keys). x.low) (sym f.same_keys) in

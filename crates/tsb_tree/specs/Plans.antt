@@ -8,7 +8,7 @@ use Rattle.page_journal.specs.Recovers.{laid, AreBelow, AreDistinct}
 use Rattle.tsb_walk.specs.Shown.{RepresentNodes}
 use Rattle.version_model.specs.Versions.{Version}
 use Rattle.version_model.specs.Blocks.{BlockNode}
-use Rattle.version_model.specs.Pages.{Keys, PageNode, Store, RepresentsIn}
+use Rattle.version_model.specs.Pages.{Keys, PageNode, Store, NodeRepresentsIn}
 use Rattle.version_model.specs.Inserts.{Splits}
 use Rattle.worm_migration.specs.Settled.{ShelfRepresents}
 use Rattle.tsb_tree.specs.declared.change.Change.{Change}
@@ -40,4 +40,4 @@ pub record Plans {O Pen Seen : Type 0} (device : OnceGhosts O Pen Seen) (new : S
   pub represents_node : ShelfRepresents device new blocks
   pub splits : Splits s (record { nodes = nodes; limit = change.unused; blocks = blocks; next = next_of new }) v level page change.new
   pub silent : (p : ℕ) → p < s.limit → s.nodes p ≡ None → nodes p ≡ None
-  pub own : (all : List Version) (k : Keys) → RepresentsIn s all level k page → KeepsOwn s change
+  pub own : (all : List Version) (k : Keys) → NodeRepresentsIn s all level k page → KeepsOwn s change

@@ -28,7 +28,7 @@ pub record SpendsAtMost (most : ℕ) (old new : OnceState) : Type 0 where
   pub spent : List ℕ
   pub few : length spent ≤ most
   pub tried : (i : ℕ) → (IsListed i spent → ⊥) → new.tried i ≡ old.tried i
-  pub burnt : (i : ℕ) → (IsListed i spent → ⊥) → new.burnt i ≡ old.burnt i
+  pub burnt : (i : ℕ) → (IsListed i spent → ⊥) → (block : List ℕ) → new.burnt i ≡ Some block → old.burnt i ≡ Some block
 
 -- the same of one block, on a disk that follows its model
 abbrev pub SpendsOne : {O Pen Seen : Type 0} (device : OnceGhosts O Pen Seen) (old new : Shelf O Pen Seen) → Type 0

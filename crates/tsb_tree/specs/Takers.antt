@@ -8,7 +8,7 @@ use Rattle.tsb_walk.specs.declared.page_place.PagePlace.{PagePlace}
 use Rattle.tsb_walk.specs.Shown.{keys_at}
 use Rattle.version_model.specs.Versions.{Version, Has, IsAbove}
 use Rattle.version_model.specs.Ranges.{key_end}
-use Rattle.version_model.specs.Pages.{Store, RepresentsIn}
+use Rattle.version_model.specs.Pages.{Store, NodeRepresentsIn}
 use Rattle.tsb_tree.specs.Stores.{IsStore}
 
 -- The node at a place represents these versions in the store that the shown pages and the settled blocks represent. The version is later than all
@@ -17,7 +17,7 @@ pub record CanTake {P : Type 0} (pages : Ghosts P) (held : P) {O Pen Seen : Type
   pub start : Start
   pub shown : List (List ℕ)
   pub is : IsStore pages held device shelf start shown s
-  pub represents_all : RepresentsIn s all place.level (keys_at place) place.page
+  pub represents_all : NodeRepresentsIn s all place.level (keys_at place) place.page
   pub above : IsAbove all v.stamp
   pub bounded : (w : Version) → Has all w → w.key + 1 < key_end
   pub inside : v.key + 1 < key_end

@@ -19,7 +19,7 @@
 //! stamp), so a refused call leaves nothing that a forgotten transaction knew. A tree is opened by its root alone, whose
 //! header has the level. Images are made in memory and laid in one call, all or none.
 //!
-//! What pages represent is any map of nodes whose pages are shown and represent them (`AreShown`), without pages of other
+//! What pages represent is any map of nodes whose pages are shown and represent them (`RepresentNodes`), without pages of other
 //! owners. The highest key is no key of the tree, since as the high key of a node it is written as no bound is. How many
 //! pages a version needs is defined from what stays of the leaf up to the root (`NeedsPages`), so a refusal for a lack of
 //! pages has nothing to do with how the code goes about it.

@@ -9,7 +9,7 @@ use Rattle.version_model.specs.Ranges.{IsPoint, range_of, high_or, stamp_end}
 use Rattle.version_model.specs.LeafVersions.{LeafRepresents}
 use Rattle.version_model.specs.Looks.{IsPart, IsReached, is_of, reached_to}
 use Rattle.version_model.specs.Entries.{versions_of}
-use Rattle.version_model.specs.Pages.{Keys, PageNode, CurrentLeaf, ColumnNode, KeyNode, Store, RepresentsIn, PartsRepresent, IsChildOf, current_range}
+use Rattle.version_model.specs.Pages.{Keys, PageNode, CurrentLeaf, ColumnNode, KeyNode, Store, NodeRepresentsIn, PartsRepresent, IsChildOf, current_range}
 use Rattle.version_model.proofs.api.Shown.{answers_shown}
 use Rattle.version_model.proofs.api.LooksShown.{next_shown, reported_shown}
 use Rattle.version_model.proofs.api.Representing.{column_of, key_node_of}
@@ -61,7 +61,7 @@ module _ (shown : List (List ℕ)) (s : Store) (all : List Version) where
       let child : IsChildOf (keys_at place) k.children (keys_at next) (record { low = next.low; page = next.page }) =
       subst (λ (cs : List Child). IsChildOf (keys_at place) cs (keys_at next) (record { low = next.low; page = next.page })) (sym children) lower.child in
       let level : k.level ≡ next.level = omega (arith, k.is, led.level) in
-      record { are_shown = st.are_shown; represents_all = subst (λ (m : ℕ). RepresentsIn s all m (keys_at next) next.page) level (k.stand (keys_at next) (record { low = next.low; page = next.page }) child) }
+      record { are_shown = st.are_shown; represents_all = subst (λ (m : ℕ). NodeRepresentsIn s all m (keys_at next) next.page) level (k.stand (keys_at next) (record { low = next.low; page = next.page }) child) }
 
   pub way_represents : (key : ℕ) (first last : PagePlace) → PageWay shown key first last → RepresentsShown shown s all first → RepresentsShown shown s all last
   way_represents key _ _ (here place) st = st

@@ -3,7 +3,7 @@ use Rattle.std.specs.Prelude.{◌≡◌, ℕ, ◌<◌, ◌≤◌, List, Option, 
 use Rattle.tsb_walk.specs.declared.page_place.PagePlace.{PagePlace}
 use Rattle.version_model.specs.Versions.{Version}
 use Rattle.version_model.specs.Ranges.{high_or}
-use Rattle.version_model.specs.Pages.{Keys, PageNode, Store, RepresentsIn}
+use Rattle.version_model.specs.Pages.{Keys, PageNode, Store, NodeRepresentsIn}
 use Rattle.tsb_node.specs.Views.{PageRepresents}
 
 -- the page is one of those that are shown, and its octets represent this
@@ -28,4 +28,4 @@ pub record HasKey (place : PagePlace) (key : ℕ) : Type 0 where
 -- the page represents versions, by what the pages represent that are shown
 pub record RepresentsShown (shown : List (List ℕ)) (s : Store) (all : List Version) (place : PagePlace) : Type 0 where
   pub are_shown : RepresentNodes shown s.nodes
-  pub represents_all : RepresentsIn s all place.level (keys_at place) place.page
+  pub represents_all : NodeRepresentsIn s all place.level (keys_at place) place.page

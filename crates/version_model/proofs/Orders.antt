@@ -1,4 +1,4 @@
--- What comparisons of keys and of stamps represent of their numbers.
+-- Keys and stamps are compared as their numbers are.
 use Rattle.std.proofs.Common.{◌≡◌, ℕ, ◌<◌, ◌≤◌, arith, Bool, true, false, sym, ◌∙◌, nat_cmp, is_le, is_lt, is_ge}
 use Rattle.std.specs.Bool.{◌==◌}
 use Rattle.std.proofs.lemmas.Bool.{eqb-true, eq-eqb}

@@ -4,15 +4,15 @@ use Rattle.version_model.specs.declared.child.Child.{Child}
 use Rattle.version_model.specs.Versions.{Version, IsAbove, Adds}
 use Rattle.version_model.specs.Ranges.{IsKeyOf}
 use Rattle.version_model.specs.Blocks.{Grows}
-use Rattle.version_model.specs.Pages.{Keys, PageNode, CurrentLeaf, ColumnNode, KeyNode, Store, RepresentsIn, current_range}
+use Rattle.version_model.specs.Pages.{Keys, PageNode, CurrentLeaf, ColumnNode, KeyNode, Store, NodeRepresentsIn, current_range}
 
--- the keys that a page represents of itself
+-- the keys of a page
 abbrev pub keys_of : PageNode → Keys
 keys_of (CurrentLeaf keys start versions) = keys
 keys_of (ColumnNode keys parts start current) = keys
 keys_of (KeyNode level keys children) = keys
 
--- the level of a page: 0 of a current leaf, 1 of a column, and what a key node represents
+-- the level of a page: 0 of a current leaf, 1 of a column, and its own of a key node
 abbrev pub level_of : PageNode → ℕ
 level_of (CurrentLeaf keys start versions) = 0
 level_of (ColumnNode keys parts start current) = 1
@@ -35,9 +35,9 @@ KeepsUnder nodes nodes' limit level keys = (page : ℕ) (node : PageNode) → pa
 
 -- what a node has become: itself, or two, of which the new one has the keys from its lowest on
 abbrev pub Became : Store → List Version → ℕ → Keys → ℕ → Option Child → Type 0
-Became t all level keys page None = RepresentsIn t all level keys page
+Became t all level keys page None = NodeRepresentsIn t all level keys page
 Became t all level keys page (Some new) = (keys.low < new.low) × (new.low < keys.high)
-    × RepresentsIn t all level (record { low = keys.low; high = new.low }) page × RepresentsIn t all level (record { low = new.low; high = keys.high }) new.page
+    × NodeRepresentsIn t all level (record { low = keys.low; high = new.low }) page × NodeRepresentsIn t all level (record { low = new.low; high = keys.high }) new.page
 
 -- From one store to the next, the node takes the version and may become two by it: wherever it represented some versions, it represents
 -- these and the new one. Blocks stay, and pages that don't lie under the node represent what they represented.
@@ -45,8 +45,8 @@ pub record Splits (s t : Store) (v : Version) (level page : ℕ) (new : Option C
   pub grows : Grows s.blocks t.blocks
   pub next_grows : s.next ≤ t.next
   pub limit_grows : s.limit ≤ t.limit
-  pub represents_all : (all after : List Version) (keys : Keys) → IsKeyOf (current_range keys 0) v.key → IsAbove all v.stamp → Adds all v after → RepresentsIn s all level keys page → Became t after level keys page new
-  pub others : (all : List Version) (keys : Keys) → RepresentsIn s all level keys page → KeepsOthers s.nodes t.nodes s.limit level keys
+  pub represents_all : (all after : List Version) (keys : Keys) → IsKeyOf (current_range keys 0) v.key → IsAbove all v.stamp → Adds all v after → NodeRepresentsIn s all level keys page → Became t after level keys page new
+  pub others : (all : List Version) (keys : Keys) → NodeRepresentsIn s all level keys page → KeepsOthers s.nodes t.nodes s.limit level keys
 
 -- from one store to the next, one page is written and nothing else
 pub record Writes (s t : Store) (page : ℕ) (node : PageNode) : Type 0 where

@@ -70,11 +70,11 @@ pub record AreChildren (keys : Keys) (children : List Child) : Type 0 where
 
 -- A page of a level represents the versions of its keys: at level 1 a column, above it a key node each of whose children, one level
 -- lower, represents the versions of its own keys.
-pub data Represents (nodes : ℕ → Option PageNode) (limit : ℕ) (blocks : ℕ → Option BlockNode) (next : ℕ) (all : List Version) : ℕ → Keys → ℕ → Type 0 where
-  column : (keys : Keys) (page : ℕ) → ColumnRepresents nodes limit blocks next all keys page → Represents nodes limit blocks next all 1 keys page
+pub data NodeRepresents (nodes : ℕ → Option PageNode) (limit : ℕ) (blocks : ℕ → Option BlockNode) (next : ℕ) (all : List Version) : ℕ → Keys → ℕ → Type 0 where
+  column : (keys : Keys) (page : ℕ) → ColumnRepresents nodes limit blocks next all keys page → NodeRepresents nodes limit blocks next all 1 keys page
   key_node : (level : ℕ) (keys : Keys) (page : ℕ) (children : List Child) → page < limit → nodes page ≡ Some (KeyNode (suc level) keys children) → AreChildren keys children
-      → ((inner : Keys) (child : Child) → IsChildOf keys children inner child → Represents nodes limit blocks next all level inner child.page)
-      → Represents nodes limit blocks next all (suc level) keys page
+      → ((inner : Keys) (child : Child) → IsChildOf keys children inner child → NodeRepresents nodes limit blocks next all level inner child.page)
+      → NodeRepresents nodes limit blocks next all (suc level) keys page
 
 -- what the pages and the settled blocks represent, and up to where each are in use
 pub record Store : Type 0 where
@@ -84,8 +84,8 @@ pub record Store : Type 0 where
   pub next : ℕ
 
 -- the page stands, by what a store represents
-abbrev pub RepresentsIn : Store → List Version → ℕ → Keys → ℕ → Type 0
-RepresentsIn s all level keys page = Represents s.nodes s.limit s.blocks s.next all level keys page
+abbrev pub NodeRepresentsIn : Store → List Version → ℕ → Keys → ℕ → Type 0
+NodeRepresentsIn s all level keys page = NodeRepresents s.nodes s.limit s.blocks s.next all level keys page
 
 -- all keys that there are
 abbrev pub all_keys : Keys
@@ -96,7 +96,7 @@ all_keys = record { low = 0; high = key_end }
 pub record TreeRepresents (s : Store) (all : List Version) (root level : ℕ) : Type 0 where
   pub some_level : 1 ≤ level
   pub few_levels : level ≤ 7
-  pub represents_all : RepresentsIn s all level all_keys root
+  pub represents_all : NodeRepresentsIn s all level all_keys root
   pub rising : IsRising all
   pub in_keys : (v : Version) → Has all v → v.key < key_end
   pub in_time : (v : Version) → Has all v → v.stamp < stamp_end

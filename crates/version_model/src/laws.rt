@@ -10,7 +10,7 @@ ghost use Rattle.version_model.specs.Ranges.{Range, IsKeyOf, IsPoint, until, sin
 ghost use Rattle.version_model.specs.LeafVersions.{LeafRepresents, IsBefore, IsFrom, IsBelow, IsFromKey};
 ghost use Rattle.version_model.specs.Looks.{NoneWithin, Reached, IsReached, reached_to, is_of, IsPart};
 ghost use Rattle.version_model.specs.Blocks.{BlockNode, OldLeaf, OldColumn, PartRepresents, Grows};
-ghost use Rattle.version_model.specs.Pages.{Keys, KeyNode, PageNode, PartsRepresent, Represents, Store, RepresentsIn, TreeRepresents, all_keys, past_range, current_range};
+ghost use Rattle.version_model.specs.Pages.{Keys, KeyNode, PageNode, PartsRepresent, NodeRepresents, Store, NodeRepresentsIn, TreeRepresents, all_keys, past_range, current_range};
 ghost use Rattle.version_model.specs.Inserts.{KeepsUnder, Splits, Writes};
 ghost use Rattle.version_model.specs.Sizes.{octets, octets_below, IsSplitPoint, IsSingle, AreSmall};
 ghost use Rattle.version_model.specs.Counts.{PartCounts, NodeCounts, count_in};
@@ -107,11 +107,11 @@ pub fn pasts_represent_on()
 /// that don't lie under it represent then.
 pub fn nodes_represent_on()
     ensures grows { (nodes : ℕ → Option PageNode) (limit : ℕ) (old new : ℕ → Option BlockNode) (next further : ℕ) (all : List Version) (level : ℕ) (keys : Keys) (page : ℕ)
-        → Grows old new → next ≤ further → Represents nodes limit old next all level keys page → Represents nodes limit new further all level keys page }
+        → Grows old new → next ≤ further → NodeRepresents nodes limit old next all level keys page → NodeRepresents nodes limit new further all level keys page }
     ensures elsewhere { (s t : Store) (all new : List Version) (v : Version) (level : ℕ) (keys : Keys) (page : ℕ)
         → Adds all v new → IsAbove all v.stamp → Grows s.blocks t.blocks → s.next ≤ t.next → s.limit ≤ t.limit
         → keys.low < keys.high → (IsKeyOf (current_range keys 0) v.key → ⊥) → KeepsUnder s.nodes t.nodes s.limit level keys
-        → RepresentsIn s all level keys page → RepresentsIn t new level keys page }
+        → NodeRepresentsIn s all level keys page → NodeRepresentsIn t new level keys page }
 {}
 
 /// A key node takes a version as its child of the version's key does: if the child stays one, and if it becomes two and

@@ -6,7 +6,7 @@ use Rattle.version_model.specs.declared.child.Child.{Child}
 use Rattle.version_model.specs.Versions.{Version}
 use Rattle.version_model.specs.Ranges.{IsKeyOf}
 use Rattle.version_model.specs.Blocks.{BlockNode}
-use Rattle.version_model.specs.Pages.{Keys, PageNode, ColumnNode, KeyNode, Represents, key_node, IsChildOf, AreChildren, child_keys, low_or, current_range, Store, column}
+use Rattle.version_model.specs.Pages.{Keys, PageNode, ColumnNode, KeyNode, NodeRepresents, key_node, IsChildOf, AreChildren, child_keys, low_or, current_range, Store, column}
 use Rattle.version_model.specs.Inserts.{KeepsOthers}
 use Rattle.version_model.specs.inner.Children.{Inserts}
 use Rattle.version_model.proofs.api.TreeKept.{Elsewhere, represents_kept}
@@ -40,7 +40,7 @@ module _ (keys : Keys) (children : List Child) (are : AreChildren keys children)
 module _ (nodes nodes' : ℕ → Option PageNode) (limit limit' : ℕ) (old old' : ℕ → Option BlockNode) (next next' : ℕ) (all new : List Version) (v : Version) (else' : Elsewhere nodes nodes' limit limit' old old' next next' all new v) where
   -- the other children stand on
   pub others_represent_all : (level : ℕ) (keys : Keys) (children : List Child) (inner : Keys) (child : Child) → AreChildren keys children → (place : IsChildOf keys children inner child) → IsKeyOf (current_range inner 0) v.key → KeepsOthers nodes nodes' limit level inner
-      → (s : Keys) (other : Child) (is : IsChildOf keys children s other) → (is.place < place.place) ⊎ (place.place < is.place) → Represents nodes limit old next all level s other.page → Represents nodes' limit' old' next' new level s other.page
+      → (s : Keys) (other : Child) (is : IsChildOf keys children s other) → (is.place < place.place) ⊎ (place.place < is.place) → NodeRepresents nodes limit old next all level s other.page → NodeRepresents nodes' limit' old' next' new level s other.page
   others_represent_all level keys children inner child are place of_key keeps s other is apart_places represents_all =
       let apart_keys : (s.high ≤ inner.low) ⊎ (inner.high ≤ s.low) = elim apart_places [
         | inl lt ↦ inl (disjoint keys children are s inner other child is place lt)
@@ -55,9 +55,9 @@ module _ (nodes nodes' : ℕ → Option PageNode) (limit limit' : ℕ) (old old'
   -- a child that took the version and stayed one
   pub key_node_one : (level : ℕ) (keys : Keys) (page : ℕ) (children : List Child) (inner : Keys) (child : Child) → page < limit → nodes page ≡ Some (KeyNode (suc level) keys children) → AreChildren keys children
       → (place : IsChildOf keys children inner child) → IsKeyOf (current_range inner 0) v.key → KeepsOthers nodes nodes' limit level inner
-      → ((s : Keys) (other : Child) → IsChildOf keys children s other → Represents nodes limit old next all level s other.page)
-      → Represents nodes' limit' old' next' new level inner child.page
-      → Represents nodes' limit' old' next' new (suc level) keys page
+      → ((s : Keys) (other : Child) → IsChildOf keys children s other → NodeRepresents nodes limit old next all level s other.page)
+      → NodeRepresents nodes' limit' old' next' new level inner child.page
+      → NodeRepresents nodes' limit' old' next' new (suc level) keys page
   key_node_one level keys page children inner child in_limit at are place of_key keeps stand became =
       key_node level keys page children (omega (arith, else'.limit_grows)) (keeps page _ in_limit at (λ under. omega (arith, under.no_higher))) are
       (λ s other is. elim (cases_order is.place place.place) [
@@ -71,11 +71,11 @@ pub record KeyRepresents (nodes : ℕ → Option PageNode) (limit : ℕ) (old : 
   pub in_limit : page < limit
   pub at : nodes page ≡ Some (KeyNode (suc level) keys children)
   pub are : AreChildren keys children
-  pub stand : (inner : Keys) (child : Child) → IsChildOf keys children inner child → Represents nodes limit old next all level inner child.page
+  pub stand : (inner : Keys) (child : Child) → IsChildOf keys children inner child → NodeRepresents nodes limit old next all level inner child.page
 
 -- a page that reads as a key node and stands is one of its level, and its children stand
 module _ (nodes : ℕ → Option PageNode) (limit : ℕ) (old : ℕ → Option BlockNode) (next : ℕ) (all : List Version) where
-  pub key_represents : (m : ℕ) (keys : Keys) (page : ℕ) (level : ℕ) (wide : Keys) (children : List Child) → nodes page ≡ Some (KeyNode (suc level) wide children) → Represents nodes limit old next all m keys page
+  pub key_represents : (m : ℕ) (keys : Keys) (page : ℕ) (level : ℕ) (wide : Keys) (children : List Child) → nodes page ≡ Some (KeyNode (suc level) wide children) → NodeRepresents nodes limit old next all m keys page
       → (m ≡ suc level) × KeyRepresents nodes limit old next all level keys page children
   key_represents _ _ _ level wide children at (column keys page c) =
       let node : ColumnNode keys c.parts c.start c.current ≡ KeyNode (suc level) wide children = same_Some _ _ (sym c.at ∙ at) in

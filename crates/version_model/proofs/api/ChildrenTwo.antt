@@ -6,7 +6,7 @@ use Rattle.std.proofs.lemmas.Option.{same_Some, none-some, slice_get_within}
 use Rattle.version_model.specs.declared.child.Child.{Child}
 use Rattle.version_model.specs.Versions.{Version}
 use Rattle.version_model.specs.Blocks.{BlockNode}
-use Rattle.version_model.specs.Pages.{Keys, PageNode, KeyNode, Represents, column, key_node, IsChildOf, AreChildren, child_keys, low_or}
+use Rattle.version_model.specs.Pages.{Keys, PageNode, KeyNode, NodeRepresents, column, key_node, IsChildOf, AreChildren, child_keys, low_or}
 use Rattle.version_model.specs.Inserts.{LocatedUnder}
 
 pub get-insert_below : {X : Type 0} (xs : List X) (i k : ℕ) (y : X) → k < i → i ≤ length xs → slice_get (insert xs i y) k ≡ slice_get xs k
@@ -31,7 +31,7 @@ module _ (nodes nodes' : ℕ → Option PageNode) (limit limit' : ℕ) (old : �
   abbrev pub SameUnder : ℕ → Keys → Type 0
   SameUnder level keys = (page : ℕ) (node : PageNode) → page < limit → nodes page ≡ Some node → LocatedUnder level keys node → nodes' page ≡ Some node
 
-  pub represents_framed : (level : ℕ) (keys : Keys) (page : ℕ) → keys.low < keys.high → SameUnder level keys → Represents nodes limit old next all level keys page → Represents nodes' limit' old next all level keys page
+  pub represents_framed : (level : ℕ) (keys : Keys) (page : ℕ) → keys.low < keys.high → SameUnder level keys → NodeRepresents nodes limit old next all level keys page → NodeRepresents nodes' limit' old next all level keys page
   represents_framed _ _ _ nonempty same (column keys page c) = column keys page (record {
     parts = c.parts;
     current = c.current;
@@ -113,8 +113,8 @@ module _ (nodes nodes' : ℕ → Option PageNode) (limit limit' : ℕ) (old : �
   pub key_node_written : (level : ℕ) (keys : Keys) (page : ℕ) (children : List Child) → page < limit' → AreChildren keys children
       → ((p : ℕ) (node : PageNode) → p < limit → nodes p ≡ Some node → LocatedUnder level keys node → nodes' p ≡ Some node)
       → nodes' page ≡ Some (KeyNode (suc level) keys children)
-      → ((inner : Keys) (child : Child) → IsChildOf keys children inner child → Represents nodes limit old next all level inner child.page)
-      → Represents nodes' limit' old next all (suc level) keys page
+      → ((inner : Keys) (child : Child) → IsChildOf keys children inner child → NodeRepresents nodes limit old next all level inner child.page)
+      → NodeRepresents nodes' limit' old next all (suc level) keys page
   key_node_written level keys page children in_limit are same at stand = key_node level keys page children in_limit at are
       (λ inner child is. (let h = are.inside inner child is in
       represents_framed nodes nodes' limit limit' old next all grows level inner child.page h.1

@@ -8,7 +8,7 @@ use Rattle.version_model.specs.Versions.{Version, Has, IsRising}
 use Rattle.version_model.specs.Ranges.{Range, stamp_end}
 use Rattle.version_model.specs.LeafVersions.{LeafRepresents}
 use Rattle.version_model.specs.Blocks.{BlockNode, PartRepresents, AreParts, range_at, start_or}
-use Rattle.version_model.specs.Pages.{Keys, PageNode, Represents, PartsRepresent, past_range, current_range, AreChildren, child_keys, low_or, Store, TreeRepresents, all_keys}
+use Rattle.version_model.specs.Pages.{Keys, PageNode, NodeRepresents, PartsRepresent, past_range, current_range, AreChildren, child_keys, low_or, Store, TreeRepresents, all_keys}
 use Rattle.version_model.proofs.api.LooksShown.{rising_one, filter_has, has_filter, filter_rising}
 use Rattle.version_model.specs.Counts.{is_within, count_in, sum_of, PartCounts, leaf_counts, parts_count, NodeCounts, column_counts, children_count, all_stamps}
 use Rattle.version_model.proofs.api.Representing.{leaf_represents_all, column_represents_all, shows_both, RepresentsBoth}
@@ -180,7 +180,7 @@ follow_keys : (k : Keys) (children : List Child) → AreChildren k children → 
 follow_keys k children are = record { fit = λ i child at. (let h = are.inside (child_keys k children i child) child (record { place = i; at = at; range = refl }) in (omega (arith, h.1), h.2)) }
 
 -- what is counted under a page that stands is how many versions its keys have
-pub node_counted : (nodes : ℕ → Option PageNode) (limit : ℕ) (old : ℕ → Option BlockNode) (next : ℕ) (all : List Version) → IsRising all → (level : ℕ) (k : Keys) (page n : ℕ) → NodeCounts nodes limit old next level k page n → Represents nodes limit old next all level k page → n ≡ count_in all (all_stamps k)
+pub node_counted : (nodes : ℕ → Option PageNode) (limit : ℕ) (old : ℕ → Option BlockNode) (next : ℕ) (all : List Version) → IsRising all → (level : ℕ) (k : Keys) (page n : ℕ) → NodeCounts nodes limit old next level k page n → NodeRepresents nodes limit old next all level k page → n ≡ count_in all (all_stamps k)
 node_counted nodes limit old next all rising _ _ _ _ (column_counts k page parts current start versions ns in_limit current_in_limit in_time at at_current rising_leaf are same each) represents_all =
     let both : RepresentsBoth nodes limit old next all k parts start versions = shows_both nodes limit old next all 1 k k k page parts current start start versions refl at at_current represents_all in
     let past = past_counted old next all rising k start parts ns are same each both.past in

@@ -3,7 +3,7 @@ use Rattle.std.proofs.Common.{ℕ, ◌≤◌, inl, inr, List, Option, arith}
 use Rattle.version_model.specs.declared.part.Part.{Part}
 use Rattle.version_model.specs.Versions.{Version}
 use Rattle.version_model.specs.Blocks.{BlockNode, Grows}
-use Rattle.version_model.specs.Pages.{Keys, PageNode, PartsRepresent, Represents, column, key_node}
+use Rattle.version_model.specs.Pages.{Keys, PageNode, PartsRepresent, NodeRepresents, column, key_node}
 use Rattle.version_model.proofs.api.PastKept.{PartRepresents-grows}
 
 module _ (old new : ℕ → Option BlockNode) (next next' : ℕ) (all : List Version) (grows : Grows old new) (further : next ≤ next') where
@@ -16,8 +16,8 @@ module _ (old new : ℕ → Option BlockNode) (next next' : ℕ) (all : List Ver
     stand = λ s part is. PartRepresents-grows old new all grows s part (past.stand s part is);
   }
 
-  pub Represents-grows : (nodes : ℕ → Option PageNode) (limit level : ℕ) (keys : Keys) (page : ℕ) → Represents nodes limit old next all level keys page → Represents nodes limit new next' all level keys page
-  Represents-grows nodes limit _ _ _ (column keys page c) = column keys page (record {
+  pub NodeRepresents-grows : (nodes : ℕ → Option PageNode) (limit level : ℕ) (keys : Keys) (page : ℕ) → NodeRepresents nodes limit old next all level keys page → NodeRepresents nodes limit new next' all level keys page
+  NodeRepresents-grows nodes limit _ _ _ (column keys page c) = column keys page (record {
     parts = c.parts;
     current = c.current;
     start = c.start;
@@ -30,4 +30,4 @@ module _ (old new : ℕ → Option BlockNode) (next next' : ℕ) (all : List Ver
     past = PartsRepresent-grows keys c.start c.parts c.past;
     started = c.started;
   })
-  Represents-grows nodes limit _ _ _ (key_node level keys page children in_limit at are stand) = key_node level keys page children in_limit at are (λ inner child is. Represents-grows nodes limit level inner child.page (stand inner child is))
+  NodeRepresents-grows nodes limit _ _ _ (key_node level keys page children in_limit at are stand) = key_node level keys page children in_limit at are (λ inner child is. NodeRepresents-grows nodes limit level inner child.page (stand inner child is))

@@ -6,7 +6,7 @@ use Rattle.std.proofs.lemmas.Option.{same_Some}
 use Rattle.version_model.specs.declared.child.Child.{Child}
 use Rattle.version_model.specs.Versions.{Version, IsAbove, Adds}
 use Rattle.version_model.specs.Ranges.{IsKeyOf}
-use Rattle.version_model.specs.Pages.{Keys, PageNode, KeyNode, Store, RepresentsIn, IsChildOf, child_keys, low_or, current_range}
+use Rattle.version_model.specs.Pages.{Keys, PageNode, KeyNode, Store, NodeRepresentsIn, IsChildOf, child_keys, low_or, current_range}
 use Rattle.version_model.specs.Inserts.{LocatedUnder, KeepsOthers, Splits, Writes}
 use Rattle.version_model.specs.inner.Children.{Inserts}
 use Rattle.version_model.proofs.api.Children.{key_represents, KeyRepresents, others_represent_all, Inserts-child}
@@ -20,7 +20,7 @@ module _ (s t u : Store) (v : Version) (level page : ℕ) (wide : Keys) (childre
   under_end high None is lt = lt
   under_end high (Some c) is lt = up_to c is
 
-  module _ (all : List Version) (keys : Keys) (represents_all : RepresentsIn s all (suc level) keys page) where
+  module _ (all : List Version) (keys : Keys) (represents_all : NodeRepresentsIn s all (suc level) keys page) where
     k : KeyRepresents s.nodes s.limit s.blocks s.next all level keys page children
     k = (key_represents s.nodes s.limit s.blocks s.next all (suc level) keys page level wide children at represents_all).1
 
@@ -51,7 +51,7 @@ module _ (s t u : Store) (v : Version) (level page : ℕ) (wide : Keys) (childre
       | inr ne ↦ writes.others p ne ∙ at_node
     ]
 
-    put_represents : (after : List Version) → IsKeyOf (current_range keys 0) v.key → IsAbove all v.stamp → Adds all v after → RepresentsIn u after (suc level) keys page
+    put_represents : (after : List Version) → IsKeyOf (current_range keys 0) v.key → IsAbove all v.stamp → Adds all v after → NodeRepresentsIn u after (suc level) keys page
     unfolding place
     put_represents after of_key above adds =
         let inner : Keys = child_keys keys children i child in

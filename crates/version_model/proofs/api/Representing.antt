@@ -8,7 +8,7 @@ use Rattle.version_model.specs.Versions.{Version}
 use Rattle.version_model.specs.Ranges.{Range}
 use Rattle.version_model.specs.LeafVersions.{LeafRepresents}
 use Rattle.version_model.specs.Blocks.{BlockNode, OldLeaf, OldColumn, IsWider, IsPartOf, AreParts, PartRepresents, by_leaf, by_parts}
-use Rattle.version_model.specs.Pages.{Keys, PageNode, CurrentLeaf, ColumnNode, KeyNode, current_range, PartsRepresent, ColumnRepresents, child_keys, IsChildOf, AreChildren, Represents, column, key_node}
+use Rattle.version_model.specs.Pages.{Keys, PageNode, CurrentLeaf, ColumnNode, KeyNode, current_range, PartsRepresent, ColumnRepresents, child_keys, IsChildOf, AreChildren, NodeRepresents, column, key_node}
 
 pub record LeafCovers (all : List Version) (r wide : Range) (part : Part) (versions : List Version) : Type 0 where
   pub kind : part.kind ≡ LeafBlock
@@ -44,12 +44,12 @@ module _ (old : ℕ → Option BlockNode) (all : List Version) where
 
 module _ (nodes : ℕ → Option PageNode) (limit : ℕ) (blocks : ℕ → Option BlockNode) (next : ℕ) (all : List Version) where
   -- no page of level 0 stands
-  level_some : (m : ℕ) (k : Keys) (page : ℕ) → Represents nodes limit blocks next all m k page → 0 < m
+  level_some : (m : ℕ) (k : Keys) (page : ℕ) → NodeRepresents nodes limit blocks next all m k page → 0 < m
   level_some _ _ _ (column k page c) = omega arith
   level_some _ _ _ (key_node level k page children in_limit at are stand) = omega arith
 
   -- what stands at level 1 is a column
-  pub column_of : (m : ℕ) (k : Keys) (page : ℕ) → m ≡ 1 → Represents nodes limit blocks next all m k page → ColumnRepresents nodes limit blocks next all k page
+  pub column_of : (m : ℕ) (k : Keys) (page : ℕ) → m ≡ 1 → NodeRepresents nodes limit blocks next all m k page → ColumnRepresents nodes limit blocks next all k page
   column_of _ _ _ e (column k page c) = c
   column_of _ _ _ e (key_node level k page children in_limit at are stand) =
       absurd (omega (arith, e, level_some level (child_keys k children 0 are.first) are.first.page (stand (child_keys k children 0 are.first) are.first (record { place = 0; at = are.at_first; range = refl }))))
@@ -60,10 +60,10 @@ module _ (nodes : ℕ → Option PageNode) (limit : ℕ) (blocks : ℕ → Optio
     pub is : m ≡ suc level
     pub at : nodes page ≡ Some (KeyNode (suc level) k children)
     pub are : AreChildren k children
-    pub stand : (inner : Keys) (child : Child) → IsChildOf k children inner child → Represents nodes limit blocks next all level inner child.page
+    pub stand : (inner : Keys) (child : Child) → IsChildOf k children inner child → NodeRepresents nodes limit blocks next all level inner child.page
 
   -- what stands above level 1 is a key node
-  pub key_node_of : (m : ℕ) (k : Keys) (page : ℕ) → 1 < m → Represents nodes limit blocks next all m k page → IsKeyNode m k page
+  pub key_node_of : (m : ℕ) (k : Keys) (page : ℕ) → 1 < m → NodeRepresents nodes limit blocks next all m k page → IsKeyNode m k page
   key_node_of _ _ _ high (column k page c) = absurd (omega (arith, high))
   key_node_of _ _ _ high (key_node level k page children in_limit at are stand) = record { level = level; children = children; is = refl; at = at; are = are; stand = stand }
 
@@ -73,7 +73,7 @@ module _ (nodes : ℕ → Option PageNode) (limit : ℕ) (blocks : ℕ → Optio
 
   -- the current leaf that a column names shows what is from its start on, and the parts represent what was before
   pub shows_both : (m : ℕ) (k wide wide' : Keys) (page : ℕ) (parts : List Part) (current start start' : ℕ) (versions : List Version) → m ≡ 1 → nodes page ≡ Some (ColumnNode wide parts start current) → nodes current ≡ Some (CurrentLeaf wide' start' versions)
-      → Represents nodes limit blocks next all m k page → RepresentsBoth k parts start versions
+      → NodeRepresents nodes limit blocks next all m k page → RepresentsBoth k parts start versions
   shows_both m k wide wide' page parts current start start' versions low at at_current st =
       let c = column_of m k page low st in
       let node : ColumnNode k c.parts c.start c.current ≡ ColumnNode wide parts start current = same_Some _ _ (sym c.at ∙ at) in

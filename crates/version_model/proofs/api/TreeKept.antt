@@ -5,7 +5,7 @@ use Rattle.version_model.specs.declared.part.Part.{Part}
 use Rattle.version_model.specs.Versions.{Version, IsAbove, Adds}
 use Rattle.version_model.specs.Ranges.{IsKeyOf}
 use Rattle.version_model.specs.Blocks.{BlockNode, Grows}
-use Rattle.version_model.specs.Pages.{Keys, PageNode, PartsRepresent, ColumnRepresents, Represents, column, key_node, current_range}
+use Rattle.version_model.specs.Pages.{Keys, PageNode, PartsRepresent, ColumnRepresents, NodeRepresents, column, key_node, current_range}
 use Rattle.version_model.specs.Inserts.{LocatedUnder}
 use Rattle.version_model.proofs.api.Shown.{LeafRepresents-outside}
 use Rattle.version_model.proofs.api.PastKept.{PartRepresents-grows, PartRepresents-later}
@@ -54,7 +54,7 @@ module _ (nodes nodes' : ℕ → Option PageNode) (limit limit' : ℕ) (old old'
     started = λ s above. c.started s (λ w has. above w (else'.adds.keeps w has));
   }
 
-  pub represents_kept : (level : ℕ) (keys : Keys) (page : ℕ) → keys.low < keys.high → (IsKeyOf (current_range keys 0) v.key → ⊥) → Same level keys → Represents nodes limit old next all level keys page → Represents nodes' limit' old' next' new level keys page
+  pub represents_kept : (level : ℕ) (keys : Keys) (page : ℕ) → keys.low < keys.high → (IsKeyOf (current_range keys 0) v.key → ⊥) → Same level keys → NodeRepresents nodes limit old next all level keys page → NodeRepresents nodes' limit' old' next' new level keys page
   represents_kept _ _ _ nonempty away same (column keys page represents_all) = column keys page (column_kept keys page nonempty away same represents_all)
   represents_kept _ _ _ nonempty away same (key_node level keys page children in_limit at are stand) =
       key_node level keys page children (omega (arith, else'.limit_grows)) (same page _ in_limit at (record { no_higher = omega arith; low = omega arith; nonempty = nonempty; high = omega arith })) are

@@ -1,12 +1,16 @@
-use Rattle.std.proofs.Common.{subst, sym}
-use Rattle.disk_archive.specs.Archives.{GoesOn}
-use Rattle.disk_commands.proofs.Keeping.{kept_on}
+use Rattle.std.proofs.Common.{string_bytes, rules, subst, sym}
+use Rattle.route_meaning.specs.History.{Begins, History}
+use Rattle.route_meaning.proofs.api.Beginning.{Begins-refl}
+use Rattle.disk_commands.specs.Disks.{Leave, Represent}
+use Rattle.disk_commands.proofs.Outcomes.{if_so, written}
+use Rattle.service.specs.Running.{IsLineAsked}
 use Rattle.disk_commands.proofs.asking.ask_on.Goals as goal
 
-pub returns-in-Ok-clause-answered : goal.returns-in-Ok-clause-answered
-returns-in-Ok-clause-answered g c = λ h r.
-    let on = (c.in-Ok.ensures.represents h r).0 in
-    (c.ask_line-status.ensures.ended h on, c.close_disks-disks.ensures.left h (subst (λ x. GoesOn x h) (sym c.into_archive.ensures.same) (c.ask_line-status.ensures.kept h on).goes_on))
+pub returns-clause-answered : goal.returns-clause-answered
+returns-clause-answered g c =
+    written c.run_on.result.outcome (λ status out err. (h : History) → Represent g.E.EraseDisk g.O.OnceDisk c.args.disks h → IsLineAsked (string_bytes c.args.asked.now.line) h status c.args.out.now out c.args.err.now err × Leave g.E.EraseDisk g.O.OnceDisk c.run_on.result.disks c.run_on.result.is_read h)
+    c.run_on.new.command.out.now c.run_on.new.command.err.now (search rules) (search rules) c.run_on.ensures.always
+    (if_so c.run_on.result.outcome _ _ (λ status ran h r. let did = ran h r in (did.1.0, subst (Leave g.E.EraseDisk g.O.OnceDisk c.run_on.result.disks c.run_on.result.is_read) did.1.1 did.2)) c.run_on.ensures.ran)
 
-pub returns-in-Ok-clause-kept : goal.returns-in-Ok-clause-kept
-returns-in-Ok-clause-kept g c = kept_on g.E.EraseDisk g.O.OnceDisk c.args.disks c.close_disks-disks.result.0 (λ h r. (returns-in-Ok-clause-answered g c h r).1.keep)
+pub returns-clause-kept : goal.returns-clause-kept
+returns-clause-kept g c = c.run_on.ensures.goes_on (λ most h k status did. subst (Begins h) (sym did.1) (Begins-refl h))

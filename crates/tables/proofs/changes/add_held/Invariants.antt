@@ -1,5 +1,5 @@
 use Rattle.route_meaning.specs.History.{History}
-use Rattle.tables.proofs.changes.held_before.Given as goal
+use Rattle.tables.proofs.changes.add_held.Given as goal
 
 abbrev pub invariant-rows : goal.invariant-rows
 invariant-rows g l = (h : History) → g.A.RouteSource.represents l.initial.archive h → g.A.RouteSource.represents l.archive h
