@@ -1,4 +1,3 @@
 mod Keeping
-mod Loads
 mod Outcomes
 pub mod api

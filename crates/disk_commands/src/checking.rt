@@ -18,11 +18,13 @@ use service::{Output, check_archive};
 use std::alloc::Global;
 use std::io::Write;
 
-/// All that is kept is read.
+/// The command that reads all that is kept.
 #[derive(Drop)]
-struct CheckAll<'o, 'e, W: Write, X: Write> {
-    out: &'o mut Output<W>,
-    err: &'e mut Output<X>,
+pub struct CheckAll<'o, 'e, W: Write, X: Write> {
+    /// Where how many versions there are is printed, or what is damaged.
+    pub out: &'o mut Output<W>,
+    /// Where it is printed that not all could be written.
+    pub err: &'e mut Output<X>,
 }
 
 impl<A: RouteArchive, W: Write, X: Write> Command<A> for CheckAll<'_, '_, W, X> {

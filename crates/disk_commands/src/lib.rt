@@ -50,7 +50,7 @@ mod opening;
 mod running;
 
 pub use asking::ask_on;
-pub use checking::check_on;
+pub use checking::{CheckAll, check_on};
 pub use command::Command;
 pub use creating::create_on;
 pub use disks::{Disks, Ended};

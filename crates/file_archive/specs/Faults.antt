@@ -1,5 +1,6 @@
 -- Why no archive is created, or opened.
 use Rattle.std.specs.Prelude.{◌≡◌, ◌≢◌, ◌⊎◌}
+use Rattle.disk_archive.specs.Openings.{IsFaultOrMemory}
 use Rattle.disk_archive.specs.declared.create_error.CreateError.TheVariants as creations
 use Rattle.disk_files.specs.declared.error.FileError.{FileError}
 use Rattle.disk_files.specs.declared.error.Part.TheVariants.{Pages}
@@ -31,6 +32,12 @@ abbrev pub IsUnopened : OpenFault → Type 0
 IsUnopened (faults.File why) = AreFilesUnopened why
 IsUnopened (faults.Archive why) = Unit {0}
 IsUnopened (faults.Failed failure) = Unit {0}
+
+-- why one isn't opened that stands on the disks: a device failed, or memory ran out
+abbrev pub IsUnread : OpenFault → Type 0
+IsUnread (faults.File why) = ⊥
+IsUnread (faults.Archive why) = IsFaultOrMemory why
+IsUnread (faults.Failed failure) = Unit {0}
 
 -- a file was to be written that is shared
 abbrev pub NeedsAlone : OpenFault → Type 0

@@ -15,6 +15,7 @@ use crate::files::{FileArchive, FileReasons};
 use crate::folder::MadeFolder;
 use archive_pages::Settings;
 use disk_archive::{Archive, CreateError, Refused};
+use disk_commands::Disks;
 use disk_files::{FileError, Part};
 use std::alloc::Global;
 use std::fs::File;
@@ -39,12 +40,8 @@ fn create_in<R: Files<File = File>>(
     ensures no_blocks { ¬ AreBlocks blocks → IsErr result }
     ensures uncreated { AreBlocks blocks → IfErr result IsUncreated }
 {
-    let FileDisks {
-        erase,
-        once,
-        pen,
-        failures,
-    } = FileDisks::create(alloc, files, folder, size, blocks)?;
+    let FileDisks { disks, failures } = FileDisks::create(alloc, files, folder, size, blocks)?;
+    let Disks { erase, once, pen } = disks;
     match Archive::create(alloc, erase, once, pen, settings) {
         Ok(archive) => Ok(FileArchive::new(archive, FileReasons { failures })),
         Err(

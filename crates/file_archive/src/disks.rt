@@ -11,6 +11,7 @@ ghost use Rattle.file_archive.specs.Faults.{AreFilesUnmade, AreFilesUnopened};
 use crate::faults::OpenFault;
 use crate::slots::check_slots;
 use disk_archive::OpenError;
+use disk_commands::Disks;
 use disk_files::{Access, Failures, FileErase, FileError, FileOnce, FilePen, Part};
 use std::alloc::{AllocError, Global};
 use std::fs::File;
@@ -30,9 +31,8 @@ const TOO_MANY_PAGES: u64 = 1 << 49;
 /// can.
 #[derive(Drop)]
 pub struct FileDisks {
-    pub(crate) erase: FileErase,
-    pub(crate) once: Arc<FileOnce>,
-    pub(crate) pen: FilePen,
+    /// Both disks, as a command is given them.
+    pub disks: Disks<FileErase, FileOnce>,
     pub(crate) failures: Arc<Failures>,
 }
 
@@ -82,9 +82,7 @@ impl FileDisks {
         let failures = note_both(alloc, folder, &mut erase, &mut pen);
         match (Arc::new(alloc, once), failures) {
             (Ok(once), Ok(failures)) => Ok(FileDisks {
-                erase,
-                once,
-                pen,
+                disks: Disks { erase, once, pen },
                 failures,
             }),
             _ => {
@@ -115,9 +113,7 @@ impl FileDisks {
         let failures = note_both(alloc, folder, &mut erase, &mut pen);
         match (Arc::new(alloc, once), failures) {
             (Ok(once), Ok(failures)) => Ok(FileDisks {
-                erase,
-                once,
-                pen,
+                disks: Disks { erase, once, pen },
                 failures,
             }),
             _ => Err(FileError::OutOfMemory),
@@ -137,7 +133,7 @@ impl FileDisks {
         ensures small { (result ≡ Err (OpenFault.Archive OpenError.NotAJournal)) ↔ (size_of (erase_in self.old) < slots_end) }
         ensures no_file { (why : FileError) → ¬ (result ≡ Err (OpenFault.File why)) }
     {
-        match check_slots(&mut self.erase) {
+        match check_slots(&mut self.disks.erase) {
             Ok(()) => Ok(()),
             Err(why) => Err(OpenFault::of(why, &self.failures)),
         }

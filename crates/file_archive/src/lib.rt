@@ -16,6 +16,7 @@ mod faults;
 mod files;
 mod folder;
 mod opening;
+mod running;
 mod slots;
 
 pub use creating::create;

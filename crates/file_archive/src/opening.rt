@@ -11,6 +11,7 @@ use crate::disks::FileDisks;
 use crate::faults::OpenFault;
 use crate::files::{FileArchive, FileReasons};
 use disk_archive::Archive;
+use disk_commands::Disks;
 use disk_files::{Access, FileError};
 use std::alloc::Global;
 use std::fs::File;
@@ -29,12 +30,8 @@ impl FileDisks {
         ensures noted { IfOk result (λ archive. FollowModels archive → IsNoted (site_in archive)) }
         ensures no_file { (why : FileError) → ¬ (result ≡ Err (OpenFault.File why)) }
     {
-        let FileDisks {
-            erase,
-            once,
-            pen,
-            failures,
-        } = self;
+        let FileDisks { disks, failures } = self;
+        let Disks { erase, once, pen } = disks;
         match Archive::open(alloc, erase, once, pen) {
             Ok(archive) => Ok(FileArchive::new(archive, FileReasons { failures })),
             Err(refused) => Err(OpenFault::of(refused.error, &failures)),

@@ -37,6 +37,14 @@ impl<'a, A: Applied, T: Eprint + Clock> WatchedArchive<'a, A, T> {
         }
     }
 
+    /// The archive, as it is now.
+    pub fn into_archive(self) -> A
+        ensures same { result ≡ watched self.entry }
+    {
+        let WatchedArchive { archive, .. } = self;
+        archive
+    }
+
     fn count_applied(&self) {
         let applied = self.archive.applied_count();
         self.meter

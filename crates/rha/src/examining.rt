@@ -1,14 +1,16 @@
 //! The command `info`: how far an archive has come, and how much room it has left.
 
-use crate::opening::{First, open_to_read};
-use archive_calls::{RouteArchive, RouteSource};
+ghost use Rattle.std.specs.Prelude.{◌≡◌};
+
+use crate::opening::{First, run_to_read, status_of};
+use archive_calls::RouteArchive;
 use archive_facts::{
     FIRST_LEN, Facts, HEAD_PLACE, JOURNAL_PAGES, OPEN_GATE, PAGE, SIZES_LEN, SLOTS, Sizes,
     first_change, gate_place,
 };
 use archive_head::Head;
+use disk_commands::Command;
 use disk_models::Page;
-use file_archive::FileArchive;
 use service::{
     Examining, Output, Refusal, Status, VERSION, finish, report_out_of_memory, report_outside,
     report_refusal,
@@ -72,11 +74,11 @@ fn first_time(pages: &File, once: &File, sizes: &Sizes, head: &Head) -> io::Resu
 }
 
 /// What the files of an archive's pages and blocks say, once no slot is open any more.
-fn facts_in(
+fn facts_in<A: RouteArchive>(
     alloc: Global,
     file: &File,
     once: &File,
-    archive: &FileArchive,
+    archive: &A,
     open: u64,
 ) -> Result<Facts, Unshown> {
     let mut octets = [0; SIZES_LEN];
@@ -129,30 +131,73 @@ fn open_file<E: Write>(rt: &HostRuntime, path: &str, err: &mut Output<E>) -> Opt
     }
 }
 
+/// The command that prints the facts about an archive.
+#[derive(Drop)]
+struct ShowFacts<'r, 'p, 'e, E: Write> {
+    rt: &'r HostRuntime,
+    asked: &'p Examining<'p>,
+    /// The files of its pages and blocks.
+    pages: &'p str,
+    once: &'p str,
+    /// How many slots were open before the archive was.
+    open: u64,
+    err: &'e mut Output<E>,
+}
+
+impl<E: Write> ShowFacts<'_, '_, '_, E> {
+    /// Prints what the files say while the archive is held. Returns the exit status.
+    fn print<A: RouteArchive>(&mut self, alloc: Global, archive: &A) -> u8 {
+        let (rt, asked) = (self.rt, self.asked);
+        let Some(file) = open_file(rt, self.pages, self.err) else {
+            return 1;
+        };
+        let Some(once) = open_file(rt, self.once, self.err) else {
+            return 1;
+        };
+        match facts_in(alloc, &file, &once, archive, self.open) {
+            Ok(facts) => show(rt, &facts, asked.json, self.err),
+            Err(Unshown::Failed(why)) => report_outside(
+                alloc,
+                self.err,
+                asked.folder,
+                "read",
+                &why,
+            ),
+            Err(Unshown::Refused(refusal)) => report_refusal(&refusal, self.err),
+        }
+    }
+}
+
+impl<A: RouteArchive, E: Write> Command<A> for ShowFacts<'_, '_, '_, E> {
+    ghost does = { λ was now most h g status. g ≡ h };
+
+    fn run(&mut self, alloc: Global, archive: A) -> (A, u8) {
+        let code = self.print(alloc, &archive);
+        (archive, code)
+    }
+}
+
 /// Prints how far the archive of a folder has come, and how much room it has left. Its slots are counted before it is opened, which
-/// closes them; what its files say is read while the archive is held.
+/// closes them.
 pub(crate) fn info<E: Write>(rt: &HostRuntime, asked: &Examining<'_>, err: &mut Output<E>) -> u8 {
     let alloc = rt.alloc();
-    let Ok(path) = format!(in alloc; "{}/pages.rha", asked.folder) else {
+    let Ok(pages) = format!(in alloc; "{}/pages.rha", asked.folder) else {
         return report_out_of_memory(err);
     };
-    let Ok(once_path) = format!(in alloc; "{}/once.rha", asked.folder) else {
+    let Ok(once) = format!(in alloc; "{}/once.rha", asked.folder) else {
         return report_out_of_memory(err);
     };
-    let before = File::open(rt, path.as_str());
+    let before = File::open(rt, pages.as_str());
     let slots = before.as_ref().ok().and_then(|it| open_slots(it).ok());
-    let Some(archive) = open_to_read(rt, asked.folder, asked.wait, First::Nothing, err) else {
-        return 1;
+    let mut command = ShowFacts {
+        rt,
+        asked,
+        pages: pages.as_str(),
+        once: once.as_str(),
+        open: slots.unwrap_or(0),
+        err: &mut *err,
     };
-    let Some(file) = open_file(rt, path.as_str(), err) else {
-        return 1;
-    };
-    let Some(once) = open_file(rt, once_path.as_str(), err) else {
-        return 1;
-    };
-    match facts_in(alloc, &file, &once, &archive, slots.unwrap_or(0)) {
-        Ok(facts) => show(rt, &facts, asked.json, err),
-        Err(Unshown::Failed(why)) => report_outside(alloc, err, asked.folder, "read", &why),
-        Err(Unshown::Refused(refusal)) => report_refusal(&refusal, err),
-    }
+    let (folder, wait) = (asked.folder, asked.wait);
+    let ended = run_to_read(rt, folder, wait, First::Nothing, &mut command);
+    status_of(rt, folder, ended, 1, err)
 }

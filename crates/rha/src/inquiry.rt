@@ -1,5 +1,7 @@
 //! What the commands that read whole tables ask of an archive.
 
+ghost use Rattle.route_meaning.specs.History.{History};
+
 use archive_calls::RouteSource;
 use progress::{ClearedWriter, RowMeter, WatchedSource};
 use route_model::Moment;
@@ -60,7 +62,9 @@ impl Inquiry {
         rt: &HostRuntime,
         archive: A,
         err: &mut Output<E>,
-    ) -> (A, u8) {
+    ) -> (A, u8)
+        ensures kept { (h : History) → A.represents archive h → A.represents result.0 h }
+    {
         let (alloc, is_seen) = (rt.alloc(), rt.stdout().is_terminal());
         let meter = RowMeter::new(self.is_waited_for(rt).then_some(rt));
         let seen_line = is_seen.then_some(meter.line());
@@ -84,7 +88,9 @@ impl Inquiry {
         is_seen: bool,
         out: &mut Output<W>,
         err: &mut Output<E>,
-    ) -> u8 {
+    ) -> u8
+        ensures kept { (h : History) → A.represents source.old h → A.represents source.new h }
+    {
         match self {
             Inquiry::Table(table) => tables::dump(alloc, source, table, is_seen, out, err),
             Inquiry::Peers(at) => tables::peers(alloc, source, *at, is_seen, out, err),

@@ -1,16 +1,21 @@
 //! The command `load`: files are loaded into the archive of a folder, one after another.
 
+ghost use Rattle.std.specs.Prelude.{◌≡◌, map};
+ghost use Rattle.service.specs.Running.{AreFilesLoaded};
+
 use crate::opening::open_disks;
 use crate::refusals::report_unopened;
 use crate::sizes::sizes_of;
 use crate::sources::Source;
 use advice::{FirstOctets, Loaded, NotedReader, Unread, advise, advise_load};
 use archive_calls::RouteArchive;
-use file_archive::FileArchive;
-use progress::{ClearedWriter, Meter, WatchedArchive, WatchedReader};
+use disk_commands::Command;
+use file_archive::FileDisks;
+use progress::{Applied, ClearedWriter, Meter, WatchedArchive, WatchedReader};
 use service::{
     FileLoad, Input, Loading, Output, load_files, report_lost, report_out_of_memory, report_outside,
 };
+use std::alloc::Global;
 use std::cell::Cell;
 use std::io::{BufWriter, IsTerminal, Read, Write};
 
@@ -77,10 +82,7 @@ pub(crate) fn load<'a, E: Write>(
             return code;
         }
     }
-    match disks.into_archive(alloc) {
-        Ok(archive) => load_into(rt, archive, asked, sources, &noted, err),
-        Err(fault) => report_unopened(rt, asked.folder, fault, err),
-    }
+    load_into(rt, disks, asked, sources, &noted, err)
 }
 
 /// Prints why a file couldn't be opened or read, if it couldn't.
@@ -142,11 +144,45 @@ fn advise_loaded<A: RouteArchive, R: Read, E: Write>(
     advise_unread(rt, names.get(begun..).unwrap_or(&[]), err);
 }
 
-/// Loads files into an archive that is open. Where standard error is a terminal, one line there says how far it has come, and is gone
+/// The command that loads files, while a line on a terminal says how far it has come, and then prints what a person may not expect.
+#[derive(Drop)]
+struct LoadShown<'l, 'c, 'm, R: Read, W: Write, X: Write, E: Write> {
+    rt: &'l HostRuntime,
+    asked: &'l Loading<'c>,
+    noted: &'l [Noted],
+    meter: &'m Meter<'m, HostRuntime>,
+    files: Vec<FileLoad<R>>,
+    out: Output<W>,
+    reported: Output<X>,
+    err: &'l mut Output<E>,
+}
+
+impl<A: RouteArchive + Applied, R: Read, W: Write, X: Write, E: Write> Command<A>
+    for LoadShown<'_, '_, '_, R, W, X, E> {
+    ghost does = { λ was now most h g status. AreFilesLoaded was.asked.now most h (map (λ f. record { input = f.input; report = f.report }) was.files.items) (map (λ f. record { input = f.input; report = f.report }) now.files.items) status (λ left. left ≡ g) was.out now.out was.reported now.reported };
+
+    fn run(&mut self, alloc: Global, archive: A) -> (A, u8) {
+        let mut archive = WatchedArchive::new(archive, self.meter);
+        let code = load_files(
+            alloc,
+            &mut archive,
+            self.asked,
+            self.files.as_mut_slice(),
+            &mut self.out,
+            &mut self.reported,
+        );
+        self.meter.line().clear();
+        let (asked, files) = (self.asked, self.files.as_slice());
+        advise_loaded(self.rt, &archive, asked, files, self.noted, self.err);
+        (archive.into_archive(), code)
+    }
+}
+
+/// Loads files into the archive of a folder. Where standard error is a terminal, one line there says how far it has come, and is gone
 /// before anything else is printed.
 fn load_into<'a, 'o, E: Write>(
     rt: &'a HostRuntime,
-    archive: FileArchive,
+    disks: FileDisks,
     asked: &Loading<'_>,
     sources: Vec<Source<'a, 'o>>,
     noted: &'o [Noted],
@@ -166,18 +202,18 @@ fn load_into<'a, 'o, E: Write>(
             return report_out_of_memory(err);
         }
     }
-    let mut archive = WatchedArchive::new(archive, &meter);
-    let mut out = Output::new(buffer);
-    let mut reported = Output::new(ClearedWriter::new(rt.stderr(), Some(meter.line())));
-    let code = load_files(
-        alloc,
-        &mut archive,
+    let mut command = LoadShown {
+        rt,
         asked,
-        files.as_mut_slice(),
-        &mut out,
-        &mut reported,
-    );
-    meter.line().clear();
-    advise_loaded(rt, &archive, asked, files.as_slice(), noted, err);
-    code
+        noted,
+        meter: &meter,
+        files,
+        out: Output::new(buffer),
+        reported: Output::new(ClearedWriter::new(rt.stderr(), Some(meter.line()))),
+        err: &mut *err,
+    };
+    match disks.run(alloc, &mut command).outcome {
+        Ok(code) => code,
+        Err(fault) => report_unopened(rt, asked.folder, fault, err),
+    }
 }

@@ -1,8 +1,9 @@
-//! The archive of a folder is opened for a command. If it is in use, the command may wait for it.
+//! The archive of a folder is opened, and a command runs over it. If the archive is in use, the command may wait for it.
 
 use crate::holder::advise_holder;
 use crate::refusals::report_unopened;
 use advice::advise;
+use disk_commands::Command;
 use disk_files::{Access, FileError};
 use file_archive::{FileArchive, FileDisks, OpenFault};
 use service::Output;
@@ -98,44 +99,67 @@ pub(crate) enum First {
     Slots,
 }
 
-/// The archive of a folder, whose files are held so.
-fn open_as(
+/// Runs a command over the archive of a folder, whose files are held so.
+fn run_as<C: Command<FileArchive>>(
     rt: &HostRuntime,
     folder: &str,
     access: Access,
     first: First,
-) -> Result<FileArchive, OpenFault> {
+    command: &mut C,
+) -> Result<u8, OpenFault> {
     let alloc = rt.alloc();
     let mut disks = FileDisks::open(alloc, rt, folder, access)?;
     if first == First::Slots {
         disks.check_slots()?;
     }
-    disks.into_archive(alloc)
+    disks.run(alloc, command).outcome
 }
 
-/// The archive of a folder, for a command that only reads it. Others may read it meanwhile; if something that a command that was cut
-/// off left has to be written first, no one else may.
-fn open_shared(rt: &HostRuntime, folder: &str, first: First) -> Result<FileArchive, OpenFault> {
-    match open_as(rt, folder, Access::Shared, first) {
-        Err(fault) if fault.needs_alone() => open_as(rt, folder, Access::Alone, first),
-        opened => opened,
+/// Runs a command that only reads the archive of a folder. Others may read it meanwhile; if something that a command that was cut off left
+/// has to be written first, no one else may.
+fn run_shared<C: Command<FileArchive>>(
+    rt: &HostRuntime,
+    folder: &str,
+    first: First,
+    command: &mut C,
+) -> Result<u8, OpenFault> {
+    match run_as(rt, folder, Access::Shared, first, command) {
+        Err(fault) if fault.needs_alone() => run_as(rt, folder, Access::Alone, first, command),
+        ended => ended,
     }
 }
 
-/// The archive of a folder, for a command that only reads it, within `wait` seconds. If it isn't opened, the reason is printed, and
-/// the exit status is 1.
-pub(crate) fn open_to_read<E: Write>(
+/// Runs a command that only reads the archive of a folder, within `wait` seconds: its exit status, or why the archive isn't opened.
+pub(crate) fn run_to_read<C: Command<FileArchive>>(
     rt: &HostRuntime,
     folder: &str,
     wait: u64,
     first: First,
+    command: &mut C,
+) -> Result<u8, OpenFault> {
+    let mut ended = run_shared(rt, folder, first, command);
+    for _ in 0..wait.saturating_mul(TRIES) {
+        if !matches!(&ended, Err(OpenFault::File(FileError::InUse(_)))) {
+            return ended;
+        }
+        thread::sleep(rt, Duration::from_millis(REST));
+        ended = run_shared(rt, folder, first, command);
+    }
+    ended
+}
+
+/// The exit status of a command that only reads. If the archive wasn't opened, the reason is printed, and it is `unopened`.
+pub(crate) fn status_of<E: Write>(
+    rt: &HostRuntime,
+    folder: &str,
+    ended: Result<u8, OpenFault>,
+    unopened: u8,
     err: &mut Output<E>,
-) -> Option<FileArchive> {
-    let opened = within(rt, wait, || open_shared(rt, folder, first));
-    let is_refused = matches!(&opened, Err(OpenFault::File(FileError::Failed(_))));
-    let archive = report_closed(rt, folder, opened, err);
+) -> u8 {
+    let is_refused = matches!(&ended, Err(OpenFault::File(FileError::Failed(_))));
+    let status = report_closed(rt, folder, ended, err);
     if is_refused && FileDisks::open(rt.alloc(), rt, folder, Access::Shared).is_ok() {
         advise(rt.alloc(), &UNENDED, err);
     }
-    archive
+    status.unwrap_or(unopened)
 }

@@ -11,7 +11,7 @@ use crate::sizes::why_no_archive;
 use archive_calls::RouteArchive;
 use disk_archive::{CreateError, OpenError};
 use disk_files::{Failure, FileError};
-use file_archive::{CreateFault, FileArchive, OpenFault};
+use file_archive::{CreateFault, OpenFault};
 use query_threads::Trouble;
 use server::trouble_of;
 use service::{
@@ -117,9 +117,9 @@ pub(crate) fn report_unmade<E: Write>(
 }
 
 /// Prints which call on a file failed, and why, for a question that isn't answered, if one failed. Standard output has the refusal.
-pub(crate) fn report_unanswered<E: Write>(
+pub(crate) fn report_unanswered<A: RouteArchive, E: Write>(
     alloc: Global,
-    archive: &FileArchive,
+    archive: &A,
     err: &mut Output<E>,
 ) {
     if let Some(why) = archive.failure(alloc) {

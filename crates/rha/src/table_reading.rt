@@ -1,11 +1,14 @@
 //! The commands that read whole tables, of the archive of a folder or of a server's. What they are asked for is read before that is opened.
 
+ghost use Rattle.std.specs.Prelude.{◌≡◌};
+
 use crate::inquiry::Inquiry;
-use crate::opening::{First, open_to_read};
+use crate::opening::{First, run_to_read, status_of};
 use crate::reaching::{reach, report_lapse};
 use crate::refusals::report_unanswered;
 use advice::{MarkAdvice, advise};
-use archive_calls::RouteSource;
+use archive_calls::{RouteArchive, RouteSource};
+use disk_commands::Command;
 use service::{Comparing, Dumping, Finding, Listing, Output, Refusal, Target, report_refusal};
 use std::alloc::Global;
 use std::io::Write;
@@ -46,6 +49,27 @@ fn advise_settled<A: RouteSource, E: Write>(
     }
 }
 
+/// The command that asks an archive, and prints what helps if something is refused.
+#[derive(Drop)]
+struct AskTables<'r, 'q, 'e, E: Write> {
+    rt: &'r HostRuntime,
+    inquiry: &'q Inquiry,
+    err: &'e mut Output<E>,
+}
+
+impl<A: RouteArchive + Drop, E: Write> Command<A> for AskTables<'_, '_, '_, E> {
+    ghost does = { λ was now most h g status. g ≡ h };
+
+    fn run(&mut self, alloc: Global, archive: A) -> (A, u8) {
+        let (archive, code) = self.inquiry.ask(self.rt, archive, self.err);
+        if code == self.inquiry.refused() {
+            report_unanswered(alloc, &archive, self.err);
+            advise_settled(alloc, &archive, self.inquiry, self.err);
+        }
+        (archive, code)
+    }
+}
+
 /// Asks the archive of a folder.
 fn ask_folder<E: Write>(
     rt: &HostRuntime,
@@ -54,15 +78,13 @@ fn ask_folder<E: Write>(
     inquiry: &Inquiry,
     err: &mut Output<E>,
 ) -> u8 {
-    let Some(archive) = open_to_read(rt, folder, wait, First::Nothing, err) else {
-        return inquiry.refused();
+    let mut command = AskTables {
+        rt,
+        inquiry,
+        err: &mut *err,
     };
-    let (archive, code) = inquiry.ask(rt, archive, err);
-    if code == inquiry.refused() {
-        report_unanswered(rt.alloc(), &archive, err);
-        advise_settled(rt.alloc(), &archive, inquiry, err);
-    }
-    code
+    let ended = run_to_read(rt, folder, wait, First::Nothing, &mut command);
+    status_of(rt, folder, ended, inquiry.refused(), err)
 }
 
 /// Asks the archive of a server.

@@ -13,7 +13,7 @@ struct Talk {
     code: u8,
 }
 
-const TALKS: [Talk; 11] = [
+const TALKS: [Talk; 14] = [
     Talk {
         words: "rha|find|--connect|127.0.0.1:1|10.0.0.0/8",
         replies: "S|100\n\
@@ -82,6 +82,40 @@ const TALKS: [Talk; 11] = [
              E|4\n",
         code: 0,
     },
+    // Of what is inside a prefix only the routes of peers whose session ended are read. The end is found at their places that didn't change.
+    Talk {
+        words: "rha|find|--connect|127.0.0.1:1|10.0.0.0/8|--more|--since|10|--until|20",
+        replies: "S|100\n\
+             C|0|192.0.2.1|1|10.1.0.0/16\n\
+             E|1\n\
+             R|0|192.0.2.1|1|10.1.0.0/16|1|IGP|192.0.2.1|||NAG||\n\
+             R|0|192.0.2.2|2|9.0.0.0/8|2|IGP|192.0.2.2|||NAG||\n\
+             E|2\n\
+             W|12\n\
+             E|1\n\
+             D|13\n\
+             E|1\n\
+             E|0\n\
+             R|0|192.0.2.2|2|10.2.0.0/16|2|IGP|192.0.2.2|||NAG||\n\
+             E|1\n\
+             W|12\n\
+             E|1\n\
+             D|13\n\
+             E|1\n",
+        asked: "watermark\n\
+             changed 10 20 10.0.0.0/8 10.255.255.255/32\n\
+             at 9 all\n\
+             history 10 20 0 192.0.2.1 1 10.1.0.0/16 skip 0\n\
+             history 10 20 0 192.0.2.2 2 9.0.0.0/8 skip 0\n\
+             at 9 all after 0 192.0.2.2 2 ffff:ffff:ffff:ffff:ffff:ffff:ffff:ffff/128\n\
+             at 9 peer 0 192.0.2.2 2\n\
+             history 10 20 0 192.0.2.1 1 10.1.0.0/16 skip 0\n\
+             history 10 20 0 192.0.2.2 2 10.2.0.0/16 skip 0\n",
+        printed: "W|12|0|192.0.2.1|1|10.1.0.0/16\n\
+             D|13|0|192.0.2.2|2|10.2.0.0/16\n\
+             E|2\n",
+        code: 0,
+    },
     Talk {
         words: "rha|find|--connect|127.0.0.1:1|2001:db8::/32|--more|--since|0|--until|0",
         replies: "S|1\nE|0\n",
@@ -114,9 +148,10 @@ const TALKS: [Talk; 11] = [
         printed: "P|0|192.0.2.1|1|2\nP|1|192.0.2.1|1|1\nE|2\n",
         code: 0,
     },
+    // Two tables an hour and a second apart are read side by side.
     Talk {
-        words: "rha|diff|--connect|127.0.0.1:1|5|9",
-        replies: "S|10\n\
+        words: "rha|diff|--connect|127.0.0.1:1|5|3606",
+        replies: "S|3607\n\
              R|0|192.0.2.1|1|10.0.0.0/8|1|IGP|192.0.2.1|||NAG||\n\
              R|0|192.0.2.1|1|11.0.0.0/8|1|IGP|192.0.2.1|||NAG||\n\
              E|2\n\
@@ -124,24 +159,78 @@ const TALKS: [Talk; 11] = [
              R|0|192.0.2.1|1|11.0.0.0/8|1|IGP|192.0.2.1|||NAG||\n\
              R|0|192.0.2.2|1|11.0.0.0/8|1|IGP|192.0.2.1|||NAG||\n\
              E|3\n",
-        asked: "watermark\nat 5 all\nat 9 all\n",
+        asked: "watermark\nat 5 all\nat 3606 all\n",
         printed: "~|0|192.0.2.1|1|10.0.0.0/8|1|IGP|192.0.2.1|||NAG|||1 2|IGP|192.0.2.1|||NAG||\n\
              +|0|192.0.2.2|1|11.0.0.0/8|1|IGP|192.0.2.1|||NAG||\n\
              E|2\n",
         code: 1,
     },
+    // Within an hour: which places changed, whose sessions ended, what these peers had; and then the routes of each place.
     Talk {
-        words: "rha|diff|--connect|127.0.0.1:1|5|9",
+        words: "rha|diff|--connect|127.0.0.1:1|5|3605",
+        replies: "S|3606\n\
+             C|0|192.0.2.1|1|10.0.0.0/8\n\
+             C|0|192.0.2.2|1|11.0.0.0/8\n\
+             E|2\n\
+             R|0|192.0.2.1|1|10.0.0.0/8|1|IGP|192.0.2.1|||NAG||\n\
+             R|0|192.0.2.1|1|11.0.0.0/8|1|IGP|192.0.2.1|||NAG||\n\
+             R|0|192.0.2.3|1|12.0.0.0/8|3|IGP|192.0.2.3|||NAG||\n\
+             E|3\n\
+             A|7|1 2|IGP|192.0.2.1|||NAG||\n\
+             E|1\n\
+             D|8\n\
+             E|1\n\
+             E|0\n\
+             R|0|192.0.2.3|1|12.0.0.0/8|3|IGP|192.0.2.3|||NAG||\n\
+             E|1\n\
+             R|0|192.0.2.1|1|10.0.0.0/8|1|IGP|192.0.2.1|||NAG||\n\
+             E|1\n\
+             R|0|192.0.2.1|1|10.0.0.0/8|1 2|IGP|192.0.2.1|||NAG||\n\
+             E|1\n\
+             E|0\n\
+             R|0|192.0.2.2|1|11.0.0.0/8|1|IGP|192.0.2.1|||NAG||\n\
+             E|1\n\
+             R|0|192.0.2.3|1|12.0.0.0/8|3|IGP|192.0.2.3|||NAG||\n\
+             E|1\n\
+             E|0\n",
+        asked: "watermark\n\
+             changed 6 3605 0.0.0.0/0 ffff:ffff:ffff:ffff:ffff:ffff:ffff:ffff/128\n\
+             at 5 all\n\
+             history 6 3605 0 192.0.2.1 1 10.0.0.0/8 skip 0\n\
+             history 6 3605 0 192.0.2.3 1 12.0.0.0/8 skip 0\n\
+             at 5 all after 0 192.0.2.3 1 ffff:ffff:ffff:ffff:ffff:ffff:ffff:ffff/128\n\
+             at 5 peer 0 192.0.2.3 1\n\
+             at 5 route 0 192.0.2.1 1 10.0.0.0/8\n\
+             at 3605 route 0 192.0.2.1 1 10.0.0.0/8\n\
+             at 5 route 0 192.0.2.2 1 11.0.0.0/8\n\
+             at 3605 route 0 192.0.2.2 1 11.0.0.0/8\n\
+             at 5 route 0 192.0.2.3 1 12.0.0.0/8\n\
+             at 3605 route 0 192.0.2.3 1 12.0.0.0/8\n",
+        printed: "~|0|192.0.2.1|1|10.0.0.0/8|1|IGP|192.0.2.1|||NAG|||1 2|IGP|192.0.2.1|||NAG||\n\
+             +|0|192.0.2.2|1|11.0.0.0/8|1|IGP|192.0.2.1|||NAG||\n\
+             -|0|192.0.2.3|1|12.0.0.0/8|3|IGP|192.0.2.3|||NAG||\n\
+             E|3\n",
+        code: 1,
+    },
+    Talk {
+        words: "rha|diff|--connect|127.0.0.1:1|5|9|--within|10.0.0.0/8",
         replies: "S|10\nE|0\nE|0\n",
-        asked: "watermark\nat 5 all\nat 9 all\n",
+        asked: "watermark\nchanged 6 9 10.0.0.0/8 10.255.255.255/32\nat 5 all\n",
         printed: "E|0\n",
         code: 0,
     },
     // A refusal comes after what was printed before it, and the next question is another connection's.
     Talk {
-        words: "rha|diff|--connect|127.0.0.1:1|5|9",
+        words: "rha|diff|--connect|127.0.0.1:1|5|3606",
         replies: "S|9\nE|0\nX|24|AboveWatermark|9\n",
-        asked: "watermark\nat 5 all\nat 9 all\n",
+        asked: "watermark\nat 5 all\nat 3606 all\n",
+        printed: "X|24|AboveWatermark|9\n",
+        code: 2,
+    },
+    Talk {
+        words: "rha|diff|--connect|127.0.0.1:1|5|9",
+        replies: "S|9\nX|24|AboveWatermark|9\n",
+        asked: "watermark\nchanged 6 9 0.0.0.0/0 ffff:ffff:ffff:ffff:ffff:ffff:ffff:ffff/128\n",
         printed: "X|24|AboveWatermark|9\n",
         code: 2,
     },

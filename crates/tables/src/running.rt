@@ -1,7 +1,9 @@
 //! What the program does of the commands that read whole tables, once the archive is open. The exit status of the program is that of the
 //! command, and what is buffered is written out before.
 
+ghost use Rattle.std.specs.Prelude.{◌≡◌, false, string_bytes};
 ghost use Rattle.route_meaning.specs.History.{History};
+ghost use Rattle.service.specs.Running.{IsLineAsked};
 
 use crate::asking::{Manner, ask_for};
 use crate::comparing::write_differences;
@@ -29,6 +31,8 @@ pub fn ask<A: RouteArchive, W: Write, E: Write>(
     out: &mut Output<W>,
     err: &mut Output<E>,
 ) -> u8
+    // Without `--all` and `--human`, and if no person reads it, the line is answered as service answers it.
+    ensures plain { asked.now.all ≡ false → asked.now.human ≡ false → terminal ≡ false → (h : History) → A.represents archive.old h → IsLineAsked (string_bytes asked.now.line) h result out.old out.new err.old err.new }
     ensures kept { (h : History) → A.represents archive.old h → A.represents archive.new h }
 {
     let manner = Manner {

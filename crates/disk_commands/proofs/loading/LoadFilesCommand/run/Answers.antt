@@ -1,4 +1,4 @@
-use Rattle.disk_commands.proofs.Loads.{files_at}
+use Rattle.disk_commands.proofs.api.Loads.{files_at}
 use Rattle.disk_commands.proofs.loading.LoadFilesCommand.run.Goals as goal
 
 pub returns-clause-done : goal.returns-clause-done
