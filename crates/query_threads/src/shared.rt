@@ -20,7 +20,7 @@ use crate::gate::Gate;
 use crate::refusal::{AdmitError, AskError, Flush, MarkError, Step, Trouble, Turn};
 use crate::store::{OnDisk, Store};
 use crate::usage::Usage;
-use board::{Board, Named, Opened, Pass};
+use board::{Board, Named, Opened, Pass, Target};
 use interleaving_core::{Answer, BatchReply, Query};
 use route_meaning::{ChangedAnswer, ChangedQuestion};
 use route_model::{Admission, Mark};
@@ -138,14 +138,15 @@ impl<A: Store, N: Named + OnDisk<A::Disk>> Reader<A, N> {
 
 impl<A: Store, N: Named + OnDisk<A::Disk>, G: Gate + Drop> Shared<A, N, G> {
     /// Shares an archive, if this is the board named `N`. If `N` names a disk, it is the archive's, as the pages of its rings
-    /// are, and the pass knows the archive's past.
-    pub fn new(opened: Opened, archive: A, gate: G) -> (Shared<A, N, G>, Pass<N>)
+    /// are, and the pass knows a past that the archive represents and that fits, for the caller's choice of `X`.
+    pub fn new<X: Target>(opened: Opened, archive: A, gate: G) -> (Shared<A, N, G>, Pass<N>)
         requires named { name_of opened ≡ N.table }
         requires some { 1 ≤ opened.collectors }
         requires disk { IsSome N.disk → N.disk ≡ Some (A.disk_of archive) }
         requires pages { IsSome N.disk → N.pages ≡ A.pages archive }
-        requires represented { IsSome N.disk → (p : Past) × A.represents archive p × (length p.history.intakes ≡ opened.collectors) }
+        requires represented { IsSome N.disk → (p : Past) × A.represents archive p × (length p.history.intakes ≡ opened.collectors) × X.fits p }
         ensures represented { IsSome N.disk → A.represents archive result.1.past }
+        ensures fits { IsSome N.disk → X.fits result.1.past }
         ensures caught_up { IsSome N.disk → IsCaughtUp result.1 }
         ensures collectors { result.0.collectors ≡ opened.collectors }
         ensures ring { result.0.ring ≡ A.pages archive }

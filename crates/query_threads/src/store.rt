@@ -20,7 +20,7 @@ ghost use Rattle.query_threads.specs.Usages.{AreLanes};
 
 use crate::refusal::{AdmitError, AskError, Flush, MarkError, Step, Trouble, Turn};
 use crate::usage::Usage;
-use board::Named;
+use board::{Named, Target};
 use interleaving_core::{BatchReply, Query};
 use route_meaning::{ChangedAnswer, ChangedQuestion};
 use route_model::{Admission, Mark};
@@ -61,6 +61,10 @@ impl<B, D> OnDisk<D> for Unpromised<B> {
     ghost disk = { None };
 
     ghost pages = { 0 };
+}
+
+impl<B> Target for Unpromised<B> {
+    ghost fits = { λ p. Unit {0} };
 }
 
 /// An archive, as threads use it.

@@ -11,7 +11,7 @@ use crate::jobs::{Desk, Job, run_job};
 use crate::keeping::flush_all;
 use crate::link::Link;
 use crate::stopping::{stop_taking, take_connections};
-use board::{Named, Opened, Pass};
+use board::{Named, Opened, Pass, Target};
 use crossbeam_channel::{Receiver, bounded};
 use log::Log;
 use query_threads::{Gate, OnDisk, Shared, Store, Trouble};
@@ -259,10 +259,12 @@ fn hand_back<A: Store, N: Named + OnDisk<A::Disk>, G: Gate + Drop>(
 /// taken if it returns true. If a thread can't be made it isn't called, and no connection is served. A connection is ended that sends
 /// nothing for `doors.idle` seconds, or takes nothing of its answers. One whose socket fails ends with a warning, `29 Outside`, of which
 /// there is no more than one a second. To stop, no connection is taken any more, those that are open are served until they end or send
-/// nothing for a second, what may be applied is applied, and all pages are written home. The archive is handed back.
+/// nothing for a second, what may be applied is applied, and all pages are written home. The archive is handed back. If
+/// `N` names a disk, it goes on from a past that it represented and that fits, for the caller's choice of `X`.
 pub fn serve<
     A: Store + Send,
     N: Named + OnDisk<A::Disk> + Send + Sync,
+    X: Target,
     G: Gate + Drop + Send + Sync,
     R: Threads + Wait + Clock + Net<Listener = TcpListener, Stream = TcpStream> + Sync,
     L: Log + Sync,
@@ -288,12 +290,12 @@ where
     requires some { 1 ≤ opened.collectors }
     requires disk { IsSome N.disk → N.disk ≡ Some (A.disk_of archive) }
     requires pages { IsSome N.disk → N.pages ≡ A.pages archive }
-    requires represented { IsSome N.disk → (p : Past) × A.represents archive p × (length p.history.intakes ≡ opened.collectors) }
+    requires represented { IsSome N.disk → (p : Past) × A.represents archive p × (length p.history.intakes ≡ opened.collectors) × X.fits p }
     requires ready { F.IsAlwaysCallable ready }
     ensures represented { IsSome N.disk → (p : Past) × A.represents result.0 p }
-    ensures goes_on { IsSome N.disk → (result.1 ≡ Err ServeError.OutOfMemory → ⊥) → (p : Past) × (q : Past) × A.represents archive p × GoesOnAs p q × A.represents result.0 q }
+    ensures goes_on { IsSome N.disk → (result.1 ≡ Err ServeError.OutOfMemory → ⊥) → (p : Past) × (q : Past) × X.fits p × A.represents archive p × GoesOnAs p q × A.represents result.0 q }
 {
-    let (shared, mut first): (Shared<A, N, G>, Pass<N>) = Shared::new(opened, archive, gate);
+    let (shared, mut first): (Shared<A, N, G>, Pass<N>) = Shared::new::<X>(opened, archive, gate);
     let Ok(mut passes) = Vec::with_capacity(alloc, 1) else {
         return (shared.close(Vec::new(alloc)), Err(ServeError::OutOfMemory));
     };

@@ -185,7 +185,9 @@ fn is_so<B: Named>(
     requires named { name_of opened ≡ B.table }
     requires some { 1 ≤ opened.collectors }
 {
-    let (stage, mut first): (Stage<B>, Pass<Unpromised<B>>) = Shared::new(opened, store, NoGate);
+    let (stage, mut first): (Stage<B>, Pass<Unpromised<B>>) = Shared::new::<Unpromised<B>>(
+        opened, store, NoGate,
+    );
     let sent = Sent {
         octets: all,
         is_lost: it.closing == Closing::Failed,

@@ -197,7 +197,9 @@ fn play<B: Named>(
     requires named { name_of opened ≡ B.table }
     requires some { 1 ≤ opened.collectors }
 {
-    let (stage, mut first): (Stage<B>, Pass<Unpromised<B>>) = Shared::new(opened, store, NoGate);
+    let (stage, mut first): (Stage<B>, Pass<Unpromised<B>>) = Shared::new::<Unpromised<B>>(
+        opened, store, NoGate,
+    );
     let right = count_right(rt, alloc, &stage, &mut first, conversations);
     let _store = stage.close(Vec::new(alloc));
     right

@@ -54,7 +54,7 @@ where
     requires named { name_of opened ≡ B.table }
     requires some { 1 ≤ opened.collectors }
 {
-    let (store, ended) = serve::<A, Unpromised<B>, G, R, L, _>(
+    let (store, ended) = serve::<A, Unpromised<B>, Unpromised<B>, G, R, L, _>(
         rt,
         alloc,
         opened,

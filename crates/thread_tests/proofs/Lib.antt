@@ -1,2 +1,2 @@
-mod Starting
+mod Collectors
 mod Following

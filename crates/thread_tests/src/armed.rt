@@ -67,7 +67,9 @@ fn play<B: Named + Send + Sync, R: Threads + Wait + Sync>(
     requires named { name_of opened ≡ B.table }
     requires some { 1 ≤ opened.collectors }
 {
-    let (stage, mut first): (Armed<B>, Pass<Unpromised<B>>) = Shared::new(opened, store, NoGate);
+    let (stage, mut first): (Armed<B>, Pass<Unpromised<B>>) = Shared::new::<Unpromised<B>>(
+        opened, store, NoGate,
+    );
     let mut second = stage.split(&mut first);
     let (asked, given) = thread::join(
         rt,

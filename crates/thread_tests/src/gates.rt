@@ -98,7 +98,9 @@ fn play<B: Named, R: Wait>(
     requires named { name_of opened ≡ B.table }
     requires some { 1 ≤ opened.collectors }
 {
-    let (stage, mut pass): (Counting<B>, Pass<Unpromised<B>>) = Shared::new(opened, store, gate);
+    let (stage, mut pass): (Counting<B>, Pass<Unpromised<B>>) = Shared::new::<Unpromised<B>>(
+        opened, store, gate,
+    );
     let reply = ask(rt, alloc, &stage, &mut pass, query);
     let mut passes = Vec::new(alloc);
     let _pass = passes.push(pass);

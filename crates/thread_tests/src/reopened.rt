@@ -115,7 +115,9 @@ fn play<B: Named>(rt: &impl Wait, alloc: Global, opened: Opened, store: MemStore
     requires named { name_of opened ≡ B.table }
     requires some { 1 ≤ opened.collectors }
 {
-    let (stage, mut pass): (Stage<B>, Pass<Unpromised<B>>) = Shared::new(opened, store, NoGate);
+    let (stage, mut pass): (Stage<B>, Pass<Unpromised<B>>) = Shared::new::<Unpromised<B>>(
+        opened, store, NoGate,
+    );
     let goes_on = goes_on(rt, alloc, &stage, &mut pass);
     let _store = stage.close(Vec::new(alloc));
     goes_on

@@ -147,7 +147,9 @@ fn play<B: Named + Send + Sync, R: Threads + Wait + Sync>(
         first,
         parts,
     } = scene;
-    let (stage, pass): (Stage<B>, Pass<Unpromised<B>>) = Shared::new(opened, store, gate);
+    let (stage, pass): (Stage<B>, Pass<Unpromised<B>>) = Shared::new::<Unpromised<B>>(
+        opened, store, gate,
+    );
     let ran = run(rt, alloc, &stage, &signals, pass, first, parts, &mut log);
     log.expect(ran.is_some());
     let store = match ran {

@@ -1,13 +1,11 @@
 //! Two threads on an archive that they share.
 
 ghost use Rattle.std.specs.Prelude.{◌≡◌, ◌≤◌, IfSome, IsSome, Some, length};
-ghost use Rattle.route_meaning.specs.History.{History};
 ghost use Rattle.interleaving_core.specs.Steps.{empty};
 ghost use Rattle.archive_pages.specs.Places.{AreSettings};
 ghost use Rattle.board.specs.Opened.{name_of};
 ghost use Rattle.board.specs.Past.{Past};
 ghost use Rattle.board.specs.Views.{IsFrontOf, View};
-ghost use Rattle.disk_archive.specs.Archives.{GoesOn};
 ghost use Rattle.shared_archive.specs.Represented.{RepresentsPast};
 ghost use Rattle.shared_archive.specs.Held.{HeldRepresents, disk_in, pages_in};
 ghost use Rattle.thread_tests.specs.Works.{Follows, IsPlayed};
@@ -15,7 +13,7 @@ ghost use Rattle.thread_tests.specs.Works.{Follows, IsPlayed};
 use crate::playing::{Done, Stage, run};
 use crate::works::{Returned, Work};
 use archive_pages::Settings;
-use board::{Named, Opened, Pass};
+use board::{Named, Opened, Pass, Target};
 use disk_archive::Archive;
 use disk_memory::{MemErase, MemOnce};
 use query_threads::{NoGate, OnDisk, Shared};
@@ -79,7 +77,7 @@ fn close<N: Named + OnDisk<MemOnce>>(
 }
 
 // Both threads, on the board and the disk that `N` names.
-fn play<N: Named + OnDisk<MemOnce> + Send + Sync, R: Threads + Wait + Sync>(
+fn play<N: Named + OnDisk<MemOnce> + Send + Sync, X: Target, R: Threads + Wait + Sync>(
     rt: &R,
     alloc: Global,
     opened: Opened,
@@ -91,10 +89,10 @@ fn play<N: Named + OnDisk<MemOnce> + Send + Sync, R: Threads + Wait + Sync>(
     requires some { 1 ≤ opened.collectors }
     requires disk { N.disk ≡ Some (disk_in store.archive) }
     requires pages { N.pages ≡ pages_in store.archive }
-    requires represented { (p : Past) × HeldRepresents store.archive p × (length p.history.intakes ≡ opened.collectors) }
-    ensures played { IfSome result (λ played. (first : View) × HeldRepresents store.archive first.past × IsPlayed first one.items two.items played) }
+    requires represented { (p : Past) × HeldRepresents store.archive p × (length p.history.intakes ≡ opened.collectors) × X.fits p }
+    ensures played { IfSome result (λ played. (first : View) × X.fits first.past × HeldRepresents store.archive first.past × IsPlayed first one.items two.items played) }
 {
-    let (stage, mut first): (Stage<N>, Pass<N>) = Shared::new(opened, store, NoGate);
+    let (stage, mut first): (Stage<N>, Pass<N>) = Shared::new::<X>(opened, store, NoGate);
     let second = stage.split(&mut first);
     let (front, other) = both(rt, alloc, &stage, first, second, one, two);
     let Done {
@@ -112,25 +110,25 @@ fn play<N: Named + OnDisk<MemOnce> + Send + Sync, R: Threads + Wait + Sync>(
     }
 }
 
-/// Two threads share an archive, and each makes its calls. The archive is closed when both are done. None where there is no memory.
-pub fn share<R: Threads + Wait + Sync>(
+/// Two threads share an archive, and each makes its calls, from a past that it represents and that fits, for the caller's choice of `X`. The
+/// archive is closed when both are done. None where there is no memory.
+pub fn share<X: Target, R: Threads + Wait + Sync>(
     rt: &R,
     alloc: Global,
     archive: Archive<MemErase, MemOnce>,
     one: Vec<Work>,
     two: Vec<Work>,
 ) -> Option<Played>
-    requires represented { (h : History) × GoesOn archive h }
-    ensures played { IfSome result (λ played. (first : View) × RepresentsPast archive first.past × IsPlayed first one.items two.items played) }
+    requires represented { (p : Past) × RepresentsPast archive p × X.fits p }
+    ensures played { IfSome result (λ played. (first : View) × X.fits first.past × RepresentsPast archive first.past × IsPlayed first one.items two.items played) }
 {
-    past_is_represented(&archive);
     let Ok(opened) = Opened::new(alloc, archive.collectors()) else {
         return None;
     };
     let store = MemStore {
         archive: Held::Open(archive),
     };
-    play::<Brand, R>(rt, alloc, opened, store, one, two)
+    play::<Brand, X, R>(rt, alloc, opened, store, one, two)
 }
 
 /// The same on a new archive, on disks of this many octets and blocks. None where it can't be made.
@@ -150,7 +148,10 @@ pub fn share_new<R: Threads + Wait + Sync>(
     let (once, pen) = MemOnce::new(alloc, blocks);
     let once = Arc::new(alloc, once).ok()?;
     match Archive::create(alloc, erase, once, pen, settings) {
-        Ok(archive) => share(rt, alloc, archive, one, two),
+        Ok(archive) => {
+            past_is_represented(&archive);
+            share::<Brand, R>(rt, alloc, archive, one, two)
+        }
         Err(_) => None,
     }
 }

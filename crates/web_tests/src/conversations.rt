@@ -122,7 +122,9 @@ fn play_all<B: Named>(
     requires named { name_of opened ≡ B.table }
     requires some { 1 ≤ opened.collectors }
 {
-    let (stage, mut first): (Stage<B>, Pass<Unpromised<B>>) = Shared::new(opened, store, NoGate);
+    let (stage, mut first): (Stage<B>, Pass<Unpromised<B>>) = Shared::new::<Unpromised<B>>(
+        opened, store, NoGate,
+    );
     let given = give(rt, alloc, &stage, &mut first);
     let places = wrong_places(rt, alloc, &stage, &mut first);
     let what = wrong_of(rt, alloc, &stage, &mut first);

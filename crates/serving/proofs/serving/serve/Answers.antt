@@ -9,4 +9,4 @@ returns-clause-represented g c = λ named. let e = c.hand_back.ensures.goes_on n
 pub returns-clause-goes_on : goal.returns-clause-goes_on
 returns-clause-goes_on g c = λ named short.
     let e = c.hand_back.ensures.goes_on named in
-    (c.new-shared.result.1.past, e.0, c.new-shared.ensures.represented named, subst (λ (v : View). GoesOnAs v.past e.0) c.split-pass.ensures.same e.1, e.2)
+    (c.new-shared.result.1.past, e.0, c.new-shared.ensures.fits named, c.new-shared.ensures.represented named, subst (λ (v : View). GoesOnAs v.past e.0) c.split-pass.ensures.same e.1, e.2)
