@@ -117,7 +117,15 @@ fn serve_on<
         code = announce(rt, bound, web, err);
         code == 0
     };
-    let (store, ended) = serve_store::<FileStore, Unpromised<B>, NoGate, H, HostRuntime, _>(
+    let (store, ended) = serve_store::<
+        FileStore,
+        Unpromised<B>,
+        Unpromised<B>,
+        NoGate,
+        H,
+        HostRuntime,
+        _,
+    >(
         host,
         alloc,
         opened,
