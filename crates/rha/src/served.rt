@@ -117,15 +117,7 @@ fn serve_on<
         code = announce(rt, bound, web, err);
         code == 0
     };
-    let (store, ended) = serve_store::<
-        FileStore,
-        Unpromised<B>,
-        Unpromised<B>,
-        NoGate,
-        H,
-        HostRuntime,
-        _,
-    >(
+    let (store, ended) = serve_store::<_, Unpromised<B>, Unpromised<B>, _, _, _, _>(
         host,
         alloc,
         opened,
