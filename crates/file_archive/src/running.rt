@@ -1,6 +1,6 @@
 //! A command is run over the archive in the files of a folder.
 
-ghost use Rattle.std.specs.Prelude.{◌≡◌, ◌≤◌, ¬, ℕ, IfOk, IfErr};
+ghost use Rattle.std.specs.Prelude.{◌≡◌, ◌≤◌, ℕ, IfOk, IfErr};
 ghost use Rattle.page_journal.specs.Layout.{home_place};
 ghost use Rattle.route_meaning.specs.History.{Begins, History};
 ghost use Rattle.disk_calls.specs.Represented.{limit_for};
