@@ -14,7 +14,7 @@ use archive_pages::Settings;
 use disk_archive::CreateError;
 use disk_commands::{CheckAll, Command};
 use disk_files::{Call, FileError};
-use file_archive::CreateFault;
+use file_archive::{CreateFault, OpenFault};
 use service::{Checking, Creation, Output, Question, report_created, report_out_of_memory};
 use std::alloc::Global;
 use std::io::{BufWriter, IsTerminal, Write};
@@ -98,21 +98,30 @@ impl<A: RouteArchive, W: Write, X: Write, E: Write> Command<A> for AskLine<'_, '
     }
 }
 
-/// Answers a request line by the archive of a folder.
-pub(crate) fn ask<E: Write>(rt: &HostRuntime, asked: &Question<'_>, err: &mut Output<E>) -> u8 {
+/// Answers a request line by the archive of a folder: the exit status, or why the archive isn't opened.
+fn ask_folder<E: Write>(
+    rt: &HostRuntime,
+    asked: &Question<'_>,
+    err: &mut Output<E>,
+) -> Result<u8, OpenFault> {
     let Ok(buffer) = BufWriter::new(rt.alloc(), rt.stdout()) else {
-        return report_out_of_memory(err);
+        return Ok(report_out_of_memory(err));
     };
     let mut command = AskLine {
         asked,
         is_seen: rt.stdout().is_terminal(),
         out: Output::new(buffer),
         err: Output::new(rt.stderr()),
-        advice: &mut *err,
+        advice: err,
     };
     let (folder, wait) = (asked.folder, asked.wait);
-    let ended = run_to_read(rt, folder, wait, First::Nothing, &mut command);
-    status_of(rt, folder, ended, 1, err)
+    run_to_read(rt, folder, wait, First::Nothing, &mut command)
+}
+
+/// Answers a request line by the archive of a folder.
+pub(crate) fn ask<E: Write>(rt: &HostRuntime, asked: &Question<'_>, err: &mut Output<E>) -> u8 {
+    let ended = ask_folder(rt, asked, err);
+    status_of(rt, asked.folder, ended, 1, err)
 }
 
 /// Checks the archive of a folder.

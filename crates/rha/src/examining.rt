@@ -133,9 +133,9 @@ fn open_file<E: Write>(rt: &HostRuntime, path: &str, err: &mut Output<E>) -> Opt
 
 /// The command that prints the facts about an archive.
 #[derive(Drop)]
-struct ShowFacts<'r, 'p, 'e, E: Write> {
+struct ShowFacts<'r, 'x, 'a, 'p, 'e, E: Write> {
     rt: &'r HostRuntime,
-    asked: &'p Examining<'p>,
+    asked: &'x Examining<'a>,
     /// The files of its pages and blocks.
     pages: &'p str,
     once: &'p str,
@@ -144,7 +144,7 @@ struct ShowFacts<'r, 'p, 'e, E: Write> {
     err: &'e mut Output<E>,
 }
 
-impl<E: Write> ShowFacts<'_, '_, '_, E> {
+impl<E: Write> ShowFacts<'_, '_, '_, '_, '_, E> {
     /// Prints what the files say while the archive is held. Returns the exit status.
     fn print<A: RouteArchive>(&mut self, alloc: Global, archive: &A) -> u8 {
         let (rt, asked) = (self.rt, self.asked);
@@ -168,7 +168,7 @@ impl<E: Write> ShowFacts<'_, '_, '_, E> {
     }
 }
 
-impl<A: RouteArchive, E: Write> Command<A> for ShowFacts<'_, '_, '_, E> {
+impl<A: RouteArchive, E: Write> Command<A> for ShowFacts<'_, '_, '_, '_, '_, E> {
     ghost does = { λ was now most h g status. g ≡ h };
 
     fn run(&mut self, alloc: Global, archive: A) -> (A, u8) {

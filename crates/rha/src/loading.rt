@@ -10,7 +10,7 @@ use crate::sources::Source;
 use advice::{FirstOctets, Loaded, NotedReader, Unread, advise, advise_load};
 use archive_calls::RouteArchive;
 use disk_commands::Command;
-use file_archive::FileDisks;
+use file_archive::{FileDisks, OpenFault};
 use progress::{Applied, ClearedWriter, Meter, WatchedArchive, WatchedReader};
 use service::{
     FileLoad, Input, Loading, Output, load_files, report_lost, report_out_of_memory, report_outside,
@@ -82,7 +82,10 @@ pub(crate) fn load<'a, E: Write>(
             return code;
         }
     }
-    load_into(rt, disks, asked, sources, &noted, err)
+    match load_into(rt, disks, asked, sources, &noted, err) {
+        Ok(code) => code,
+        Err(fault) => report_unopened(rt, asked.folder, fault, err),
+    }
 }
 
 /// Prints why a file couldn't be opened or read, if it couldn't.
@@ -144,22 +147,36 @@ fn advise_loaded<A: RouteArchive, R: Read, E: Write>(
     advise_unread(rt, names.get(begun..).unwrap_or(&[]), err);
 }
 
+/// The same of files that a command has by `&mut`: the toolchain's borrow checker doesn't lend such a field as `&`.
+fn advise_held<A: RouteArchive, R: Read, E: Write>(
+    rt: &HostRuntime,
+    archive: &A,
+    asked: &Loading<'_>,
+    files: &mut [FileLoad<R>],
+    noted: &[Noted],
+    err: &mut Output<E>,
+)
+    ensures same { files.new ≡ files.old }
+{
+    advise_loaded(rt, archive, asked, &*files, noted, err);
+}
+
 /// The command that loads files, while a line on a terminal says how far it has come, and then prints what a person may not expect.
 #[derive(Drop)]
-struct LoadShown<'l, 'c, 'm, R: Read, W: Write, X: Write, E: Write> {
+struct LoadShown<'l, 'c, 'm, 'f, R: Read, W: Write, X: Write, E: Write> {
     rt: &'l HostRuntime,
     asked: &'l Loading<'c>,
     noted: &'l [Noted],
     meter: &'m Meter<'m, HostRuntime>,
-    files: Vec<FileLoad<R>>,
+    files: &'f mut [FileLoad<R>],
     out: Output<W>,
     reported: Output<X>,
     err: &'l mut Output<E>,
 }
 
 impl<A: RouteArchive + Applied, R: Read, W: Write, X: Write, E: Write> Command<A>
-    for LoadShown<'_, '_, '_, R, W, X, E> {
-    ghost does = { λ was now most h g status. AreFilesLoaded was.asked.now most h (map (λ f. record { input = f.input; report = f.report }) was.files.items) (map (λ f. record { input = f.input; report = f.report }) now.files.items) status (λ left. left ≡ g) was.out now.out was.reported now.reported };
+    for LoadShown<'_, '_, '_, '_, R, W, X, E> {
+    ghost does = { λ was now most h g status. AreFilesLoaded was.asked.now most h (map (λ f. record { input = f.input; report = f.report }) was.files.now) (map (λ f. record { input = f.input; report = f.report }) now.files.now) status (λ left. left ≡ g) was.out now.out was.reported now.reported };
 
     fn run(&mut self, alloc: Global, archive: A) -> (A, u8) {
         let mut archive = WatchedArchive::new(archive, self.meter);
@@ -167,19 +184,19 @@ impl<A: RouteArchive + Applied, R: Read, W: Write, X: Write, E: Write> Command<A
             alloc,
             &mut archive,
             self.asked,
-            self.files.as_mut_slice(),
+            self.files,
             &mut self.out,
             &mut self.reported,
         );
         self.meter.line().clear();
-        let (asked, files) = (self.asked, self.files.as_slice());
-        advise_loaded(self.rt, &archive, asked, files, self.noted, self.err);
+        let (rt, asked, noted) = (self.rt, self.asked, self.noted);
+        advise_held(rt, &archive, asked, self.files, noted, self.err);
         (archive.into_archive(), code)
     }
 }
 
-/// Loads files into the archive of a folder. Where standard error is a terminal, one line there says how far it has come, and is gone
-/// before anything else is printed.
+/// Loads files into the archive of a folder: the exit status, or why the archive isn't opened. Where standard error is a terminal, one line
+/// there says how far it has come, and is gone before anything else is printed.
 fn load_into<'a, 'o, E: Write>(
     rt: &'a HostRuntime,
     disks: FileDisks,
@@ -187,19 +204,19 @@ fn load_into<'a, 'o, E: Write>(
     sources: Vec<Source<'a, 'o>>,
     noted: &'o [Noted],
     err: &mut Output<E>,
-) -> u8 {
+) -> Result<u8, OpenFault> {
     let alloc = rt.alloc();
     let terminal = rt.stderr().is_terminal().then_some(rt);
     let meter = Meter::new(terminal);
     let seen_line = rt.stdout().is_terminal().then_some(meter.line());
     let Ok(buffer) = BufWriter::new(alloc, ClearedWriter::new(rt.stdout(), seen_line)) else {
-        return report_out_of_memory(err);
+        return Ok(report_out_of_memory(err));
     };
     let mut files = Vec::new(alloc);
     for (source, it) in sources.into_iter().zip(noted) {
         let reader = NotedReader::new(WatchedReader::new(source, &meter), &it.first);
         if files.push(FileLoad::new(reader)).is_err() {
-            return report_out_of_memory(err);
+            return Ok(report_out_of_memory(err));
         }
     }
     let mut command = LoadShown {
@@ -207,13 +224,10 @@ fn load_into<'a, 'o, E: Write>(
         asked,
         noted,
         meter: &meter,
-        files,
+        files: files.as_mut_slice(),
         out: Output::new(buffer),
         reported: Output::new(ClearedWriter::new(rt.stderr(), Some(meter.line()))),
-        err: &mut *err,
+        err,
     };
-    match disks.run(alloc, &mut command).outcome {
-        Ok(code) => code,
-        Err(fault) => report_unopened(rt, asked.folder, fault, err),
-    }
+    disks.run(alloc, &mut command).outcome
 }
