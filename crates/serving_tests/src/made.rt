@@ -4,7 +4,7 @@ use archive_pages::Settings;
 use disk_archive::Archive;
 use disk_memory::{Failure, MemErase, MemOnce};
 use disk_models::EraseDisk;
-use shared_archive::MemStore;
+use shared_archive::{MemStore, NoRenewal};
 use std::alloc::Global;
 use std::sync::Arc;
 
@@ -90,7 +90,7 @@ pub(crate) fn store_of(alloc: Global, made: &Made) -> Option<MemStore> {
         Some(counted) => counting(alloc, archive, counted)?,
         None => archive,
     };
-    Some(MemStore::new(archive))
+    Some(MemStore::new(archive, NoRenewal))
 }
 
 /// An archive with room for what clients give.
@@ -104,7 +104,7 @@ pub(crate) fn failing_store(alloc: Global) -> Option<MemStore> {
     // An opening that finds nothing to recover syncs twice, and so does a commit.
     erase.set_script(vec![in alloc; Failure::Sync(3)].ok()?);
     match Archive::open(alloc, erase, once, pen) {
-        Ok(archive) => Some(MemStore::new(archive)),
+        Ok(archive) => Some(MemStore::new(archive, NoRenewal)),
         Err(_) => None,
     }
 }

@@ -153,14 +153,16 @@ module _ {E O Pen Seen : Type 0} {erase : EraseGhosts E} {once : OnceGhosts O Pe
   lacks_other (Open a) disks others p rest k = absurd k
   lacks_other (Closed s) disks others p rest k = record { remembers = k.remembers; rest = rest }
 
+  -- the same with disks on which all rests that rested on these
+  pub lacks_renewed : (held : Held E O Pen Seen erase once) (disks others : Disks E O Pen Seen) (p : Past) → ((ring : ℕ) (x : Past) → RestOn erase once disks ring x → RestOn erase once others ring x) → LacksPast held disks p → LacksPast held others p
+  lacks_renewed held disks others p rests k = lacks_other held disks others p (rests (pages_in held) p (lacks_rest held disks p k)) k
+
+  pub stays_lacking : (held : Held E O Pen Seen erase once) (disks : Disks E O Pen Seen) (p : Past) → LacksPast held disks p → GoesOnAs p p
+  stays_lacking held disks p k = record { right = lacks_right held disks p k; begins = Begins-refl p.history; blocks = λ n octets b. b }
+
   -- what it holds stays
   pub stays_held : (held : Held E O Pen Seen erase once) (p : Past) → HeldRepresents held p → GoesOnAs p p
   stays_held held p k = record { right = right_held held p k; begins = Begins-refl p.history; blocks = λ n octets b. b }
-
-  -- a held archive represents a past only on disks that follow their models
-  pub holds_honest : (held : Held E O Pen Seen erase once) (p : Past) → HeldRepresents held p → (e : E) × erase.honest e
-  holds_honest (Open a) p k = (erase_of a, (honest_of a p k).0)
-  holds_honest (Closed s) p k = (k.disks.erase, k.lacks.rest.erasable)
 
   pub are_disk : (held : Held E O Pen Seen erase once) (disks : Disks E O Pen Seen) → AreDisks held disks → disks.once.value ≡ disk_in held
   are_disk (Open a) disks k = k.1
@@ -179,11 +181,6 @@ module _ {E O Pen Seen : Type 0} {erase : EraseGhosts E} {once : OnceGhosts O Pe
       → ((x : Past) → HeldRepresents a x → LacksPast mid disks x) → OnOk r (IsOpen b × ((x : Past) → LacksPast mid disks x → IsUp b)) → IfErr r (λ t. Fails ⊥ e (erase_faults b) p (pen_faults b) t) → Reopens a r b
   reopens_by a mid b disks (Ok done) e p same pen taken opens fails = (opens.0, λ x k. opens.1 x (taken x k))
   reopens_by a mid b disks (Err t) e p same pen taken opens fails = fails_of (IsAway a) e (erase_faults a) (erase_faults b) p (pen_faults a) (pen_faults b) t same pen fails
-
-  -- the same where no past can be represented
-  pub reopens_files : (a b : Held E O Pen Seen erase once) (r : Result (Unit {0}) Trouble) (e p : ℕ) → e ≡ erase_faults a → p ≡ pen_faults a → ((x : Past) → HeldRepresents a x → ⊥) → OnOk r (IsOpen b) → IfErr r (λ t. Fails ⊥ e (erase_faults b) p (pen_faults b) t) → Reopens a r b
-  reopens_files a b (Ok done) e p same pen never opens fails = (opens, λ x k. absurd (never x k))
-  reopens_files a b (Err t) e p same pen never opens fails = fails_of (IsAway a) e (erase_faults a) (erase_faults b) p (pen_faults a) (pen_faults b) t same pen fails
 
 -- ---- lists
 

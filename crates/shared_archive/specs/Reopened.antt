@@ -37,6 +37,14 @@ abbrev pub IsAway : {E O Pen Seen : Type 0} {erase : EraseGhosts E} {once : Once
 IsAway (Open a) = ⊥
 IsAway (Closed s) = s.disks ≡ None
 
+-- neither of two disks counted a failure
+abbrev pub NoneFailed : {E O Pen Seen : Type 0} → EraseGhosts E → OnceGhosts O Pen Seen → Disks E O Pen Seen → Disks E O Pen Seen → Type 0
+NoneFailed erase once old new = (erase.fault_count new.erase ≡ erase.fault_count old.erase) × (once.pen_fault_count new.pen ≡ once.pen_fault_count old.pen)
+
+-- one of two disks counted a failure
+abbrev pub OneFailed : {E O Pen Seen : Type 0} → EraseGhosts E → OnceGhosts O Pen Seen → Disks E O Pen Seen → Disks E O Pen Seen → Type 0
+OneFailed erase once old new = Failed (erase.fault_count old.erase) (erase.fault_count new.erase) ⊎ Failed (once.pen_fault_count old.pen) (once.pen_fault_count new.pen)
+
 -- An opening failed with this trouble, by how often the disks failed before it and after it: one of them counted a failure; or a page is
 -- damaged, or there was no memory. It fails as one that must be opened again only if there are no disks.
 abbrev pub Fails : Type 0 → (erase erase' pen pen' : ℕ) → Trouble → Type 0

@@ -3,8 +3,9 @@
 //!     Held::Open   -- a reopening takes the disks -->   Held::Shut, disks away   -- opened -->       Held::Open
 //!                                                                                -- not opened -->   Held::Shut, with its disks
 //!
-//! The archive meets `Store` as two types, over disks in memory and over files, by the same functions over any two
-//! disks: the prover takes no block of a trait's methods that is generic in a disk whose pen has to be `Send`.
+//! The archive on any two disks meets `Store` as one type ([`DiskStore`]), with what makes its disks usable again before an opening
+//! ([`Renewal`]): of disks in memory nothing, of files a sync of each and a cold cache. A past that rests on disks rests on them once they are
+//! renewed.
 //!
 //! An archive that couldn't be opened again is a value of its own ([`Shut`]): its disks, and a copy of what it
 //! reported, the watermark and counts. `Archive::open` takes the disks and hands them back if it fails; while it runs
@@ -20,13 +21,15 @@ mod files;
 mod held;
 mod held_calls;
 pub mod laws;
-mod memory;
 mod opening;
 mod refusals;
+mod renewal;
 mod reopening;
+mod store;
 mod turns;
 mod usage;
 
-pub use files::FileStore;
+pub use files::{FileRenewal, FileStore};
 pub use held::{Disks, Held, Shut};
-pub use memory::MemStore;
+pub use renewal::{NoRenewal, Renewal};
+pub use store::{DiskStore, MemStore};

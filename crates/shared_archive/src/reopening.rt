@@ -9,6 +9,7 @@ ghost use Rattle.shared_archive.specs.Reopened.{Fails};
 
 use crate::held::{Disks, Held, Shut};
 use crate::opening::{Unopened, open};
+use crate::renewal::Renewal;
 use crate::turns;
 use disk_archive::Archive;
 use disk_models::{EraseDisk, OnceDisk};
@@ -142,15 +143,49 @@ impl<E: EraseDisk + Drop, O: OnceDisk + Drop> Held<E, O> {
         }
     }
 
-    /// Opens the archive again on its disks. If that fails it keeps them, reports the same numbers as before, and can be opened later.
-    pub fn reopen(&mut self, alloc: Global) -> Result<(), Trouble>
+    // Opens the archive on the disks that were away, once they are renewed, or keeps them.
+    fn open_renewed<R: Renewal<E, O>>(
+        &mut self,
+        alloc: Global,
+        renewal: &mut R,
+        mut disks: Disks<E, O>,
+    ) -> Result<(), Trouble>
+        requires away { IsAway self.old }
+        ensures done { (p : Past) → LacksPast self.old disks p → (q : Past) × GoesOnAs p q × HeldRepresents self.new q × DoesReopen result p.history q.history }
+        ensures disk { disk_in self.new ≡ disks.once.value }
+        ensures pages { pages_in self.new ≡ pages_in self.old }
+        ensures opens { OnOk result (IsOpen self.new × ((p : Past) → LacksPast self.old disks p → IsUp self.new)) }
+        ensures trouble { IfErr result (λ t. Fails ⊥ (E.fault_count disks.erase) (erase_faults self.new) (O.pen_fault_count disks.pen) (pen_faults self.new) t) }
+    {
+        match renewal.renew(alloc, &mut disks) {
+            Ok(renewed) => {
+                let opened = self.open_on(alloc, disks);
+                if opened.is_ok() {
+                    renewal.keep(renewed);
+                }
+                opened
+            }
+            Err(_) => {
+                self.put_disks(disks);
+                Err(Trouble::Fault)
+            }
+        }
+    }
+
+    /// Opens the archive again on its disks, once they are renewed. If that fails it keeps them, reports the same numbers as before, and can
+    /// be opened later.
+    pub fn reopen<R: Renewal<E, O>>(
+        &mut self,
+        alloc: Global,
+        renewal: &mut R,
+    ) -> Result<(), Trouble>
         ensures done { (p : Past) → HeldRepresents self.old p → (q : Past) × GoesOnAs p q × HeldRepresents self.new q × DoesReopen result p.history q.history }
         ensures opens { Reopens self.old result self.new }
         ensures disk { disk_in self.new ≡ disk_in self.old }
         ensures pages { pages_in self.new ≡ pages_in self.old }
     {
         match self.take_disks(alloc) {
-            Ok(disks) => self.open_on(alloc, disks),
+            Ok(disks) => self.open_renewed(alloc, renewal, disks),
             Err(trouble) => Err(trouble),
         }
     }

@@ -16,10 +16,10 @@ use Rattle.query_threads.specs.Turns.{IsReported}
 use Rattle.query_threads.specs.declared.refusal.AskError.{AskError}
 use Rattle.query_threads.proofs.Answering.{answer_stays}
 use Rattle.query_threads.proofs.Seen.{goes_on_then}
-use Rattle.shared_archive.specs.declared.memory.MemStore.{MemStore}
 use Rattle.shared_archive.specs.Held.{HeldRepresents}
 use Rattle.thread_tests.specs.declared.works.Work.{Work}
 use Rattle.thread_tests.specs.declared.works.Work.TheVariants.{Admit, Mark, Apply, Ask}
+use Rattle.thread_tests.specs.declared.sharing.Played.{Played}
 use Rattle.thread_tests.specs.declared.works.Returned.{Returned}
 use Rattle.thread_tests.specs.declared.works.Returned.TheVariants.{Admitted, Marked, Applied, Answered}
 use Rattle.thread_tests.specs.Works.{Follows, IsAnswerOf, IsPlayed, IsReplied, IsReplyOver, IsWork}
@@ -104,18 +104,18 @@ two_pushed a b x y none one both v w empty first second ok_a ok_b =
     pushed b y one both w second ok_b ∙ ap (λ (l : List _). l ++ w ∷ []) (pushed a x none one v first ok_a ∙ ap (λ (l : List _). l ++ v ∷ []) empty)
 
 -- both threads began with one view, and all is there in the end
-pub is_played : (works others : List Work) (v from also to end : View) (closed : Option MemStore) (ran too : Option (Vec Returned)) (store : MemStore) (one two : Vec Returned)
-    → from ≡ v → also ≡ v → closed ≡ Some store → ran ≡ Some one → too ≡ Some two
+pub is_played : (works others : List Work) (v from also to end : View) (closed : Option _) (ran too : Option (Vec Returned)) (played : Played)
+    → from ≡ v → also ≡ v → closed ≡ Some played.store → ran ≡ Some played.one → too ≡ Some played.two
     → IfSome closed (λ s. (last : Past) × HeldRepresents s.archive last × IsFrontOf last to × IsFrontOf last end)
     → IfSome ran (λ r. Follows works r.items from to) → IfSome too (λ r. Follows others r.items also end)
-    → IsPlayed v works others (record { store = store; one = one; two = two })
-is_played works others v from also to end closed ran too store one two same as_well is_closed is_ran is_too ends first second =
-    let last = at_some closed (λ s. (last : Past) × HeldRepresents s.archive last × IsFrontOf last to × IsFrontOf last end) store is_closed ends in
-    let front = at_some ran (λ r. Follows works r.items from to) one is_ran first in
-    let other = at_some too (λ r. Follows others r.items also end) two is_too second in
+    → IsPlayed v works others played
+is_played works others v from also to end closed ran too played same as_well is_closed is_ran is_too ends first second =
+    let last = at_some closed (λ s. (last : Past) × HeldRepresents s.archive last × IsFrontOf last to × IsFrontOf last end) played.store is_closed ends in
+    let front = at_some ran (λ r. Follows works r.items from to) played.one is_ran first in
+    let other = at_some too (λ r. Follows others r.items also end) played.two is_too second in
     record {
       last = last.0;
       represented = last.1;
-      one = is_work works one.items v to last.0 (subst (λ (x : View). Follows works one.items x to) same front) last.2;
-      two = is_work others two.items v end last.0 (subst (λ (x : View). Follows others two.items x end) as_well other) last.3;
+      one = is_work works played.one.items v to last.0 (subst (λ (x : View). Follows works played.one.items x to) same front) last.2;
+      two = is_work others played.two.items v end last.0 (subst (λ (x : View). Follows others played.two.items x end) as_well other) last.3;
     }

@@ -10,7 +10,7 @@ use interleaving_core::Query;
 use query_threads::{Step, Store};
 use route_meaning::{EventsQuestion, RowsQuestion, Select};
 use route_model::{Address, Admission, Change, Mark, Moment, Peer, Prefix, Route, SharedRoute};
-use shared_archive::MemStore;
+use shared_archive::{MemStore, NoRenewal};
 use std::alloc::Global;
 use std::sync::Arc;
 
@@ -62,7 +62,7 @@ pub(crate) fn empty_archive<O: OnceDisk + Drop>(
 pub(crate) fn empty_store(alloc: Global) -> Option<MemStore> {
     let (once, pen) = MemOnce::new(alloc, BLOCKS);
     let archive = empty_archive(alloc, once, pen)?;
-    Some(MemStore::new(archive))
+    Some(MemStore::new(archive, NoRenewal))
 }
 
 /// Applies what may be applied. None where that failed.

@@ -13,7 +13,7 @@ use interleaving_core::Answer;
 use query_threads::{
     AdmitError, AskError, Flush, NoGate, Reader, Shared, Store, Trouble, Unpromised,
 };
-use shared_archive::{Disks, MemStore};
+use shared_archive::{Disks, MemStore, NoRenewal};
 use std::alloc::Global;
 use std::marker::Brand;
 use std::sync::Wait;
@@ -38,7 +38,7 @@ fn failing_store(alloc: Global) -> Option<MemStore> {
     // An opening that finds nothing to recover syncs twice.
     erase.set_script(vec![in alloc; Failure::Sync(2), Failure::Sync(3)].ok()?);
     let archive = Archive::open(alloc, erase, once, pen).ok()?;
-    Some(MemStore::new(archive))
+    Some(MemStore::new(archive, NoRenewal))
 }
 
 // Asks for the first records.

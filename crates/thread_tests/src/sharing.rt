@@ -18,7 +18,7 @@ use disk_archive::Archive;
 use disk_memory::{MemErase, MemOnce};
 use query_threads::{NoGate, OnDisk, Shared};
 use shared_archive::laws::past_is_represented;
-use shared_archive::{Held, MemStore};
+use shared_archive::{MemStore, NoRenewal};
 use std::alloc::Global;
 use std::marker::Brand;
 use std::sync::{Arc, Wait};
@@ -125,9 +125,7 @@ pub fn share<X: Target, R: Threads + Wait + Sync>(
     let Ok(opened) = Opened::new(alloc, archive.collectors()) else {
         return None;
     };
-    let store = MemStore {
-        archive: Held::Open(archive),
-    };
+    let store = MemStore::new(archive, NoRenewal);
     play::<Brand, X, R>(rt, alloc, opened, store, one, two)
 }
 

@@ -9,7 +9,7 @@ use query_threads::{NoGate, Shared, Unpromised};
 use route_model::Mark;
 use server::set_mark;
 use service::{End, Output};
-use shared_archive::MemStore;
+use shared_archive::{MemStore, NoRenewal};
 use shared_feed::feed;
 use std::alloc::Global;
 use std::sync::{Arc, Wait};
@@ -38,7 +38,7 @@ pub(crate) fn empty_store(alloc: Global) -> Option<MemStore> {
     let (once, pen) = MemOnce::new(alloc, BLOCKS);
     let once = Arc::new(alloc, once).ok()?;
     match Archive::create(alloc, erase, once, pen, settings) {
-        Ok(archive) => Some(MemStore::new(archive)),
+        Ok(archive) => Some(MemStore::new(archive, NoRenewal)),
         Err(_) => None,
     }
 }

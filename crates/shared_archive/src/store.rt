@@ -1,4 +1,4 @@
-//! The archive on disks in memory, as threads share it.
+//! The archive on any two disks, as threads share it.
 
 ghost use Rattle.std.specs.Prelude.{◌≡◌};
 ghost use Rattle.disk_archive.specs.Cursors.{IsGathered, IsWalked, asks};
@@ -10,10 +10,11 @@ ghost use Rattle.shared_archive.specs.Reopened.{Reopens};
 ghost use Rattle.shared_archive.specs.Reported.{Misses};
 
 use crate::held::Held;
+use crate::renewal::{NoRenewal, Renewal};
 use crate::turns;
 use disk_archive::{Archive, Cursor, Errand, start_walk};
-use disk_memory::{MemErase, MemOnce, MemSeen};
-use disk_models::OnceDisk;
+use disk_memory::{MemErase, MemOnce};
+use disk_models::{EraseDisk, OnceDisk};
 use interleaving_core::{BatchReply, Query};
 use once_store::ShelfReader;
 use query_threads::{AdmitError, AskError, Flush, MarkError, Step, Store, Trouble, Turn, Usage};
@@ -22,30 +23,36 @@ use route_meaning::{ChangedAnswer, ChangedQuestion};
 use route_model::{Admission, Mark};
 use std::alloc::Global;
 
-/// An archive on disks in memory. Threads share it.
+/// An archive on any two disks, with what makes these usable again before it is opened again. Threads share it.
 #[derive(Drop)]
-pub struct MemStore {
+pub struct DiskStore<E: EraseDisk + Drop, O: OnceDisk + Drop, R = NoRenewal> {
     /// The archive.
-    pub archive: Held<MemErase, MemOnce>,
+    pub archive: Held<E, O>,
+    renewal: R,
 }
 
-impl MemStore {
-    /// An archive that is open.
-    pub fn new(archive: Archive<MemErase, MemOnce>) -> MemStore
+/// An archive on disks in memory.
+pub type MemStore = DiskStore<MemErase, MemOnce>;
+
+impl<E: EraseDisk + Drop, O: OnceDisk + Drop, R: Drop> DiskStore<E, O, R> {
+    /// An archive that is open, with what renews its disks.
+    pub fn new(archive: Archive<E, O>, renewal: R) -> Self
         ensures { result.archive ≡ Held.Open archive }
     {
-        MemStore {
+        DiskStore {
             archive: Held::Open(archive),
+            renewal,
         }
     }
 }
 
-impl Store for MemStore {
-    type Disk = MemOnce;
+impl<E: EraseDisk + Drop, O: OnceDisk + Drop, R: Renewal<E, O> + Drop> Store
+    for DiskStore<E, O, R> {
+    type Disk = O;
 
-    type Reader = ShelfReader<MemOnce>;
+    type Reader = ShelfReader<O>;
 
-    type Seen = MemSeen;
+    type Seen = O::Seen;
 
     type Errand = Errand;
 
@@ -59,15 +66,15 @@ impl Store for MemStore {
 
     ghost disk_of = { λ store. disk_in store.archive };
 
-    ghost block_count = { λ disk. ⟦<MemOnce as OnceDisk>⟧.block_count disk };
+    ghost block_count = { λ disk. O.block_count disk };
 
     ghost reads = { λ reader. reader_disk reader };
 
     ghost kept = { λ reader. kept_blocks reader };
 
-    ghost honest = { λ disk seen. ⟦<MemOnce as OnceDisk>⟧.honest_seen disk seen };
+    ghost honest = { λ disk seen. O.honest_seen disk seen };
 
-    ghost known = { λ seen. ⟦<MemOnce as OnceDisk>⟧.known seen };
+    ghost known = { λ seen. O.known seen };
 
     ghost asks = { λ cursor. asks cursor };
 
@@ -79,7 +86,7 @@ impl Store for MemStore {
 
     ghost fits = { λ errand cursor. IsErrandFor cursor errand };
 
-    ghost located = { λ errand cursor disk p. LocatedInPast (⟦<MemOnce as OnceDisk>⟧.block_count disk) errand cursor p };
+    ghost located = { λ errand cursor disk p. LocatedInPast (O.block_count disk) errand cursor p };
 
     ghost right = { λ store p represented. right_held store.archive p represented };
 
@@ -95,7 +102,7 @@ impl Store for MemStore {
 
     ghost flushes = { λ store step then. HeldFlushes store.archive step then.archive };
 
-    ghost misses = { λ seen trouble then. Misses ⟦<MemOnce as OnceDisk>⟧ seen trouble then };
+    ghost misses = { λ seen trouble then. Misses O.OnceDisk seen trouble then };
 
     fn collectors(&self) -> u8 {
         self.archive.collectors()
@@ -130,7 +137,11 @@ impl Store for MemStore {
     }
 
     fn reopen(&mut self, alloc: Global) -> Result<(), Trouble> {
-        self.archive.reopen(alloc)
+        self.archive.reopen(alloc, &mut self.renewal)
+    }
+
+    fn failure(&self, alloc: Global) -> Option<String> {
+        self.renewal.failure(alloc)
     }
 
     fn usage(&self, alloc: Global) -> Option<Usage> {
@@ -145,17 +156,17 @@ impl Store for MemStore {
         self.archive.descend(cursor)
     }
 
-    fn seen(&mut self) -> Result<MemSeen, Trouble> {
+    fn seen(&mut self) -> Result<O::Seen, Trouble> {
         self.archive.seen()
     }
 
-    fn reader(&self, _alloc: Global, capacity: usize) -> Result<ShelfReader<MemOnce>, Trouble> {
+    fn reader(&self, _alloc: Global, capacity: usize) -> Result<ShelfReader<O>, Trouble> {
         self.archive.reader(capacity)
     }
 
     fn finish(
-        reader: &mut ShelfReader<MemOnce>,
-        seen: &mut MemSeen,
+        reader: &mut ShelfReader<O>,
+        seen: &mut O::Seen,
         alloc: Global,
         errand: Errand,
         cursor: &mut Cursor,
@@ -169,7 +180,7 @@ impl Store for MemStore {
 
     fn look(
         &mut self,
-        reader: &mut ShelfReader<MemOnce>,
+        reader: &mut ShelfReader<O>,
         walk: &mut ChangedCursor,
     ) -> Result<Option<ChangedAnswer>, AskError> {
         self.archive.look(reader, walk)
