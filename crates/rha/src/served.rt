@@ -12,7 +12,7 @@ use query_threads::{NoGate, Store, Unpromised};
 use server::Port;
 use service::{Output, Serving, report_listening, report_out_of_memory, report_outside};
 use serving::{Doors, serve as serve_store};
-use shared_archive::FileStore;
+use shared_archive::{FileRenewal, FileStore};
 use std::alloc::Global;
 use std::fs::Files;
 use std::io;
@@ -204,7 +204,7 @@ pub(crate) fn serve<
         rt,
         host,
         collectors,
-        FileStore::new(archive, failures),
+        FileStore::new(archive, FileRenewal::new(failures)),
         asked,
         err,
     )
