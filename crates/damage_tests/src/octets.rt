@@ -2,10 +2,11 @@
 
 use crate::{be_at, copied, opened};
 use disk_archive::OpenError;
+use std::alloc::Global;
 use std::process::Abort;
 use swept_lives::{
-    Both, LONG, Outcome, PAGE, Played, RISING, Stage, apply, check, flush, flush_all, laid_anew,
-    lay, octets_of, prepare,
+    Both, LONG, Outcome, PAGE, Played, RISING, Script, Stage, apply, check, flush, flush_all,
+    laid_anew, lay, octets_of, prepare,
 };
 
 /// The octets of a page of the disk from one on and before another, which are set to 00 and to FF in turn: how many are another one then,
@@ -136,10 +137,12 @@ fn waiting(rt: &impl Abort, stage: &Stage, acts: usize) -> Both {
     laid_anew(stage.alloc, archive.given_up()).expect(rt, "pages")
 }
 
-fn sweep_all(rt: &impl Abort, stage: &Stage, acts: usize, areas: &[Area]) {
-    let disks = waiting(rt, stage, acts);
+/// Sets the octets of these areas, after the first acts of a life.
+fn sweep_all(rt: &impl Abort, alloc: Global, life: &Script, acts: usize, areas: &[Area]) {
+    let stage = prepare(alloc, life).expect(rt, "a stage");
+    let disks = waiting(rt, &stage, acts);
     for area in areas {
-        sweep(rt, stage, &disks, area);
+        sweep(rt, &stage, &disks, area);
     }
 }
 
@@ -236,32 +239,27 @@ const PARTED: [Area; 1] = [Area {
 
 #[test]
 fn octets_of_the_heads_are_changed(rt: HostRuntime) {
-    let stage = prepare(rt.alloc(), &RISING).expect(&rt, "a stage");
-    sweep_all(&rt, &stage, RISEN_ACTS, &HEADS);
+    sweep_all(&rt, rt.alloc(), &RISING, RISEN_ACTS, &HEADS);
 }
 
 #[test]
 fn octets_of_a_first_column_are_changed(rt: HostRuntime) {
-    let stage = prepare(rt.alloc(), &RISING).expect(&rt, "a stage");
-    sweep_all(&rt, &stage, RISEN_ACTS, &FIRST);
+    sweep_all(&rt, rt.alloc(), &RISING, RISEN_ACTS, &FIRST);
 }
 
 #[test]
 fn octets_of_a_second_column_are_changed(rt: HostRuntime) {
-    let stage = prepare(rt.alloc(), &RISING).expect(&rt, "a stage");
-    sweep_all(&rt, &stage, RISEN_ACTS, &SECOND);
+    sweep_all(&rt, rt.alloc(), &RISING, RISEN_ACTS, &SECOND);
 }
 
 #[test]
 fn octets_of_the_root_are_changed(rt: HostRuntime) {
-    let stage = prepare(rt.alloc(), &RISING).expect(&rt, "a stage");
-    sweep_all(&rt, &stage, RISEN_ACTS, &ROOT);
+    sweep_all(&rt, rt.alloc(), &RISING, RISEN_ACTS, &ROOT);
 }
 
 #[test]
 fn octets_of_a_column_of_648_parts_are_changed(rt: HostRuntime) {
-    let stage = prepare(rt.alloc(), &LONG).expect(&rt, "a stage");
-    sweep_all(&rt, &stage, 0, &PARTED);
+    sweep_all(&rt, rt.alloc(), &LONG, 0, &PARTED);
 }
 
 /// The pages of these areas.

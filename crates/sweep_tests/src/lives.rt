@@ -3,7 +3,6 @@
 use crate::be;
 use crate::stops::{opened, play};
 use disk_memory::{Burn, Call};
-use interleaving_core::{Answer, Reply};
 use route_model::octets::u64_at;
 use std::process::Abort;
 use swept_lives::{
@@ -152,22 +151,13 @@ fn happens(rt: &impl Abort, stage: &Stage, changes: u64, expected: &Happened) {
     be(rt, happened == *expected, "what happens");
 }
 
-/// How many rows or events an answer has.
-fn count_of(reply: &Reply) -> usize {
-    match reply {
-        Reply::Done(Answer::Rows(answer)) => answer.rows.len(),
-        Reply::Done(Answer::Events(answer)) => answer.events.len(),
-        _ => 0,
-    }
-}
-
 /// How many rows or events each question of the life has at its end.
 const ROWS: [usize; 14] = [1, 1, 3, 2, 1, 3, 4, 5, 10, 12, 9, 10, 1, 2];
 
 /// Whether each question has that number of rows or events.
 fn are_counted(answers: &[Answered]) -> bool {
     for (answered, rows) in answers.iter().zip(ROWS.iter()) {
-        if count_of(&answered.reply) != *rows {
+        if answered.count() != *rows {
             return false;
         }
     }

@@ -3,7 +3,7 @@
 use crate::acts::ASKED;
 use crate::asked::{query_of, rows_at};
 use crate::played::State;
-use interleaving_core::{Machine, Query, Reach, Reply};
+use interleaving_core::{Answer, Machine, Query, Reach, Reply};
 use route_meaning::Select;
 use route_model::{Admission, Mark, Moment};
 use std::alloc::Global;
@@ -13,6 +13,17 @@ use std::alloc::Global;
 pub struct Answered {
     pub query: Query,
     pub reply: Reply,
+}
+
+impl Answered {
+    /// How many rows or events it has.
+    pub fn count(&self) -> usize {
+        match &self.reply {
+            Reply::Done(Answer::Rows(answer)) => answer.rows.len(),
+            Reply::Done(Answer::Events(answer)) => answer.events.len(),
+            _ => 0,
+        }
+    }
 }
 
 /// The number of the question of now, after those of [`ASKED`]: all routes at the last moment that is settled.
