@@ -1,19 +1,13 @@
 //! What happens in a life that is never stopped.
 
-use crate::acts::{LONG, RISING};
-use crate::asked::count_of;
 use crate::be;
-use crate::disks::{Both, given_up, opened};
-use crate::laid::octets_of;
-use crate::loads::PAGE;
-use crate::played::{Outcome, check};
-use crate::pure::{Answered, NOW};
-use crate::stage::{Stage, prepare};
-use crate::stops::play;
+use crate::stops::{opened, play};
 use disk_memory::{Burn, Call};
 use route_model::octets::u64_at;
-use std::alloc::Global;
 use std::process::Abort;
+use swept_lives::{
+    Answered, Both, LONG, NOW, Outcome, PAGE, RISING, Stage, check, octets_of, prepare,
+};
 
 /// What happens in a life: its calls that write, what is burnt, and what becomes of pages and slots.
 #[derive(Clone, Copy, PartialEq, Eq)]
@@ -63,11 +57,12 @@ const RISING_CHANGES: u64 = 7;
 
 /// The disks after the life, where a check counts this many changes.
 fn live(rt: &impl Abort, stage: &Stage, changes: u64) -> Both {
-    let mut archive = opened(rt, stage.alloc, stage.disks.copy(rt));
+    let disks = stage.disks.copy().expect(rt, "memory");
+    let mut archive = opened(rt, stage, disks);
     let is_done = play(stage, &mut archive) == stage.script.life;
     let is_counted = is_done && check(&mut archive, changes) == Outcome::Done;
     be(rt, is_counted, "a life, and its changes");
-    given_up(archive)
+    archive.given_up()
 }
 
 /// How many blocks begin so.
@@ -85,24 +80,19 @@ const COLUMN: [u8; 6] = [2, 0, 1, 0, 2, 0x88];
 
 const LEAF: [u8; 4] = [1, 0, 0, 0];
 
-/// Whether a call closes a slot: it writes a commit flag, and not that of an open slot.
-fn closes(call: &Call) -> bool {
-    match call {
-        Call::Write(write) => {
-            let at = write.at();
-            at >= PAGE
-                && at < 265 * PAGE
-                && (at - PAGE) % (33 * PAGE) == 0
-                && !write.octets().starts_with(&[0xA5])
-        }
-        Call::Sync => false,
-    }
-}
-
+/// How many of these calls close a slot: they write a commit flag, and not that of an open slot.
 fn count_closed(calls: &[Call]) -> usize {
     let mut count: usize = 0;
     for call in calls {
-        count = count.saturating_add(usize::from(closes(call)));
+        let Call::Write(write) = call else {
+            continue;
+        };
+        let at = write.at();
+        let is_one = at >= PAGE
+            && at < 265 * PAGE
+            && (at - PAGE) % (33 * PAGE) == 0
+            && !write.octets().starts_with(&[0xA5]);
+        count = count.saturating_add(usize::from(is_one));
     }
     count
 }
@@ -114,25 +104,18 @@ struct Tree {
     level: u8,
 }
 
-/// The level that a page of the tree has.
-fn level_of(octets: &[u8]) -> u8 {
-    match octets.get(2) {
-        Some(level) => *level,
-        None => u8::MAX,
-    }
-}
-
-fn tree_of(rt: &impl Abort, alloc: Global, disks: &Both) -> Tree {
-    let mut disks = given_up(opened(rt, alloc, disks.copy(rt)));
-    let head = octets_of(rt, alloc, &mut disks.erase, 265);
+fn tree_of(rt: &impl Abort, stage: &Stage, disks: &Both) -> Tree {
+    let disks = disks.copy().expect(rt, "memory");
+    let mut disks = opened(rt, stage, disks).given_up();
+    let head = octets_of(stage.alloc, &mut disks.erase, 265).expect(rt, "a page");
     if head.len() < 48 {
         panic!(rt; "a head");
     }
     let root = u64_at(&head, 40).saturating_add(265);
-    let page = octets_of(rt, alloc, &mut disks.erase, root);
+    let page = octets_of(stage.alloc, &mut disks.erase, root).expect(rt, "a page");
     Tree {
         next: u64_at(&head, 24),
-        level: level_of(&page),
+        level: *page.get(2).expect(rt, "a level"),
     }
 }
 
@@ -147,49 +130,34 @@ fn late(stage: &Stage) -> u64 {
     }
 }
 
-/// How many pages are used, and how many levels there are, that weren't before.
-fn grown(rt: &impl Abort, stage: &Stage, lived: &Both) -> Tree {
-    let before = tree_of(rt, stage.alloc, &stage.disks);
-    let after = tree_of(rt, stage.alloc, lived);
-    Tree {
-        next: after.next.wrapping_sub(before.next),
-        level: after.level.wrapping_sub(before.level),
-    }
-}
-
-/// What happens in a life, after which the disks are these.
-fn what_happens(rt: &impl Abort, stage: &Stage, lived: &Both) -> Happened {
-    let grown = grown(rt, stage, lived);
+/// This happens in a life.
+fn happens(rt: &impl Abort, stage: &Stage, changes: u64, expected: &Happened) {
+    let lived = live(rt, stage, changes);
+    let (before, after) = (tree_of(rt, stage, &stage.disks), tree_of(rt, stage, &lived));
     let calls = stage.disks.erase.calls().len();
     let burns = stage.disks.pen.settled().len();
     let calls = lived.erase.calls().get(calls..).unwrap_or(&[]);
     let burns = lived.pen.settled().get(burns..).unwrap_or(&[]);
-    Happened {
+    let happened = Happened {
         writes_and_syncs: calls.len(),
         burns: burns.len(),
         leaf_blocks: count_blocks(burns, &LEAF),
         column_blocks: count_blocks(burns, &COLUMN),
-        new_pages: grown.next,
-        levels: grown.level,
+        new_pages: after.next.wrapping_sub(before.next),
+        levels: after.level.wrapping_sub(before.level),
         closed: count_closed(calls),
         late: late(stage),
-    }
-}
-
-/// This happens in a life.
-fn happens(rt: &impl Abort, stage: &Stage, changes: u64, expected: &Happened) {
-    let lived = live(rt, stage, changes);
-    let happened = what_happens(rt, stage, &lived);
+    };
     be(rt, happened == *expected, "what happens");
 }
 
-/// How many rows or events each question of [`crate::acts::ASKED`] has at the end of the life.
+/// How many rows or events each question of the life has at its end.
 const ROWS: [usize; 14] = [1, 1, 3, 2, 1, 3, 4, 5, 10, 12, 9, 10, 1, 2];
 
 /// Whether each question has that number of rows or events.
 fn are_counted(answers: &[Answered]) -> bool {
     for (answered, rows) in answers.iter().zip(ROWS.iter()) {
-        if count_of(&answered.reply) != *rows {
+        if answered.count() != *rows {
             return false;
         }
     }
@@ -198,7 +166,7 @@ fn are_counted(answers: &[Answered]) -> bool {
 
 #[test]
 fn a_life_has_splits_of_each_kind_and_a_checkpoint(rt: HostRuntime) {
-    let stage = prepare(&rt, rt.alloc(), &LONG);
+    let stage = prepare(rt.alloc(), &LONG).expect(&rt, "a stage");
     happens(&rt, &stage, LONG_CHANGES, &LONG_LIFE);
     let known = stage.known.last().expect(&rt, "a state");
     be(&rt, are_counted(&known.answers), "rows and events");
@@ -206,6 +174,6 @@ fn a_life_has_splits_of_each_kind_and_a_checkpoint(rt: HostRuntime) {
 
 #[test]
 fn a_life_has_a_root_that_rises(rt: HostRuntime) {
-    let stage = prepare(&rt, rt.alloc(), &RISING);
+    let stage = prepare(rt.alloc(), &RISING).expect(&rt, "a stage");
     happens(&rt, &stage, RISING_CHANGES, &RISING_LIFE);
 }

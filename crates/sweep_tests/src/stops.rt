@@ -1,12 +1,9 @@
 //! A life is stopped and goes on.
 
 use crate::be_at;
-use crate::disks::{Both, Disk, Handed, KINDS, Played, failed, given_up, opened, try_open};
-use crate::played::{Outcome, apply_all, flush_all, state_of};
-use crate::pure::NOW;
-use crate::stage::{Stage, does_all};
-use disk_memory::Burn;
+use disk_archive::OpenError;
 use std::process::Abort;
+use swept_lives::{Both, Disk, KINDS, NOW, Outcome, Played, Stage, numbered};
 
 /// Where a life is cut off, and in which way it is stopped then.
 #[derive(Clone, Copy)]
@@ -27,12 +24,20 @@ struct Left {
     is_fixed: bool,
 }
 
+/// The archive on these disks.
+pub(crate) fn opened(rt: &impl Abort, stage: &Stage, disks: Both) -> Played {
+    match disks.open(stage.alloc) {
+        Ok(archive) => archive,
+        Err(_) => panic!(rt; "the disks are refused"),
+    }
+}
+
 /// The life is made until it is stopped: how many acts were whole. An application of fewer changes than it would have is stopped too.
 pub(crate) fn play(stage: &Stage, archive: &mut Played) -> usize {
     let life = stage.script.life;
     for number in 0..life {
         let is_done = stage.make(archive, number).is_done();
-        if !is_done || state_of(archive).applied != stage.applied_at(number.saturating_add(1)) {
+        if !is_done || !stage.is_state(archive, stage.place_at(number.saturating_add(1))) {
             return number;
         }
     }
@@ -41,77 +46,48 @@ pub(crate) fn play(stage: &Stage, archive: &mut Played) -> usize {
 
 /// The disks after a stop of this way, where one of them was cut off.
 fn stopped(rt: &impl Abort, disks: &Both, way: u64) -> Both {
-    let is_stopped = disks.erase.is_stopped() || disks.pen.has_stopped();
-    be_at(rt, is_stopped, "a disk is stopped", way);
-    disks.stop(rt, way)
+    be_at(rt, disks.are_cut(), "a disk is stopped", way);
+    disks.stop(way).expect(rt, "memory")
 }
 
-/// What is left where the opening wasn't stopped.
-fn left_in_life(rt: &impl Abort, stage: &Stage, mut archive: Played, way: u64) -> Left {
-    let act = play(stage, &mut archive);
-    let disks = given_up(archive);
+/// The disks of which one is cut off at its k-th call.
+fn cut(rt: &impl Abort, disks: &Both, disk: Disk, k: u64) -> Both {
+    let mut disks = disks.copy().expect(rt, "memory");
+    disks.cut(disk, k);
+    disks
+}
+
+/// What a stop leaves. Where the opening was stopped, no act was.
+fn left_of(rt: &impl Abort, stage: &Stage, stop: &Stop) -> Left {
+    let (disks, act, after) = match cut(rt, &stage.disks, stop.disk, stop.k).open(stage.alloc) {
+        Ok(mut archive) => {
+            let act = play(stage, &mut archive);
+            (archive.given_up(), act, act.saturating_add(1))
+        }
+        Err(handed) => {
+            be_at(
+                rt,
+                handed.error == OpenError::Fault,
+                "a disk failed",
+                stop.k,
+            );
+            (handed.disks, 0, 0)
+        }
+    };
     Left {
-        disks: stopped(rt, &disks, way),
+        disks: stopped(rt, &disks, stop.way),
         act,
         before: stage.place_at(act),
-        after: stage.place_at(act.saturating_add(1)),
-        is_fixed: way < KINDS,
+        after: stage.place_at(after),
+        is_fixed: stop.way < KINDS,
     }
 }
 
-/// What is left where it was.
-fn left_in_opening(rt: &impl Abort, handed: Handed, way: u64) -> Left {
-    let disks = failed(rt, handed);
-    Left {
-        disks: stopped(rt, &disks, way),
-        act: 0,
-        before: 0,
-        after: 0,
-        is_fixed: way < KINDS,
-    }
-}
-
-/// What a stop leaves.
-fn left_of(rt: &impl Abort, stage: &Stage, stop: &Stop) -> Left {
-    let mut disks = stage.disks.copy(rt);
-    disks.cut(stop.disk, stop.k);
-    match try_open(stage.alloc, disks) {
-        Ok(archive) => left_in_life(rt, stage, archive, stop.way),
-        Err(handed) => left_in_opening(rt, handed, stop.way),
-    }
-}
-
-/// The life goes on from an act, and what follows it.
-pub(crate) fn play_from(stage: &Stage, archive: &mut Played, from: usize) -> bool {
-    let acts = stage.script.acts.get(from..).unwrap_or(&[]);
-    does_all(archive, &stage.batches, acts) && apply_all(archive) && flush_all(archive)
-}
-
-/// The number after these burns, where each is of a higher one than all before, from this one on; or of the next one, where none may be
-/// passed over.
-pub(crate) fn numbered(burns: &[Burn], from: u64, may_skip: bool) -> Option<u64> {
-    let mut next = from;
-    for burn in burns {
-        let number = burn.number();
-        if number < next || number > next && !may_skip {
-            return None;
-        }
-        next = number.saturating_add(1);
-    }
-    Some(next)
-}
-
-/// Whether a life that goes on from an act comes to the end of one that is never stopped, and burnt no block twice.
-fn ends_well(stage: &Stage, mut archive: Played, from: usize) -> bool {
-    let is_done = play_from(stage, &mut archive, from)
-        && stage.is_at(&mut archive, stage.last_place());
-    let disks = given_up(archive);
-    is_done && numbered(disks.pen.settled(), 0, true).is_some()
-}
-
-/// The life goes on after a stop, in a state of before or after the act that was stopped, or between both. Returns the place of this state.
+/// The life goes on after a stop, in a state of before or after the act that was stopped, or between both. It comes to the end of one that
+/// is never stopped, and burns no block twice. Returns the place of this state.
 fn live_on(rt: &impl Abort, stage: &Stage, stop: &Stop, left: &Left) -> usize {
-    let mut archive = opened(rt, stage.alloc, left.disks.copy(rt));
+    let disks = left.disks.copy().expect(rt, "memory");
+    let mut archive = opened(rt, stage, disks);
     let found = stage.find(&archive, left.before, left.after);
     let place = found.expect(rt, "a state of before or after");
     let is_either = place == left.before || place == left.after || matches!(stop.disk, Disk::Once);
@@ -119,21 +95,16 @@ fn live_on(rt: &impl Abort, stage: &Stage, stop: &Stop, left: &Left) -> usize {
     be_at(rt, is_there, "before or after, at a call", stop.k);
     let is_whole = place == left.after && left.before < left.after;
     let next = left.act.saturating_add(usize::from(is_whole));
-    let is_well = ends_well(stage, archive, next);
+    let is_done = stage.play_from(&mut archive, next)
+        && stage.is_at(&mut archive, stage.last_place());
+    let disks = archive.given_up();
+    let is_well = is_done && numbered(disks.pen.settled(), 0, true).is_some();
     be_at(rt, is_well, "the end of a life, at a call", stop.k);
     place
 }
 
-/// The place of the state of an archive after an opening that was cut off at its k-th call: that which is found where it isn't cut off, but
-/// for a cut at the first sync.
-fn find_after(left: &Left, stage: &Stage, archive: &Played, place: usize, k: u64) -> Option<usize> {
-    if k == 1 && !left.is_fixed {
-        return stage.find(archive, left.before, left.after);
-    }
-    stage.find(archive, place, place)
-}
-
-/// A crash of an opening that was cut off at its k-th call leaves such a state.
+/// A crash of an opening that was cut off at its k-th call leaves the state that is found where it isn't cut off, but for a cut at the
+/// first sync: that leaves one of before or after the act that was stopped.
 fn leaves(
     rt: &impl Abort,
     stage: &Stage,
@@ -143,8 +114,13 @@ fn leaves(
     k: u64,
     kind: u64,
 ) {
-    let mut archive = opened(rt, stage.alloc, stopped(rt, cut, kind));
-    let found = find_after(left, stage, &archive, place, k);
+    let mut archive = opened(rt, stage, stopped(rt, cut, kind));
+    let (from, to) = if k == 1 && !left.is_fixed {
+        (left.before, left.after)
+    } else {
+        (place, place)
+    };
+    let found = stage.find(&archive, from, to);
     let place = found.expect(rt, "a state after an opening");
     let number = (k.saturating_add(kind) % 14) as usize;
     let is_there = stage.ask(&mut archive, place, NOW) == Outcome::Done
@@ -152,20 +128,14 @@ fn leaves(
     be_at(rt, is_there, "an opening that is cut off, at a call", k);
 }
 
-/// Each crash does.
-fn leaves_all(rt: &impl Abort, stage: &Stage, cut: &Both, left: &Left, place: usize, k: u64) {
-    for kind in 0..KINDS {
-        leaves(rt, stage, cut, left, place, k, kind);
-    }
-}
-
 /// The disks where an opening is stopped at its k-th call that writes; none where it has fewer.
 fn cut_opening(rt: &impl Abort, stage: &Stage, disks: &Both, k: u64) -> Option<Both> {
-    let mut disks = disks.copy(rt);
-    disks.cut(Disk::Erasable, k);
-    match try_open(stage.alloc, disks) {
+    match cut(rt, disks, Disk::Erasable, k).open(stage.alloc) {
         Ok(_) => None,
-        Err(handed) => Some(failed(rt, handed)),
+        Err(handed) => {
+            be_at(rt, handed.error == OpenError::Fault, "a disk failed", k);
+            Some(handed.disks)
+        }
     }
 }
 
@@ -173,11 +143,13 @@ fn cut_opening(rt: &impl Abort, stage: &Stage, disks: &Both, k: u64) -> Option<B
 fn open_all(rt: &impl Abort, stage: &Stage, left: &Left, place: usize) -> u64 {
     let mut openings: u64 = 0;
     for k in 1..1_000 {
-        match cut_opening(rt, stage, &left.disks, k) {
-            Some(cut) => leaves_all(rt, stage, &cut, left, place, k),
-            None => return openings,
+        let Some(cut) = cut_opening(rt, stage, &left.disks, k) else {
+            return openings;
+        };
+        for kind in 0..KINDS {
+            leaves(rt, stage, &cut, left, place, k, kind);
+            openings = openings.saturating_add(1);
         }
-        openings = openings.saturating_add(KINDS);
     }
     panic!(rt; "an opening has fewer calls")
 }

@@ -1,12 +1,10 @@
 //! All stops, dealt out over some tests.
 
-use crate::acts::{LONG, RISING, Script};
 use crate::be;
-use crate::disks::{Disk, WAYS};
-use crate::stage::prepare;
 use crate::stops::{Stop, go_on};
 use std::alloc::Global;
 use std::process::Abort;
+use swept_lives::{Disk, LONG, RISING, Script, WAYS, prepare};
 
 /// The stops of a life by a disk at its calls from one on and before another one, and how many lives and openings are stopped in them.
 struct Deal {
@@ -20,7 +18,7 @@ struct Deal {
 
 /// Each stop of a deal goes on, and there are as many as it says.
 fn sweep(rt: &impl Abort, alloc: Global, deal: &Deal) {
-    let stage = prepare(rt, alloc, &deal.life);
+    let stage = prepare(alloc, &deal.life).expect(rt, "a stage");
     let mut lives: u64 = 0;
     let mut openings: u64 = 0;
     for number in deal.from.saturating_mul(WAYS)..deal.to.saturating_mul(WAYS) {
@@ -96,6 +94,7 @@ const RISE_BURNS: Deal = Deal {
 #[test]
 fn burns_and_settles_are_cut_off(rt: HostRuntime) {
     sweep(&rt, rt.alloc(), &BURNS);
+    sweep(&rt, rt.alloc(), &RISE_BURNS);
 }
 
 #[test]
@@ -116,9 +115,4 @@ fn writes_and_syncs_of_the_third_deal_are_cut_off(rt: HostRuntime) {
 #[test]
 fn writes_and_syncs_are_cut_off_where_the_root_rises(rt: HostRuntime) {
     sweep(&rt, rt.alloc(), &RISE);
-}
-
-#[test]
-fn burns_and_settles_are_cut_off_where_the_root_rises(rt: HostRuntime) {
-    sweep(&rt, rt.alloc(), &RISE_BURNS);
 }

@@ -1,13 +1,11 @@
 //! A life in which one call of a disk, or one growth of memory, is refused, and which goes on.
 
-use crate::acts::Act;
-use crate::be_at;
-use crate::disks::{Both, Played, given_up, opened, try_open};
-use crate::played::{Outcome, apply, check, flush, of_open, set_mark, state_of};
-use crate::pure::NOW;
-use crate::stage::{Stage, call};
-use crate::stops::numbered;
+use crate::{be_at, opened};
+use disk_archive::OpenError;
 use std::process::Abort;
+use swept_lives::{
+    Act, Both, NOW, Outcome, Played, Stage, apply, check, flush, numbered, set_mark,
+};
 
 /// What is refused in a life.
 #[derive(Clone, Copy)]
@@ -29,14 +27,6 @@ pub(crate) struct Trial {
 }
 
 impl Trial {
-    pub(crate) fn new(refusal: Refusal, number: u64) -> Trial {
-        Trial {
-            refusal,
-            number,
-            refused: 0,
-        }
-    }
-
     fn is_of_memory(&self) -> bool {
         matches!(self.refusal, Refusal::Memory)
     }
@@ -50,28 +40,37 @@ impl Trial {
         }
     }
 
-    /// Whether this holds. A test that is wrong says which refusal it was.
-    fn be(&self, rt: &impl Abort, holds: bool, name: &str) {
-        be_at(rt, holds, name, self.number);
-    }
-
     /// Counts a refusal: it's the only one, and of what may be refused.
     fn refuse(&mut self, rt: &impl Abort, outcome: Outcome) {
         self.refused = self.refused.saturating_add(1);
         let may_be = outcome == Outcome::Fault
             || outcome == Outcome::OutOfMemory && self.is_of_memory();
         let is_one = self.refused == 1 && may_be;
-        self.be(rt, is_one, "one refusal, of what may be refused");
+        be_at(
+            rt,
+            is_one,
+            "one refusal, of what may be refused",
+            self.number,
+        );
+    }
+}
+
+/// What a refused opening came to.
+fn of_open(error: OpenError) -> Outcome {
+    match error {
+        OpenError::Fault => Outcome::Fault,
+        OpenError::OutOfMemory => Outcome::OutOfMemory,
+        _ => Outcome::Other,
     }
 }
 
 /// Opens the disks; where that is refused, once more on those that were handed back.
 fn begin(rt: &impl Abort, trial: &mut Trial, stage: &Stage, disks: Both) -> Played {
-    match try_open(stage.alloc, disks) {
+    match disks.open(stage.alloc) {
         Ok(archive) => archive,
         Err(handed) => {
             trial.refuse(rt, of_open(handed.error));
-            opened(rt, stage.alloc, handed.disks)
+            opened(rt, stage, handed.disks)
         }
     }
 }
@@ -81,37 +80,45 @@ fn is_down(archive: &mut Played) -> bool {
     set_mark(archive, 99, 0) == Outcome::NeedsRecovery
 }
 
-/// Whether each call that changes something is refused until the archive is opened again.
-fn does_nothing(stage: &Stage, archive: &mut Played) -> bool {
-    call(archive, &stage.batches, &Act::Admit(0, 0)) == Outcome::NeedsRecovery
+/// Makes the first turn of the question of now.
+fn begin_asking(stage: &Stage, archive: &mut Played, place: usize) -> Outcome {
+    let Some(known) = stage.known.get(place) else {
+        return Outcome::Other;
+    };
+    let Some(asked) = known.answers.get(NOW) else {
+        return Outcome::Other;
+    };
+    let query = &asked.query;
+    let mut cursor = archive.archive.start(*query);
+    match archive.archive.descend(&mut cursor) {
+        Ok(_) => Outcome::Done,
+        Err(error) => Outcome::of_ask(error),
+    }
+}
+
+/// Whether each call that changes or answers something is refused until the archive is opened again, and its state is the one at a place.
+fn does_nothing(stage: &Stage, archive: &mut Played, place: usize) -> bool {
+    stage.call(archive, &Act::Admit(0, 0)) == Outcome::NeedsRecovery
         && set_mark(archive, 0, 9_999) == Outcome::NeedsRecovery
         && apply(archive) == Outcome::NeedsRecovery
         && flush(archive) == Outcome::NeedsRecovery
-}
-
-/// Whether nothing is answered until then.
-fn answers_nothing(stage: &Stage, archive: &mut Played, place: usize) -> bool {
-    stage.ask(archive, place, NOW) == Outcome::NeedsRecovery
-        && stage.begin_asking(archive, place) == Outcome::NeedsRecovery
+        && stage.ask(archive, place, NOW) == Outcome::NeedsRecovery
+        && begin_asking(stage, archive, place) == Outcome::NeedsRecovery
         && check(archive, 0) == Outcome::NeedsRecovery
-}
-
-/// Whether an archive is in the state before an act.
-fn is_before(stage: &Stage, archive: &Played, number: usize) -> bool {
-    stage.is_state(archive, stage.place_at(number))
+        && stage.is_state(archive, place)
 }
 
 /// Makes an act again, which isn't refused then: the archive is as before the next one.
 fn make_again(rt: &impl Abort, trial: &Trial, stage: &Stage, archive: &mut Played, number: usize) {
     let is_done = stage.make(archive, number).is_done();
-    let is_next = is_before(stage, archive, number.saturating_add(1));
-    trial.be(rt, is_done && is_next, "an act is made again");
+    let is_next = stage.is_state(archive, stage.place_at(number.saturating_add(1)));
+    be_at(rt, is_done && is_next, "an act is made again", trial.number);
 }
 
 /// Makes an act again where the archive is as before it, and answers so.
 fn make_undone(rt: &impl Abort, trial: &Trial, stage: &Stage, archive: &mut Played, number: usize) {
     let is_there = stage.is_at(archive, stage.place_at(number));
-    trial.be(rt, is_there, "what was answered is answered");
+    be_at(rt, is_there, "what was answered is answered", trial.number);
     make_again(rt, trial, stage, archive, number);
 }
 
@@ -124,11 +131,9 @@ fn open_again(
     mut archive: Played,
     number: usize,
 ) -> Played {
-    let is_idle = does_nothing(stage, &mut archive)
-        && answers_nothing(stage, &mut archive, stage.place_at(number))
-        && is_before(stage, &archive, number);
-    trial.be(rt, is_idle, "it does and answers nothing");
-    let mut archive = opened(rt, stage.alloc, given_up(archive));
+    let is_idle = does_nothing(stage, &mut archive, stage.place_at(number));
+    be_at(rt, is_idle, "it does and answers nothing", trial.number);
+    let mut archive = opened(rt, stage, archive.given_up());
     if !stage.is_at(&mut archive, stage.place_at(number.saturating_add(1))) {
         make_undone(rt, trial, stage, &mut archive, number);
     }
@@ -145,27 +150,17 @@ fn refuse_act(
     outcome: Outcome,
 ) -> bool {
     trial.refuse(rt, outcome);
-    trial.be(rt, is_before(stage, archive, number), "nothing changed");
+    let is_same = stage.is_state(archive, stage.place_at(number));
+    be_at(rt, is_same, "nothing changed", trial.number);
     let is_down = is_down(archive);
     let may_leave = trial.may_leave(outcome, is_down);
-    trial.be(rt, may_leave, "whether it must be opened again");
+    be_at(
+        rt,
+        may_leave,
+        "whether it must be opened again",
+        trial.number,
+    );
     is_down
-}
-
-/// The archive after an act that was refused, and is made again.
-fn recover(
-    rt: &impl Abort,
-    trial: &Trial,
-    stage: &Stage,
-    mut archive: Played,
-    number: usize,
-    is_down: bool,
-) -> Played {
-    if is_down {
-        return open_again(rt, trial, stage, archive, number);
-    }
-    make_undone(rt, trial, stage, &mut archive, number);
-    archive
 }
 
 /// Makes the rest of an act that was done: where memory was refused, an application may have been of fewer changes, which leaves a state
@@ -182,7 +177,7 @@ fn make_rest(
         let from = stage.place_at(number).saturating_add(1);
         let found = stage.find(archive, from, after);
         trial.refuse(rt, Outcome::OutOfMemory);
-        trial.be(rt, found.is_some(), "fewer changes");
+        be_at(rt, found.is_some(), "fewer changes", trial.number);
         make_again(rt, trial, stage, archive, number);
     }
 }
@@ -197,8 +192,11 @@ fn live_on(
 ) -> Played {
     let outcome = stage.make(&mut archive, number);
     if !outcome.is_done() {
-        let is_down = refuse_act(rt, trial, stage, &mut archive, number, outcome);
-        return recover(rt, trial, stage, archive, number, is_down);
+        if refuse_act(rt, trial, stage, &mut archive, number, outcome) {
+            return open_again(rt, trial, stage, archive, number);
+        }
+        make_undone(rt, trial, stage, &mut archive, number);
+        return archive;
     }
     make_rest(rt, trial, stage, &mut archive, number);
     archive
@@ -217,7 +215,7 @@ fn asks(
     if outcome != Outcome::Done {
         trial.refuse(rt, outcome);
         let is_answered = !is_down(archive) && stage.ask(archive, place, number) == Outcome::Done;
-        trial.be(rt, is_answered, "a question is answered");
+        be_at(rt, is_answered, "a question is answered", trial.number);
     }
 }
 
@@ -230,12 +228,12 @@ fn asks_all(rt: &impl Abort, trial: &mut Trial, stage: &Stage, archive: &mut Pla
 
 /// A check counts all changes; where it's refused, then the next time.
 fn checks(rt: &impl Abort, trial: &mut Trial, archive: &mut Played) {
-    let changes = state_of(archive).applied;
+    let changes = archive.archive.applied();
     let outcome = check(archive, changes);
     if outcome != Outcome::Done {
         trial.refuse(rt, outcome);
         let is_counted = !is_down(archive) && check(archive, changes) == Outcome::Done;
-        trial.be(rt, is_counted, "a check counts changes");
+        be_at(rt, is_counted, "a check counts changes", trial.number);
     }
 }
 
@@ -259,7 +257,7 @@ pub(crate) fn live(rt: &impl Abort, trial: &mut Trial, stage: &Stage, disks: Bot
     if stage.disks.pen.settled().len() < 100 {
         checks(rt, trial, &mut archive);
     }
-    given_up(archive)
+    archive.given_up()
 }
 
 /// Whether each block was tried once, one after another. A disk that was refused memory for a burn leaves its block blank, and it's given up.
@@ -273,8 +271,14 @@ fn are_in_turn(trial: &Trial, disks: &Both) -> bool {
 
 /// A crash after the life leaves the end of one in which nothing is refused.
 pub(crate) fn end(rt: &impl Abort, trial: &Trial, stage: &Stage, disks: &Both) {
-    trial.be(rt, are_in_turn(trial, disks), "blocks in turn");
-    let mut archive = opened(rt, stage.alloc, disks.stop(rt, 0));
+    be_at(
+        rt,
+        are_in_turn(trial, disks),
+        "blocks in turn",
+        trial.number,
+    );
+    let left = disks.stop(0).expect(rt, "memory");
+    let mut archive = opened(rt, stage, left);
     let is_at_end = stage.is_at(&mut archive, stage.last_place());
-    trial.be(rt, is_at_end, "the end");
+    be_at(rt, is_at_end, "the end", trial.number);
 }

@@ -1,15 +1,11 @@
 //! Each call of a disk in a life fails once, alone, dealt out over some tests.
 
-use crate::acts::{LONG, RISING, Script};
-use crate::be_at;
-use crate::disks::opened;
-use crate::failing::Device;
-use crate::played::{Outcome, check};
-use crate::pure::NOW;
+use crate::failing::{Device, fail, faults};
 use crate::refused::{Refusal, Trial, end, live};
-use crate::stage::{Stage, prepare};
+use crate::{be_at, copied, opened};
 use std::alloc::Global;
 use std::process::Abort;
+use swept_lives::{LONG, NOW, Outcome, RISING, Script, Stage, check, prepare};
 
 /// Failures of calls of one kind, from one on and before another one, and how many of them come in a life.
 struct Deal {
@@ -28,12 +24,16 @@ fn refusal_of(call: Device) -> Refusal {
 }
 
 /// A life in which this failure may come. Each that comes is returned by a call. Returns how many came.
-fn fail(rt: &impl Abort, stage: &Stage, call: Device, number: u64) -> u64 {
-    let mut trial = Trial::new(refusal_of(call), number);
-    let mut disks = stage.disks.copy(rt);
-    disks.fail(rt, stage.alloc, call, number);
+fn live_with(rt: &impl Abort, stage: &Stage, call: Device, number: u64) -> u64 {
+    let mut trial = Trial {
+        refusal: refusal_of(call),
+        number,
+        refused: 0,
+    };
+    let mut disks = copied(rt, &stage.disks);
+    fail(rt, stage.alloc, &mut disks, call, number);
     let disks = live(rt, &mut trial, stage, disks);
-    let is_returned = disks.faults() == trial.refused;
+    let is_returned = faults(&disks) == trial.refused;
     be_at(rt, is_returned, "a failure is returned", number);
     end(rt, &trial, stage, &disks);
     trial.refused
@@ -43,7 +43,7 @@ fn fail(rt: &impl Abort, stage: &Stage, call: Device, number: u64) -> u64 {
 fn sweep(rt: &impl Abort, stage: &Stage, deal: &Deal) {
     let mut failures: u64 = 0;
     for number in deal.from..deal.to {
-        let came = fail(rt, stage, deal.call, number);
+        let came = live_with(rt, stage, deal.call, number);
         failures = failures.saturating_add(came);
     }
     be_at(rt, failures == deal.failures, "failures", failures);
@@ -51,7 +51,7 @@ fn sweep(rt: &impl Abort, stage: &Stage, deal: &Deal) {
 
 /// Each of these deals of a life.
 fn sweep_all(rt: &impl Abort, alloc: Global, life: &Script, deals: &[Deal]) {
-    let stage = prepare(rt, alloc, life);
+    let stage = prepare(alloc, life).expect(rt, "a stage");
     for deal in deals {
         sweep(rt, &stage, deal);
     }
@@ -66,15 +66,16 @@ fn is_fault(rt: &impl Abort, outcome: Outcome, number: u64) -> u64 {
 
 /// How many questions, and whether a check, are refused where each read of a block that has this number in its question fails.
 fn refused_reads(rt: &impl Abort, stage: &Stage, number: u64) -> u64 {
-    let mut disks = stage.disks.copy(rt);
-    disks.fail(rt, stage.alloc, Device::ReadBlock, number);
-    let mut archive = opened(rt, stage.alloc, disks);
+    let mut disks = copied(rt, &stage.disks);
+    fail(rt, stage.alloc, &mut disks, Device::ReadBlock, number);
+    let mut archive = opened(rt, stage, disks);
+    let changes = archive.archive.applied();
     let mut refused: u64 = 0;
     for turn in 0..NOW {
         let outcome = stage.ask(&mut archive, 0, turn);
         refused = refused.saturating_add(is_fault(rt, outcome, number));
     }
-    let outcome = check(&mut archive, stage.applied_at(0));
+    let outcome = check(&mut archive, changes);
     refused.saturating_add(is_fault(rt, outcome, number))
 }
 
@@ -205,7 +206,7 @@ fn calls_fail_once_where_the_root_rises(rt: HostRuntime) {
 
 #[test]
 fn reads_of_blocks_fail(rt: HostRuntime) {
-    let stage = prepare(&rt, rt.alloc(), &LONG);
+    let stage = prepare(rt.alloc(), &LONG).expect(&rt, "a stage");
     for (number, expected) in READS.iter().enumerate() {
         let refused = refused_reads(&rt, &stage, number as u64);
         be_at(&rt, refused == *expected, "refused questions", refused);

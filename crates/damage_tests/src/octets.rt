@@ -1,15 +1,13 @@
 //! Octets and pages of the erasable disk are changed. Each call returns then, and what can't be read is refused by its name.
 
-use crate::acts::{LONG, RISING};
-use crate::be_at;
-use crate::disks::{Both, Played, given_up, opened, try_open};
-use crate::laid::{laid_anew, lay, octets_of, page_of};
-use crate::loads::PAGE;
-use crate::played::{apply, check, flush, flush_all};
-use crate::stage::{Stage, prepare};
+use crate::{be_at, copied, opened};
 use disk_archive::OpenError;
 use std::alloc::Global;
 use std::process::Abort;
+use swept_lives::{
+    Both, LONG, Outcome, PAGE, Played, RISING, Script, Stage, apply, check, flush, flush_all,
+    laid_anew, lay, octets_of, prepare,
+};
 
 /// The octets of a page of the disk from one on and before another, which are set to 00 and to FF in turn: how many are another one then,
 /// and with how many of these the disks are opened. Then questions are asked, and, of each step-th octet, all other calls are made.
@@ -29,13 +27,21 @@ struct Counts {
     opened: u64,
 }
 
-/// Of [`crate::acts::ASKED`] a question of each kind.
+/// Of the life's questions one of each kind.
 const EACH: [usize; 6] = [1, 2, 4, 6, 9, 12];
+
+/// Whether neither a device failed nor memory, and the archive needn't be opened again.
+fn is_no_failure(outcome: Outcome) -> bool {
+    !matches!(
+        outcome,
+        Outcome::Fault | Outcome::OutOfMemory | Outcome::NeedsRecovery
+    )
+}
 
 /// Whether questions are answered, or refused for damage, or for the watermark that a damaged page has.
 fn are_answered(stage: &Stage, archive: &mut Played) -> bool {
     for number in &EACH {
-        if !stage.ask(archive, 0, *number).is_no_failure() {
+        if !is_no_failure(stage.ask(archive, 0, *number)) {
             return false;
         }
     }
@@ -45,17 +51,12 @@ fn are_answered(stage: &Stage, archive: &mut Played) -> bool {
 /// Whether the calls that aren't questions return so: a check counts something or finds damage, and a step of applying is made, or refused
 /// for what the pages have.
 fn returns(archive: &mut Played) -> bool {
-    check(archive, 0).is_no_failure() && apply(archive).is_no_failure() && flush(archive).is_done()
-}
-
-/// Whether an opening is refused for what the pages have.
-fn is_named(error: OpenError) -> bool {
-    matches!(error, OpenError::NotAJournal | OpenError::BadNode(_))
+    is_no_failure(check(archive, 0)) && is_no_failure(apply(archive)) && flush(archive).is_done()
 }
 
 /// Whether disks are opened: then questions return, and all other calls if these are to be made. Else the refusal is named.
 fn opens(rt: &impl Abort, stage: &Stage, disks: Both, number: u64, makes_all: bool) -> bool {
-    match try_open(stage.alloc, disks) {
+    match disks.open(stage.alloc) {
         Ok(mut archive) => {
             be_at(rt, are_answered(stage, &mut archive), "questions", number);
             if makes_all {
@@ -64,7 +65,8 @@ fn opens(rt: &impl Abort, stage: &Stage, disks: Both, number: u64, makes_all: bo
             true
         }
         Err(handed) => {
-            be_at(rt, is_named(handed.error), "an opening is refused", number);
+            let is_named = matches!(handed.error, OpenError::NotAJournal | OpenError::BadNode(_));
+            be_at(rt, is_named, "an opening is refused", number);
             false
         }
     }
@@ -72,21 +74,14 @@ fn opens(rt: &impl Abort, stage: &Stage, disks: Both, number: u64, makes_all: bo
 
 /// The same disks with these octets in a page, from one on.
 fn with_octets(rt: &impl Abort, disks: &Both, page: u64, at: u64, octets: &[u8]) -> Both {
-    let mut disks = disks.copy(rt);
-    let at = page.saturating_mul(PAGE).saturating_add(at);
-    lay(rt, &mut disks.erase, at, octets);
+    let mut disks = copied(rt, disks);
+    let from = page.saturating_mul(PAGE).saturating_add(at);
+    be_at(rt, lay(&mut disks.erase, from, octets), "a write", from);
     disks
 }
 
 impl Counts {
-    /// Opens disks of which an octet is another one.
-    fn set(&mut self, rt: &impl Abort, stage: &Stage, disks: Both, at: u64, makes_all: bool) {
-        let is_opened = opens(rt, stage, disks, at, makes_all);
-        self.changed = self.changed.saturating_add(1);
-        self.opened = self.opened.saturating_add(u64::from(is_opened));
-    }
-
-    /// Sets an octet of an area to 00 and to FF, where it's another one.
+    /// Opens disks of which an octet of an area is 00, and is FF, where it's another one.
     fn set_both(
         &mut self,
         rt: &impl Abort,
@@ -97,26 +92,26 @@ impl Counts {
         was: u8,
     ) {
         let makes_all = at % area.step.max(1) == 0;
-        if was != 0 {
-            let changed = with_octets(rt, disks, area.page, at, &[0]);
-            self.set(rt, stage, changed, at, makes_all);
-        }
-        if was != 0xFF {
-            let changed = with_octets(rt, disks, area.page, at, &[0xFF]);
-            self.set(rt, stage, changed, at, makes_all);
+        for octet in &[0, 0xFF] {
+            if was != *octet {
+                let changed = with_octets(rt, disks, area.page, at, &[*octet]);
+                let is_opened = opens(rt, stage, changed, at, makes_all);
+                self.changed = self.changed.saturating_add(1);
+                self.opened = self.opened.saturating_add(u64::from(is_opened));
+            }
         }
     }
 }
 
 /// The octets of a page.
-fn octets_in(rt: &impl Abort, alloc: Global, disks: &Both, page: u64) -> Vec<u8> {
-    let mut disks = disks.copy(rt);
-    octets_of(rt, alloc, &mut disks.erase, page)
+fn octets_in(rt: &impl Abort, stage: &Stage, disks: &Both, page: u64) -> Vec<u8> {
+    let mut disks = copied(rt, disks);
+    octets_of(stage.alloc, &mut disks.erase, page).expect(rt, "a page")
 }
 
 /// Sets the octets of an area.
 fn sweep(rt: &impl Abort, stage: &Stage, disks: &Both, area: &Area) {
-    let octets = octets_in(rt, stage.alloc, disks, area.page);
+    let octets = octets_in(rt, stage, disks, area.page);
     let mut counts = Counts {
         changed: 0,
         opened: 0,
@@ -133,19 +128,21 @@ fn sweep(rt: &impl Abort, stage: &Stage, disks: &Both, area: &Area) {
 
 /// The disks after the first acts of a life, of which no page waits to go home.
 fn waiting(rt: &impl Abort, stage: &Stage, acts: usize) -> Both {
-    let mut archive = opened(rt, stage.alloc, stage.disks.copy(rt));
+    let mut archive = opened(rt, stage, copied(rt, &stage.disks));
     for number in 0..acts {
         let is_done = stage.make(&mut archive, number).is_done();
         be_at(rt, is_done, "an act", number as u64);
     }
     be_at(rt, flush_all(&mut archive), "all pages are home", 0);
-    laid_anew(rt, stage.alloc, given_up(archive))
+    laid_anew(stage.alloc, archive.given_up()).expect(rt, "pages")
 }
 
-fn sweep_all(rt: &impl Abort, stage: &Stage, acts: usize, areas: &[Area]) {
-    let disks = waiting(rt, stage, acts);
+/// Sets the octets of these areas, after the first acts of a life.
+fn sweep_all(rt: &impl Abort, alloc: Global, life: &Script, acts: usize, areas: &[Area]) {
+    let stage = prepare(alloc, life).expect(rt, "a stage");
+    let disks = waiting(rt, &stage, acts);
     for area in areas {
-        sweep(rt, stage, &disks, area);
+        sweep(rt, &stage, &disks, area);
     }
 }
 
@@ -242,63 +239,53 @@ const PARTED: [Area; 1] = [Area {
 
 #[test]
 fn octets_of_the_heads_are_changed(rt: HostRuntime) {
-    let stage = prepare(&rt, rt.alloc(), &RISING);
-    sweep_all(&rt, &stage, RISEN_ACTS, &HEADS);
+    sweep_all(&rt, rt.alloc(), &RISING, RISEN_ACTS, &HEADS);
 }
 
 #[test]
 fn octets_of_a_first_column_are_changed(rt: HostRuntime) {
-    let stage = prepare(&rt, rt.alloc(), &RISING);
-    sweep_all(&rt, &stage, RISEN_ACTS, &FIRST);
+    sweep_all(&rt, rt.alloc(), &RISING, RISEN_ACTS, &FIRST);
 }
 
 #[test]
 fn octets_of_a_second_column_are_changed(rt: HostRuntime) {
-    let stage = prepare(&rt, rt.alloc(), &RISING);
-    sweep_all(&rt, &stage, RISEN_ACTS, &SECOND);
+    sweep_all(&rt, rt.alloc(), &RISING, RISEN_ACTS, &SECOND);
 }
 
 #[test]
 fn octets_of_the_root_are_changed(rt: HostRuntime) {
-    let stage = prepare(&rt, rt.alloc(), &RISING);
-    sweep_all(&rt, &stage, RISEN_ACTS, &ROOT);
+    sweep_all(&rt, rt.alloc(), &RISING, RISEN_ACTS, &ROOT);
 }
 
 #[test]
 fn octets_of_a_column_of_648_parts_are_changed(rt: HostRuntime) {
-    let stage = prepare(&rt, rt.alloc(), &LONG);
-    sweep_all(&rt, &stage, 0, &PARTED);
+    sweep_all(&rt, rt.alloc(), &LONG, 0, &PARTED);
 }
 
 /// The pages of these areas.
 const PAGES: [u64; 8] = [0, 265, 266, 284, 285, 286, 287, 288];
 
-/// The disks with two pages in one another's place.
-fn swapped(rt: &impl Abort, alloc: Global, disks: &Both, one: u64, other: u64) -> Both {
-    let first = octets_in(rt, alloc, disks, one);
-    let second = octets_in(rt, alloc, disks, other);
-    let disks = with_octets(rt, disks, one, 0, &second);
-    with_octets(rt, &disks, other, 0, &first)
-}
-
 /// Swaps a page with each one.
 fn swap(rt: &impl Abort, stage: &Stage, disks: &Both, one: u64) {
+    let first = octets_in(rt, stage, disks, one);
     for other in &PAGES {
-        let swapped = swapped(rt, stage.alloc, disks, one, *other);
+        let second = octets_in(rt, stage, disks, *other);
+        let swapped = with_octets(rt, disks, one, 0, &second);
+        let swapped = with_octets(rt, &swapped, *other, 0, &first);
         let _opened = opens(rt, stage, swapped, *other, true);
     }
 }
 
 /// Fills a page.
 fn fill(rt: &impl Abort, stage: &Stage, disks: &Both, page: u64, octet: u8) {
-    let octets = page_of(rt, stage.alloc, octet);
+    let octets = vec![in stage.alloc; octet; 16_384].expect(rt, "memory");
     let filled = with_octets(rt, disks, page, 0, &octets);
     let _opened = opens(rt, stage, filled, page, true);
 }
 
 #[test]
 fn pages_are_swapped_and_filled(rt: HostRuntime) {
-    let stage = prepare(&rt, rt.alloc(), &RISING);
+    let stage = prepare(rt.alloc(), &RISING).expect(&rt, "a stage");
     let disks = waiting(&rt, &stage, RISEN_ACTS);
     for page in &PAGES {
         swap(&rt, &stage, &disks, *page);

@@ -1,19 +1,15 @@
 //! A block of which one octet is another: what reads it is refused, again and again, and all else is answered.
 
-use crate::acts::LONG;
-use crate::be_at;
-use crate::disks::{Both, Played, given_up, opened};
-use crate::laid::laid_anew;
-use crate::played::{Outcome, ask, ask_with, check};
-use crate::pure::{Answered, NOW};
-use crate::stage::{Stage, prepare};
-use crate::stops::play_from;
+use crate::{be_at, copied, opened};
 use disk_memory::{Burn, MemOnce, MemPen};
 use disk_models::{Block, OnceDisk};
 use once_store::ShelfReader;
 use std::alloc::Global;
 use std::process::Abort;
 use std::sync::Arc;
+use swept_lives::{
+    Answered, Both, LONG, NOW, Outcome, Played, Stage, ask, check, laid_anew, prepare, same,
+};
 
 /// A block as it was, but for one octet where it has this number.
 fn spoiled(rt: &impl Abort, alloc: Global, was: &Burn, number: u64) -> Block {
@@ -63,15 +59,20 @@ fn with_spoiled(rt: &impl Abort, alloc: Global, disks: &Both, number: u64) -> Bo
     Both { erase, once, pen }
 }
 
-/// Whether a question is refused as damage of the block of this number. Else it's answered as ever.
-fn is_refused(rt: &impl Abort, outcome: Outcome, number: u64) -> bool {
-    let is_refused = outcome == Outcome::Damaged(number);
-    let is_either = is_refused || outcome == Outcome::Done;
-    be_at(rt, is_either, "a question", number);
-    is_refused
+/// Asks a question by a reader that keeps the blocks which it reads.
+fn ask_with(archive: &mut Played, reader: &mut ShelfReader<MemOnce>, asked: &Answered) -> Outcome {
+    let query = &asked.query;
+    let answer = archive.archive.answer_with(reader, *query);
+    if same(&answer, &asked.reply) {
+        return Outcome::Done;
+    }
+    match &answer {
+        Ok(_) => Outcome::Other,
+        Err(error) => Outcome::of_ask(*error),
+    }
 }
 
-/// Whether a question is refused, alone and twice by a reader.
+/// Whether a question is refused as damage of the block of this number, alone and twice by a reader. Else it's answered as ever.
 fn refuses(
     rt: &impl Abort,
     archive: &mut Played,
@@ -80,16 +81,19 @@ fn refuses(
     number: u64,
 ) -> bool {
     let alone = ask(archive, &asked.query, &asked.reply);
-    let first = ask_with(archive, reader, &asked.query, &asked.reply);
-    let again = ask_with(archive, reader, &asked.query, &asked.reply);
+    let first = ask_with(archive, reader, asked);
+    let again = ask_with(archive, reader, asked);
     let is_same = first == alone && again == alone;
     be_at(rt, is_same, "a question by a reader", number);
-    is_refused(rt, alone, number)
+    let is_refused = alone == Outcome::Damaged(number);
+    let is_either = is_refused || alone == Outcome::Done;
+    be_at(rt, is_either, "a question", number);
+    is_refused
 }
 
 /// How many of these questions the damage of a block refuses.
 fn refused_of(rt: &impl Abort, archive: &mut Played, asked: &[Answered], number: u64) -> u64 {
-    let mut reader = archive.reader(64).expect(rt, "a reader");
+    let mut reader = archive.archive.reader(64).expect(rt, "a reader");
     let mut refused: u64 = 0;
     for one in asked {
         let is_refused = refuses(rt, archive, &mut reader, one, number);
@@ -101,7 +105,7 @@ fn refused_of(rt: &impl Abort, archive: &mut Played, asked: &[Answered], number:
 /// How many questions the damage of a block refuses. A check finds it.
 fn refusals(rt: &impl Abort, stage: &Stage, disks: &Both, number: u64) -> u64 {
     let disks = with_spoiled(rt, stage.alloc, disks, number);
-    let mut archive = opened(rt, stage.alloc, disks);
+    let mut archive = opened(rt, stage, disks);
     let known = stage.known.last().expect(rt, "a state");
     let asked = known.answers.get(..NOW).unwrap_or(&[]);
     let refused = refused_of(rt, &mut archive, asked, number);
@@ -112,9 +116,9 @@ fn refusals(rt: &impl Abort, stage: &Stage, disks: &Both, number: u64) -> u64 {
 
 /// The disks after the life, of which no page waits to go home.
 fn ended(rt: &impl Abort, stage: &Stage) -> Both {
-    let mut archive = opened(rt, stage.alloc, stage.disks.copy(rt));
-    be_at(rt, play_from(stage, &mut archive, 0), "a life", 0);
-    laid_anew(rt, stage.alloc, given_up(archive))
+    let mut archive = opened(rt, stage, copied(rt, &stage.disks));
+    be_at(rt, stage.play_from(&mut archive, 0), "a life", 0);
+    laid_anew(stage.alloc, archive.given_up()).expect(rt, "pages")
 }
 
 /// A block, and how many questions its damage refuses.
@@ -176,7 +180,7 @@ const REFUSED: [Refused; 12] = [
 
 #[test]
 fn damage_of_a_block_refuses_what_reads_it(rt: HostRuntime) {
-    let stage = prepare(&rt, rt.alloc(), &LONG);
+    let stage = prepare(rt.alloc(), &LONG).expect(&rt, "a stage");
     let disks = ended(&rt, &stage);
     for refused in &REFUSED {
         let questions = refusals(&rt, &stage, &disks, refused.block);

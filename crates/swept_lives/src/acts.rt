@@ -5,7 +5,7 @@ use crate::records::Record;
 
 /// A call of a life.
 #[derive(Clone, Copy)]
-pub(crate) enum Act {
+pub enum Act {
     /// A collector gives the batch of this number.
     Admit(u8, usize),
     /// Its mark is set to this number of seconds.
@@ -16,20 +16,20 @@ pub(crate) enum Act {
 
 /// Records, a second after another: the collector and the peer, the first prefix and how many are taken in turn, the time of the first
 /// record, and how many there are.
-pub(crate) type Load = (u8, u8, u8, u32, u32, u32);
+pub type Load = (u8, u8, u8, u32, u32, u32);
 
 /// A life of an archive, and what comes before and after it.
 #[derive(Clone, Copy)]
-pub(crate) struct Script {
+pub struct Script {
     /// What is applied, and all home, before.
-    pub(crate) loads: &'static [Load],
-    pub(crate) batches: &'static [&'static [Record]],
+    pub loads: &'static [Load],
+    pub batches: &'static [&'static [Record]],
     /// What is done then, so that records wait and slots of the journal are open.
-    pub(crate) before: &'static [Act],
+    pub before: &'static [Act],
     /// The life, once the archive is opened, and what follows it, whether it was stopped or not: a block is burnt in that.
-    pub(crate) acts: &'static [Act],
+    pub acts: &'static [Act],
     /// How many of these acts are the life.
-    pub(crate) life: usize,
+    pub life: usize,
 }
 
 /// Three columns: of the prefixes 0 to 3 of peer 1, whose every second change burns a block then, up to 648, as many as one page of a column
@@ -70,7 +70,7 @@ const LAST: [Record; 3] = [(9_031, 3, 4, 18), (9_032, 3, 0, 0), (9_033, 3, 2, 19
 const NEXT: [Record; 2] = [(9_050, 1, 1, 20), (9_050, 1, 0, 21)];
 
 /// The journal's eight slots run full in this life.
-pub(crate) const LONG: Script = Script {
+pub const LONG: Script = Script {
     loads: &LOADS,
     batches: &[&FIRST, &SECOND, &LATE, &MIXED, &LAST, &NEXT],
     before: &[Act::Admit(0, 0), Act::Admit(1, 1), Act::Mark(1, 9_013)],
@@ -118,7 +118,7 @@ const FOUR: [Record; 4] = [
 ];
 
 /// The root rises in this life.
-pub(crate) const RISING: Script = Script {
+pub const RISING: Script = Script {
     loads: &FIVE,
     batches: &[&SIXTH, &SEVENTH, &FOUR],
     before: &[Act::Admit(0, 0), Act::Mark(1, 9_012)],

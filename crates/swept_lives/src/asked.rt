@@ -30,28 +30,24 @@ pub(crate) fn rows_at(seconds: u32, select: Select) -> Query {
     })
 }
 
-fn events_up_to(seconds: u32, peer: u8, prefix: u8) -> Query {
-    Query::Events(EventsQuestion {
-        from: Moment::from(seconds.saturating_sub(30)),
-        to: Moment::from(seconds),
-        peer: peer_of(peer),
-        prefix: prefix_of(prefix),
-        skip: 0,
-    })
-}
-
 /// The question, as both are asked it.
 pub(crate) fn query_of(asked: &Asked) -> Query {
     let (kind, seconds, peer, prefix) = *asked;
-    let select = match kind {
-        Kind::Route => Select::Route(peer_of(peer), prefix_of(prefix)),
-        Kind::ByPrefix => Select::ByPrefix(prefix_of(prefix)),
-        Kind::Covering => Select::Covering(Address::V4([10, prefix, 1, 1])),
-        Kind::PeerTable => Select::PeerTable(peer_of(peer)),
-        Kind::All => Select::All,
-        Kind::Events => return events_up_to(seconds, peer, prefix),
-    };
-    rows_at(seconds, select)
+    let (peer, key) = (peer_of(peer), prefix_of(prefix));
+    match kind {
+        Kind::Route => rows_at(seconds, Select::Route(peer, key)),
+        Kind::ByPrefix => rows_at(seconds, Select::ByPrefix(key)),
+        Kind::Covering => rows_at(seconds, Select::Covering(Address::V4([10, prefix, 1, 1]))),
+        Kind::PeerTable => rows_at(seconds, Select::PeerTable(peer)),
+        Kind::All => rows_at(seconds, Select::All),
+        Kind::Events => Query::Events(EventsQuestion {
+            from: Moment::from(seconds.saturating_sub(30)),
+            to: Moment::from(seconds),
+            peer,
+            prefix: key,
+            skip: 0,
+        }),
+    }
 }
 
 fn same_change(one: &Change, other: &Change) -> bool {
@@ -65,15 +61,12 @@ fn same_change(one: &Change, other: &Change) -> bool {
     }
 }
 
-fn same_row(one: &Row, other: &Row) -> bool {
-    one.peer == other.peer
-        && one.prefix == other.prefix
-        && one.route.encoding() == other.route.encoding()
-}
-
 fn same_rows(one: &[Row], other: &[Row]) -> bool {
     for (row, same) in one.iter().zip(other.iter()) {
-        if !same_row(row, same) {
+        if row.peer != same.peer
+            || row.prefix != same.prefix
+            || row.route.encoding() != same.route.encoding()
+        {
             return false;
         }
     }
@@ -89,32 +82,16 @@ fn same_events(one: &[Event], other: &[Event]) -> bool {
     one.len() == other.len()
 }
 
-fn same_answer(one: &Answer, other: &Answer) -> bool {
-    match (one, other) {
-        (Answer::Rows(one), Answer::Rows(other)) => {
+/// Whether an archive answers a question as the pure machine does.
+pub fn same(answer: &Result<Answer, AskError>, expected: &Reply) -> bool {
+    match (answer, expected) {
+        (Ok(Answer::Rows(one)), Reply::Done(Answer::Rows(other))) => {
             one.more == other.more && same_rows(&one.rows, &other.rows)
         }
-        (Answer::Events(one), Answer::Events(other)) => {
+        (Ok(Answer::Events(one)), Reply::Done(Answer::Events(other))) => {
             one.more == other.more && same_events(&one.events, &other.events)
         }
-        _ => false,
-    }
-}
-
-/// Whether an archive answers a question as the pure machine does.
-pub(crate) fn same(answer: &Result<Answer, AskError>, expected: &Reply) -> bool {
-    match (answer, expected) {
-        (Ok(answer), Reply::Done(same)) => same_answer(answer, same),
         (Err(AskError::AboveWatermark(mark)), Reply::AboveWatermark(same)) => *mark == *same,
         _ => false,
-    }
-}
-
-/// How many rows or events an answer has.
-pub(crate) fn count_of(reply: &Reply) -> usize {
-    match reply {
-        Reply::Done(Answer::Rows(answer)) => answer.rows.len(),
-        Reply::Done(Answer::Events(answer)) => answer.events.len(),
-        _ => 0,
     }
 }
