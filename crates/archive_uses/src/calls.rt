@@ -29,6 +29,8 @@ use disk_archive::{
 use disk_models::{EraseDisk, Fault, OnceDisk};
 use interleaving_core::{Answer, BatchReply, Query};
 use once_store::{BlockError, ShelfReader};
+use route_history::ChangedCursor;
+use route_meaning::ChangedAnswer;
 use route_model::{Admission, Mark};
 use std::alloc::Global;
 use std::sync::Arc;
@@ -156,6 +158,17 @@ pub fn seen<E: EraseDisk + Drop, O: OnceDisk + Drop>(
     ensures leads { Leads looked (on archive.old) (on archive.new) }
 {
     archive.seen()
+}
+
+/// Looks for what changed. What it finds is right by the call's own clauses.
+pub fn changed_look<E: EraseDisk + Drop, O: OnceDisk + Drop>(
+    archive: &mut Archive<E, O>,
+    reader: &mut ShelfReader<O>,
+    cursor: &mut ChangedCursor,
+) -> Result<Option<ChangedAnswer>, AskError>
+    ensures leads { Leads looked (on archive.old) (on archive.new) }
+{
+    archive.changed_look(reader, cursor)
 }
 
 /// Opens both disks.

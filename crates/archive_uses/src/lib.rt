@@ -15,7 +15,7 @@ mod calls;
 mod laws;
 
 pub use calls::{
-    admit, apply_step, ask, ask_with, check, close, create, descend, finish, flush_step, mark,
-    open, seen, start,
+    admit, apply_step, ask, ask_with, changed_look, check, close, create, descend, finish,
+    flush_step, mark, open, seen, start,
 };
 pub use laws::uses_are_runs;

@@ -176,6 +176,8 @@ struct LoadShown<'l, 'c, 'm, 'f, R: Read, W: Write, X: Write, E: Write> {
 
 impl<A: RouteArchive + Applied, R: Read, W: Write, X: Write, E: Write> Command<A>
     for LoadShown<'_, '_, '_, '_, R, W, X, E> {
+    ghost always = { λ was now status. (was.files.ghost_name ≡ now.files.ghost_name) × (status ≡ 0 → map (λ f. f.input.failed) now.files.now ≡ map (λ f. f.input.failed) was.files.now) };
+
     ghost does = { λ was now most h g status. AreFilesLoaded was.asked.now most h (map (λ f. record { input = f.input; report = f.report }) was.files.now) (map (λ f. record { input = f.input; report = f.report }) now.files.now) status (λ left. left ≡ g) was.out now.out was.reported now.reported };
 
     fn run(&mut self, alloc: Global, archive: A) -> (A, u8) {

@@ -18,7 +18,7 @@
 //! if nothing of it was admitted.
 //!
 //! `main` has no contract: there is no model of what a process is given, nor of its exit status. That it opens the folder's
-//! files and then the files to load, and calls `file_archive` and `service` in this order, can only be read in it.
+//! files and then the files to load, and that it runs the command over them, can only be read in it.
 #![tactic(auto)]
 
 mod commands;

@@ -1,5 +1,7 @@
 //! The archive of a folder is opened, and a command runs over it. If the archive is in use, the command may wait for it.
 
+ghost use Rattle.std.specs.Prelude.{◌≡◌, None, Some, IfOk, IfErr};
+
 use crate::holder::advise_holder;
 use crate::refusals::report_unopened;
 use advice::advise;
@@ -41,13 +43,17 @@ fn within<T: Drop, F: Fn() -> Result<T, OpenFault>>(
     attempt()
 }
 
-/// What was opened. If nothing was, the reason is printed, and which process has the archive if it is in use; the exit status is 1.
+/// What was opened, or what a command returned. If nothing was opened, the reason is printed, and which process has the archive if it is in
+/// use.
 fn report_closed<T, E: Write>(
     rt: &HostRuntime,
     folder: &str,
     opened: Result<T, OpenFault>,
     err: &mut Output<E>,
-) -> Option<T> {
+) -> Option<T>
+    ensures opened { IfOk opened (λ it. result ≡ Some it) }
+    ensures none { IfErr opened (λ why. result ≡ None) }
+{
     match opened {
         Ok(opened) => Some(opened),
         Err(fault) => {
@@ -106,7 +112,10 @@ fn run_as<C: Command<FileArchive>>(
     access: Access,
     first: First,
     command: &mut C,
-) -> Result<u8, OpenFault> {
+) -> Result<u8, OpenFault>
+    ensures always { IfOk result (λ status. C.always command.old command.new status) }
+    ensures idle { IfErr result (λ why. command.new ≡ command.old) }
+{
     let alloc = rt.alloc();
     let mut disks = FileDisks::open(alloc, rt, folder, access)?;
     if first == First::Slots {
@@ -122,7 +131,10 @@ fn run_shared<C: Command<FileArchive>>(
     folder: &str,
     first: First,
     command: &mut C,
-) -> Result<u8, OpenFault> {
+) -> Result<u8, OpenFault>
+    ensures always { IfOk result (λ status. C.always command.old command.new status) }
+    ensures idle { IfErr result (λ why. command.new ≡ command.old) }
+{
     match run_as(rt, folder, Access::Shared, first, command) {
         Err(fault) if fault.needs_alone() => run_as(rt, folder, Access::Alone, first, command),
         ended => ended,
@@ -136,16 +148,19 @@ pub(crate) fn run_to_read<C: Command<FileArchive>>(
     wait: u64,
     first: First,
     command: &mut C,
-) -> Result<u8, OpenFault> {
-    let mut ended = run_shared(rt, folder, first, command);
-    for _ in 0..wait.saturating_mul(TRIES) {
-        if !matches!(&ended, Err(OpenFault::File(FileError::InUse(_)))) {
-            return ended;
+) -> Result<u8, OpenFault>
+    ensures always { IfOk result (λ status. C.always command.old command.new status) }
+    ensures idle { IfErr result (λ why. command.new ≡ command.old) }
+{
+    'tries: for _ in 0..wait.saturating_mul(TRIES) {
+        match run_shared(rt, folder, first, command) {
+            Err(OpenFault::File(FileError::InUse(_))) => {
+                thread::sleep(rt, Duration::from_millis(REST));
+            }
+            ended => return ended,
         }
-        thread::sleep(rt, Duration::from_millis(REST));
-        ended = run_shared(rt, folder, first, command);
     }
-    ended
+    run_shared(rt, folder, first, command)
 }
 
 /// The exit status of a command that only reads. If the archive wasn't opened, the reason is printed, and it is `unopened`.
@@ -155,7 +170,10 @@ pub(crate) fn status_of<E: Write>(
     ended: Result<u8, OpenFault>,
     unopened: u8,
     err: &mut Output<E>,
-) -> u8 {
+) -> u8
+    ensures ran { IfOk ended (λ status. result ≡ status) }
+    ensures unopened { IfErr ended (λ why. result ≡ unopened) }
+{
     let is_refused = matches!(&ended, Err(OpenFault::File(FileError::Failed(_))));
     let status = report_closed(rt, folder, ended, err);
     if is_refused && FileDisks::open(rt.alloc(), rt, folder, Access::Shared).is_ok() {
