@@ -1,5 +1,7 @@
 //! What opening the archive of a folder reports, and a check of one that is damaged.
 
+ghost use Rattle.std.specs.Prelude.{◌≡◌};
+
 use crate::be;
 use crate::folders::{create, inside, is_created, new_name, remove};
 use crate::session::{AMSTERDAM, Command, run};
@@ -8,6 +10,7 @@ use disk_archive::OpenError;
 use disk_files::{Access, FileErase, FileError, FileOnce, Part};
 use file_archive::{FileDisks, OpenFault};
 use service::Status;
+use std::alloc::Global;
 use std::fs;
 use std::fs::OpenOptions;
 use std::os::unix::fs::FileExt;
@@ -173,45 +176,65 @@ fn an_open_slot_with_another_number_is_found(rt: HostRuntime) {
     be(&rt, remove(&rt, &folder), "the folder goes");
 }
 
-/// How an opening of an archive ends whose files are held so.
+/// A command that counts how often it is run.
+#[derive(Drop)]
+struct CountRuns {
+    runs: u32,
+}
+
+/// The exit status of that command.
+const STATUS: u8 = 7;
+
+impl<A: RouteArchive> disk_commands::Command<A> for CountRuns {
+    ghost does = { λ was now most h g status. g ≡ h };
+
+    fn run(&mut self, _alloc: Global, archive: A) -> (A, u8) {
+        self.runs = self.runs.saturating_add(1);
+        (archive, STATUS)
+    }
+}
+
+/// How a command ends that is run over an archive whose files are held so.
 #[derive(Clone, Copy, PartialEq)]
 enum End {
-    Opened,
+    /// It was run once, and its exit status was returned.
+    Ran,
     InUse,
     NeedsAlone,
     Other,
 }
 
-/// How it ends. Whoever opens it lets it go again.
+/// How it ends. The files are let go again.
 fn end_of(rt: &HostRuntime, folder: &str, access: Access) -> End {
-    let opened = match FileDisks::open(rt.alloc(), rt, folder, access) {
-        Ok(disks) => disks.into_archive(rt.alloc()),
+    let mut command = CountRuns { runs: 0 };
+    let ended = match FileDisks::open(rt.alloc(), rt, folder, access) {
+        Ok(disks) => disks.run(rt.alloc(), &mut command).outcome,
         Err(why) => Err(OpenFault::File(why)),
     };
-    match opened {
-        Ok(_) => End::Opened,
+    match ended {
+        Ok(status) if status == STATUS && command.runs == 1 => End::Ran,
         Err(OpenFault::File(FileError::InUse(Part::Pages))) => End::InUse,
         Err(fault) if fault.needs_alone() => End::NeedsAlone,
-        Err(_) => End::Other,
+        _ => End::Other,
     }
 }
 
-/// How openings end of an archive with an open slot, one after another.
+/// How runs end over an archive with an open slot, one after another.
 const RECOVERED: [(Access, End); 4] = [
     (Access::Shared, End::NeedsAlone),
     (Access::Shared, End::NeedsAlone),
-    (Access::Alone, End::Opened),
-    (Access::Shared, End::Opened),
+    (Access::Alone, End::Ran),
+    (Access::Shared, End::Ran),
 ];
 
-/// How openings end while the archive is held so.
+/// How runs end while the archive is held so.
 const BESIDE: [(Access, Access, End); 3] = [
-    (Access::Shared, Access::Shared, End::Opened),
+    (Access::Shared, Access::Shared, End::Ran),
     (Access::Shared, Access::Alone, End::InUse),
     (Access::Alone, Access::Shared, End::InUse),
 ];
 
-/// How an opening ends while disks hold the files so.
+/// How a run ends while disks hold the files so.
 fn end_beside(rt: &HostRuntime, folder: &str, held: Access, access: Access) -> End {
     match FileDisks::open(rt.alloc(), rt, folder, held) {
         Ok(_disks) => end_of(rt, folder, access),
