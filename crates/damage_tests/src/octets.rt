@@ -81,7 +81,7 @@ fn with_octets(rt: &impl Abort, disks: &Both, page: u64, at: u64, octets: &[u8])
 }
 
 impl Counts {
-    /// Opens disks of which an octet of an area is 00, and is FF, where it's another one.
+    /// Opens disks of which an octet of an area is set to 00, and to FF, unless it has that value.
     fn set_both(
         &mut self,
         rt: &impl Abort,

@@ -18,23 +18,10 @@
 //! If the disks aren't opened or the archive isn't made, nothing is written, and the reason is returned: the caller prints it, since
 //! only it knows what the disks are.
 //!
-//! A program opens its disks, makes a command of its own, and calls `run_on` with it and with what knows why its disks fail (`Reasons`). What
-//! it does round a call of `service` stands in `run`: it wraps the archive to count its calls, reads of it what an advice needs, or
-//! writes lines in a form of its own. The command has its files and writers, so what became of them is there when `run_on` returns:
-//!
-//!     struct Load<'a, R, W> { asked: &'a Loading<'a>, files: Vec<FileLoad<R>>, meter: &'a Meter<'a>, out: Output<W>, .. }
-//!
-//!     impl<A: RouteArchive + Applied, ..> Command<A> for Load<'_, R, W> {
-//!         ghost does = { λ was now most h g status. AreFilesLoaded was.asked.now most h .. status (λ left. left ≡ g) .. };
-//!
-//!         fn run(&mut self, alloc: Global, archive: A) -> (A, u8) {
-//!             let mut archive = WatchedArchive::new(archive, self.meter);
-//!             let status = load_files(alloc, &mut archive, self.asked, self.files.as_mut_slice(), &mut self.out, ..);
-//!             (archive.into_archive(), status)
-//!         }
-//!     }
-//!
-//!     let ended = run_on(alloc, Disks { erase, once, pen }, FileReasons { failures }, &mut command);
+//! A program makes a command of its own, and runs it over its disks with what knows why these fail (`Reasons`); over the files of a folder
+//! file_archive does that. What it does round a call of `service` stands in `run`: it wraps the archive to count its calls, reads of it what an
+//! advice needs, or writes lines in a form of its own. The command has its files and writers, so what became of them is there when
+//! `run_on` returns. rha's `load` is such a command.
 //!
 //! The type of the archive is a parameter of the trait, so a command asks of it what it needs besides `RouteArchive`.
 #![tactic(auto)]

@@ -1,4 +1,4 @@
-//! Creates and opens the archive in the files of a folder. Feeds and questions use it like one on any two disks.
+//! Creates and opens the archive in the files of a folder, and runs commands over it. Feeds and questions use it like one on any two disks.
 //!
 //! Too few pages are refused before the folder is made. The folder's name is synced through the folder above, opened
 //! as `DIR/..` once DIR is made: so it is that very folder, whatever links led there. What is removed after a refusal
