@@ -1,5 +1,6 @@
 -- The head: what an archive keeps of itself on its first home page.
 use Rattle.std.specs.Prelude.{◌≤◌, ◌<◌, ℕ, ◌*◌, ◌-◌, ◌^◌, List, [], ◌∷◌, ◌++◌, length, replicate, flat_map}
+use Rattle.route_model.specs.Moments.{IsMoment, last_mark}
 use Rattle.std.specs.List.{AllByRecursion}
 use Rattle.std.specs.Int.{w64, to_be_bytes}
 use Rattle.archive_head.specs.declared.lane.Lane.{Lane}
@@ -37,14 +38,14 @@ head_octets h = flat_map number (h.applied ∷ h.last ∷ h.begun ∷ h.fresh �
 pub record IsLane (l : Lane) : Type 0 where
   pub offered : l.offered < 2 ^ 64
   pub admitted : l.admitted < 2 ^ 64
-  pub mark : l.mark ≤ 4294967296
+  pub mark : l.mark ≤ last_mark
   pub first : l.first < 2 ^ 64
   pub used : l.used < 2 ^ 64
 
 -- a head: each number has eight octets, the time is one in whole seconds, and there are at most 16 collectors
 pub record IsHead (h : Contents) : Type 0 where
   pub applied : h.applied < 2 ^ 64
-  pub last : h.last ≤ 4294967295
+  pub last : IsMoment h.last
   pub begun : h.begun < 2 ^ 64
   pub fresh : h.fresh < 2 ^ 64
   pub block : h.block < 2 ^ 64

@@ -1,6 +1,7 @@
 //! The head of an archive, and its page in a transaction.
 
 ghost use Rattle.std.specs.Prelude.{◌≡◌, ◌<◌, ◌≤◌, ◌^◌, ◌∷◌, [], ℕ, List, length, slice_set, IfOk, OnOk, OnErr, IfErr};
+ghost use Rattle.route_model.specs.Moments.{IsMoment};
 ghost use Rattle.page_journal.specs.Recovers.{IsListed};
 ghost use Rattle.page_tx.specs.Device.{KeepsDevice};
 ghost use Rattle.page_tx.specs.Images.{joined};
@@ -36,7 +37,7 @@ fn number_fits(n: u64)
 {}
 
 fn time_fits(time: Moment)
-    ensures { time ≤ 4294967295 }
+    ensures { IsMoment time }
 {}
 
 fn lane_fits(lane: Lane)

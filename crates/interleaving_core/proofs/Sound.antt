@@ -4,7 +4,8 @@ use Rattle.std.specs.List.{AllByRecursion, slice_get, slice_set}
 use Rattle.std.proofs.lemmas.Bool.{cases_lt}
 use Rattle.std.proofs.lemmas.Option.{same_Some, none-some}
 use Rattle.route_model.specs.Admission.{Admitted, IsAdmission}
-use Rattle.route_meaning.specs.History.{Intake, History, IsHistory, Begins, last_mark}
+use Rattle.route_meaning.specs.History.{Intake, History, IsHistory, Begins}
+use Rattle.route_model.specs.Moments.{last_mark}
 use Rattle.route_meaning.proofs.api.Sorting.{all_weaker, all_append}
 use Rattle.route_meaning.proofs.api.Beginning.{Begins-refl, Begins-trans}
 use Rattle.sequencer.proofs.api.Setting.{all_at, all_set}

@@ -3,7 +3,8 @@ use Rattle.std.specs.Prelude.{ℕ, List, [], ◌∷◌, ◌++◌, ◌+◌, ◌�
 use Rattle.std.specs.List.{AllByRecursion}
 use Rattle.route_model.specs.Admission.{Admitted, IsAdmission}
 use Rattle.route_meaning.specs.Holds.{admitted_time}
-use Rattle.route_meaning.specs.History.{Intake, History, applied, settled, last_mark}
+use Rattle.route_meaning.specs.History.{Intake, History, applied, settled}
+use Rattle.route_model.specs.Moments.{last_mark}
 use Rattle.sequencer.specs.Late.{timely, lates}
 use Rattle.interleaving_core.specs.declared.query.Query.{Query}
 use Rattle.interleaving_core.specs.declared.query.Query.TheVariants.{Rows, Events}

@@ -1,6 +1,7 @@
 -- A right history that reaches whatever a word may be: each collector gave as many admissions as are asked for, all at the first moment,
 -- and said that nothing earlier than the last mark follows.
 use Rattle.std.proofs.Common.{◌≡◌, ℕ, zero, suc, ◌<◌, ◌≤◌, List, [], ◌++◌, map, take, length, replicate, inl, refl, sym, subst, arith, le_refl}
+use Rattle.route_model.specs.Moments.{last_mark}
 use Rattle.std.specs.List.{AllByRecursion}
 use Rattle.std.specs.Prelude.{slice_get}
 use Rattle.std.proofs.Math.Nat.{le-min}
@@ -20,7 +21,7 @@ first = record { time = 0; changes = [] }
 
 -- a collector gave n of them, and gives nothing else
 abbrev crowd : ℕ → Intake
-crowd n = record { admitted = replicate n first; mark = 4294967296; offered = n }
+crowd n = record { admitted = replicate n first; mark = last_mark; offered = n }
 
 -- k collectors did so, and all is applied
 abbrev everything : (k n : ℕ) → History
@@ -63,9 +64,9 @@ right_first = record { time = omega arith; changes = tt; small = omega (arith, o
 intake : (n : ℕ) → IsIntake (crowd n)
 intake n = record {
   rising = rising n;
-  below = each_first (λ a. a.time ≤ 4294967296) n (omega arith);
+  below = each_first (λ a. a.time ≤ last_mark) n (omega arith);
   valid = each_first IsAdmission n right_first;
-  mark = le_refl 4294967296;
+  mark = le_refl last_mark;
   counted = (let e = length-replicate n first in omega (arith, e));
 }
 
@@ -82,12 +83,12 @@ right k n = record {
 
 -- ---- what it reaches
 
-least_mark : (c k n : ℕ) → 4294967296 ≤ least (bounds c (replicate (suc k) (crowd n)) [])
-least_mark c zero n = le_refl 4294967296
-least_mark c (suc k) n = le-min (le_refl 4294967296) (least_mark (suc c) k n)
+least_mark : (c k n : ℕ) → last_mark ≤ least (bounds c (replicate (suc k) (crowd n)) [])
+least_mark c zero n = le_refl last_mark
+least_mark c (suc k) n = le-min (le_refl last_mark) (least_mark (suc c) k n)
 
-watermark : (k n : ℕ) → 4294967296 ≤ settled (everything (suc k) n)
-watermark k n = subst (λ (ps : List (Placed Admitted)). 4294967296 ≤ least (bounds 0 (replicate (suc k) (crowd n)) ps)) (sym (drop-length (all_of (everything (suc k) n)))) (least_mark 0 k n)
+watermark : (k n : ℕ) → last_mark ≤ settled (everything (suc k) n)
+watermark k n = subst (λ (ps : List (Placed Admitted)). last_mark ≤ least (bounds 0 (replicate (suc k) (crowd n)) ps)) (sym (drop-length (all_of (everything (suc k) n)))) (least_mark 0 k n)
 
 count : (k n c : ℕ) → c < length (replicate k (crowd n)) → n ≤ count_in (slice_get (replicate k (crowd n)) c)
 count zero n c lt = absurd (omega arith)

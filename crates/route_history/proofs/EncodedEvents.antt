@@ -1,5 +1,6 @@
 -- What stands for no event.
 use Rattle.std.proofs.Common.{◌≡◌, ℕ, ◌<◌, ◌/◌, ◌^◌, List, Some, None, Option, sym, ◌∙◌, subst, arith}
+use Rattle.route_model.specs.Moments.{IsMoment}
 use Rattle.std.proofs.lemmas.Option.{same_Some, none-some}
 use Rattle.route_model.specs.declared.peer.Peer.{Peer}
 use Rattle.route_model.specs.declared.route.Route.{Route}
@@ -21,5 +22,5 @@ pub unencoded : (p : Peer) (x : IpPrefix) (octets : List ℕ) (o : Option Route)
 unencoded p x octets o only none = λ stamp c ne is. no_change p x octets o only none stamp c ne is
 
 -- a stamp of no moment
-pub no_moment : (p : Peer) (x : IpPrefix) (v : Version) → (v.stamp / 2 ^ 64 < 2 ^ 32 → ⊥) → IsEventIn p x v None
-no_moment p x v none = λ h. none (let lt : h.0.time < 2 ^ 32 = h.1 in let e : h.0.time ≡ v.stamp / 2 ^ 64 = h.2.time in omega (arith, lt, e))
+pub no_moment : (p : Peer) (x : IpPrefix) (v : Version) → (IsMoment (v.stamp / 2 ^ 64) → ⊥) → IsEventIn p x v None
+no_moment p x v none = λ h. none (let lt : IsMoment h.0.time = h.1 in let e : h.0.time ≡ v.stamp / 2 ^ 64 = h.2.time in omega (arith, lt, e))

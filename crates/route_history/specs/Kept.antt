@@ -1,5 +1,6 @@
 -- The versions that stand for applied changes.
-use Rattle.std.specs.Prelude.{◌≡◌, ℕ, suc, ◌^◌, ◌<◌, List, [], ◌∷◌, ◌++◌, map, Option, Some, None, IsSome}
+use Rattle.std.specs.Prelude.{◌≡◌, ℕ, suc, ◌<◌, List, [], ◌∷◌, ◌++◌, map, Option, Some, None, IsSome}
+use Rattle.route_model.specs.Moments.{IsMoment}
 use Rattle.route_model.specs.declared.change.Change.{Change}
 use Rattle.route_model.specs.declared.change.Change.TheVariants.{Announce, Withdraw, Down}
 use Rattle.route_model.specs.Admission.{Admitted, IsChange}
@@ -39,7 +40,7 @@ HasValue (Down p) value = IsSome value
 -- the version of a change that has number n in the order of application
 pub record IsVersion (n : ℕ) (t : Timed) (v : Version) : Type 0 where
   pub few : n < orders
-  pub time : t.time < 2 ^ 32
+  pub time : IsMoment t.time
   pub is_change : IsChange t.change
   pub key : v.key ≡ key_of t.change
   pub stamp : v.stamp ≡ stamp_of t.time n

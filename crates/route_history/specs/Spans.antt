@@ -1,5 +1,6 @@
 -- The versions of a prefix and its peer's session, as events.
 use Rattle.std.specs.Prelude.{◌≡◌, ◌++◌, ℕ, suc, ◌+◌, ◌-◌, ◌*◌, ◌/◌, ◌^◌, ◌<◌, ◌≤◌, ◌&&◌, Bool, true, false, List, [], ◌∷◌, Option, Some, None, option_map, map, filter, drop, length, nat_lt, nat_le, nat_eq}
+use Rattle.route_model.specs.Moments.{IsMoment}
 use Rattle.std.specs.List.{AllZip, AllByRecursion}
 use Rattle.route_model.specs.declared.peer.Peer.{Peer}
 use Rattle.route_model.specs.declared.change.Change.{Change}
@@ -67,7 +68,7 @@ asked all q at = filter (is_of_two (key_number q.peer q.prefix) (session_number 
 
 -- the version stands for an event of the prefix of the peer
 abbrev pub HasEvent : Peer → IpPrefix → Version → Type 0
-HasEvent p x v = (e : Event) × (e.time < 2 ^ 32) × IsEventOf p x v e
+HasEvent p x v = (e : Event) × IsMoment e.time × IsEventOf p x v e
 
 -- is it of one of the two keys?
 abbrev pub is_at : ℕ → ℕ → Version → Bool

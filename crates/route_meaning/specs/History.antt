@@ -2,6 +2,7 @@
 use Rattle.std.specs.Prelude.{ℕ, List, [], ◌∷◌, ◌++◌, ◌≡◌, ◌<◌, ◌≤◌, ◌⊎◌, zero, suc, map, take, drop, length, min}
 use Rattle.std.specs.List.{AllByRecursion, AllZip}
 use Rattle.route_model.specs.Admission.{Admitted, IsAdmission}
+use Rattle.route_model.specs.Moments.{last_mark}
 use Rattle.route_meaning.specs.Merged.{Placed, placed, merged, part, IsRising}
 use Rattle.route_meaning.specs.Holds.{admitted_time, time_of}
 
@@ -58,10 +59,6 @@ least (n ∷ m ∷ ns) = min n (least (m ∷ ns))
 -- the settled watermark: a question of a moment below it is answered
 abbrev pub settled : History → ℕ
 settled h = least (bounds 0 h.intakes (waiting h))
-
--- the last mark, above every moment
-abbrev pub last_mark : ℕ
-last_mark = 4294967296
 
 -- what one collector can have given: its times never fall and are no later than its mark, each admission is one, and it was offered all that was admitted
 pub record IsIntake (i : Intake) : Type 0 where

@@ -6,3 +6,4 @@ pub mod Fronts
 pub mod PrefixFields
 pub mod KeyNumbers
 pub mod PeerKeys
+pub mod Units

@@ -1,5 +1,5 @@
 -- Changes and admissions, and an admission's unique encoding.
-use Rattle.std.specs.Prelude.{ℕ, ◌<◌, ◌≤◌, ◌^◌, List, [], ◌∷◌, ◌++◌, length, map, Any}
+use Rattle.std.specs.Prelude.{ℕ, ◌<◌, ◌≤◌, List, [], ◌∷◌, ◌++◌, length, map, Any}
 use Rattle.std.specs.List.{flat_map, AllByRecursion}
 use Rattle.std.specs.Int.{w16, w64, to_be_bytes}
 use Rattle.route_model.specs.declared.peer.Peer.{Peer}
@@ -7,6 +7,7 @@ use Rattle.route_model.specs.declared.route.Route.{Route}
 use Rattle.route_model.specs.declared.change.Change.{Change}
 use Rattle.route_model.specs.declared.change.Change.TheVariants.{Announce, Withdraw, Down}
 use Rattle.route_model.specs.Octets.{Encodes}
+use Rattle.route_model.specs.Moments.{IsMoment}
 use Rattle.route_model.specs.Prefix.{IsPrefix, prefix_octets}
 use Rattle.route_model.specs.Encoding.{IsPeer, peer_octets, IsRoute, route_octets}
 use Rattle.route_model.specs.Tables.{first_uses, place_of}
@@ -83,9 +84,9 @@ IsChange (Announce p x r) = IsPeer p × IsPrefix x × IsRoute r × (length (rout
 IsChange (Withdraw p x) = IsPeer p × IsPrefix x
 IsChange (Down p) = IsPeer p
 
--- a time in whole seconds, such changes, and at most 131,072 octets in all
+-- a moment, such changes, and at most 131,072 octets in all
 pub record IsAdmission (a : Admitted) : Type 0 where
-  pub time : a.time < 2 ^ 32
+  pub time : IsMoment a.time
   pub changes : AllByRecursion IsChange a.changes
   pub small : length (admission_octets a) ≤ 131072
 

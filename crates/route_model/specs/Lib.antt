@@ -1,4 +1,6 @@
 pub mod Octets
+pub mod Moments
+pub mod Units
 pub mod Sequence
 pub mod Reading
 pub mod Address

@@ -50,6 +50,7 @@ mod reading;
 mod route;
 mod shared;
 mod tables;
+mod unit;
 pub mod wire;
 mod writing;
 
@@ -66,3 +67,4 @@ pub use peer::Peer;
 pub use prefix::Prefix;
 pub use route::{Aggregator, NextHop, Origin, Route};
 pub use shared::SharedRoute;
+pub use unit::Unit;

@@ -1,6 +1,7 @@
 //! Marks: below which moment a collector's records are complete.
 
 ghost use Rattle.std.specs.Prelude.{◌≡◌, ◌≤◌, SomeIff};
+ghost use Rattle.route_model.specs.Moments.{last_mark};
 
 use crate::moment::Moment;
 use std::marker::Model;
@@ -14,12 +15,13 @@ pub struct Mark {
 
 impl Model for Mark {
     ghost use Rattle.std.specs.Prelude.{ℕ, ◌≤◌};
+    ghost use Rattle.route_model.specs.Moments.{last_mark};
 
     ghost Value = { ℕ };
 
     ghost view = { λ a. a.seconds };
 
-    ghost invariant = { λ a. a.seconds ≤ 4294967296 };
+    ghost invariant = { λ a. a.seconds ≤ last_mark };
 
     ghost inverse = { λ n. record { seconds = n } };
 }
@@ -30,7 +32,7 @@ impl Mark {
 
     /// The mark at this many seconds, or none if they are above [`Mark::LAST_SECOND`].
     pub fn new(seconds: u64) -> Option<Mark>
-        ensures mark { SomeIff result (seconds ≤ 4294967296) seconds }
+        ensures mark { SomeIff result (seconds ≤ last_mark) seconds }
     {
         if seconds <= Mark::LAST_SECOND {
             Some(Mark { seconds })
@@ -50,7 +52,7 @@ impl Mark {
     /// The seconds since 1970-01-01T00:00:00Z.
     pub fn seconds(self) -> u64
         ensures seconds { result ≡ self }
-        ensures in_range { result ≤ 4294967296 }
+        ensures in_range { result ≤ last_mark }
     {
         self.seconds
     }

@@ -1,6 +1,7 @@
 //! Moments, in whole seconds since 1970-01-01T00:00:00Z.
 
 ghost use Rattle.std.specs.Prelude.{◌≡◌, ◌≤◌, SomeIff};
+ghost use Rattle.route_model.specs.Moments.{latest_moment};
 
 use std::marker::Model;
 
@@ -12,13 +13,14 @@ pub struct Moment {
 }
 
 impl Model for Moment {
-    ghost use Rattle.std.specs.Prelude.{ℕ, ◌≤◌};
+    ghost use Rattle.std.specs.Prelude.{ℕ};
+    ghost use Rattle.route_model.specs.Moments.{IsMoment};
 
     ghost Value = { ℕ };
 
     ghost view = { λ a. a.seconds };
 
-    ghost invariant = { λ a. a.seconds ≤ 4294967295 };
+    ghost invariant = { λ a. IsMoment a.seconds };
 
     ghost inverse = { λ n. record { seconds = n } };
 }
@@ -29,7 +31,7 @@ impl Moment {
 
     /// The moment at this many seconds, or none if they are above [`Moment::LAST_SECOND`].
     pub fn new(seconds: u64) -> Option<Moment>
-        ensures moment { SomeIff result (seconds ≤ 4294967295) seconds }
+        ensures moment { SomeIff result (seconds ≤ latest_moment) seconds }
     {
         if seconds <= Moment::LAST_SECOND {
             Some(Moment { seconds })
@@ -41,7 +43,7 @@ impl Moment {
     /// The seconds since 1970-01-01T00:00:00Z.
     pub fn seconds(self) -> u64
         ensures seconds { result ≡ self }
-        ensures in_range { result ≤ 4294967295 }
+        ensures in_range { result ≤ latest_moment }
     {
         self.seconds
     }

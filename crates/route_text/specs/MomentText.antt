@@ -1,5 +1,6 @@
 -- The texts of moments and marks.
 use Rattle.std.specs.Prelude.{◌≡◌, ℕ, ◌*◌, ◌≤◌, ◌⊎◌, List, Ok, pos, decimal}
+use Rattle.route_model.specs.Moments.{latest_moment, last_mark}
 use Rattle.jiff.specs.Words.{parse_timestamp}
 use Rattle.route_text.specs.Octets.{Lacks}
 
@@ -15,8 +16,8 @@ pub record IsInstant (last : ℕ) (text : List ℕ) (seconds : ℕ) : Type 0 whe
 
 -- the text writes this moment
 abbrev pub IsMomentText : List ℕ → ℕ → Type 0
-IsMomentText text seconds = IsInstant 4294967295 text seconds
+IsMomentText text seconds = IsInstant latest_moment text seconds
 
 -- the text writes this mark
 abbrev pub IsMarkText : List ℕ → ℕ → Type 0
-IsMarkText text seconds = IsInstant 4294967296 text seconds
+IsMarkText text seconds = IsInstant last_mark text seconds

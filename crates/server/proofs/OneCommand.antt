@@ -1,5 +1,6 @@
 -- A line asks one thing at most.
 use Rattle.std.proofs.Common.{◌≡◌, ℕ, ◌<◌, ◌≤◌, ◌^◌, true, false, List, [], ◌∷◌, codes, decimal, arith, refl, sym, ap, subst, ◌∙◌}
+use Rattle.route_model.specs.Moments.{last_mark}
 use Rattle.std.specs.Str.{bytes_eq}
 use Rattle.std.proofs.lemmas.Fmt.{decimal_injective}
 use Rattle.std.proofs.lemmas.Slice.Eq.{bytes_eq-Decides}
@@ -41,7 +42,7 @@ one_limit : (a b : Text) (c d : ℕ) → a ≡ b → IsLimitText a c → IsLimit
 one_limit a b c d e h k = decimal_injective c d (omega (arith, h.few)) (omega (arith, k.few)) (sym h.number ∙ e ∙ k.number)
 
 one_mark : (a b : Text) (m n : ℕ) → a ≡ b → IsMarkText a m → IsMarkText b n → m ≡ n
-one_mark a b m n e h k = one_instant 4294967296 (omega arith) b m n (subst (λ (x : Text). IsMarkText x m) e h) k
+one_mark a b m n e h k = one_instant last_mark (omega arith) b m n (subst (λ (x : Text). IsMarkText x m) e h) k
 
 marks_agree : (words : List Text) (c d m n : ℕ) → AreMarkWords words c m → AreMarkWords words d n → commands.Mark c m ≡ commands.Mark d n
 marks_agree words c d m n h k =

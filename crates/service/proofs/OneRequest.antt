@@ -1,5 +1,6 @@
 -- A line is one request at most.
 use Rattle.std.proofs.Common.{◌≡◌, ℕ, ◌<◌, ◌≤◌, ◌^◌, true, false, List, ◌∷◌, Option, Some, None, codes, decimal, arith, refl, sym, ap, subst, ◌∙◌, ⊎_elim}
+use Rattle.route_model.specs.Moments.{latest_moment}
 use Rattle.std.specs.Str.{bytes_eq}
 use Rattle.std.proofs.lemmas.Fmt.{decimal_injective}
 use Rattle.std.proofs.lemmas.Slice.Eq.{bytes_eq-Decides}
@@ -53,7 +54,7 @@ same_peer a b c d e f p q first second third h k =
     (subst (λ (x : Text). ArePeerWords a b x p) third h))) k
 
 same_moment : (a b : Text) (m n : ℕ) → a ≡ b → IsMomentText a m → IsMomentText b n → m ≡ n
-same_moment a b m n e h k = one_instant 4294967295 (omega arith) b m n (subst (λ (x : Text). IsMomentText x m) e h) k
+same_moment a b m n e h k = one_instant latest_moment (omega arith) b m n (subst (λ (x : Text). IsMomentText x m) e h) k
 
 same_prefix : (a b : Text) (p q : IpPrefix) → a ≡ b → IsPrefixText a p → IsPrefixText b q → p ≡ q
 same_prefix a b p q e h k = one_prefix b p q (subst (λ (x : Text). IsPrefixText x p) e h) k

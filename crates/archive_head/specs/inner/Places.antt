@@ -1,5 +1,6 @@
 -- What stands at places of the head's page.
 use Rattle.std.specs.Prelude.{ℕ, zero, suc, ◌+◌, ◌*◌, ◌<◌, ◌⊎◌, List, [], ◌∷◌}
+use Rattle.route_model.specs.Moments.{latest_moment, last_mark}
 use Rattle.route_model.specs.Octets.{number_at}
 use Rattle.archive_head.specs.declared.lane.Lane.{Lane}
 use Rattle.archive_head.specs.Head.{Contents}
@@ -19,8 +20,8 @@ contents_at octets count = record { applied = number_at 8 0 octets; last = numbe
 
 -- what is kept of a collector from a place on has no mark where one should be
 abbrev pub IsNoMark : List ℕ → ℕ → Type 0
-IsNoMark octets place = 4294967296 < number_at 8 (place + 16) octets
+IsNoMark octets place = last_mark < number_at 8 (place + 16) octets
 
 -- a time or a mark is none
 abbrev pub HasNoReading : List ℕ → ℕ → Type 0
-HasNoReading octets count = (4294967295 < number_at 8 8 octets) ⊎ ((i : ℕ) × (i < count) × IsNoMark octets (64 + 64 * i))
+HasNoReading octets count = (latest_moment < number_at 8 8 octets) ⊎ ((i : ℕ) × (i < count) × IsNoMark octets (64 + 64 * i))

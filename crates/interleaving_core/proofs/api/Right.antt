@@ -1,5 +1,6 @@
 -- Each step keeps a history right.
 use Rattle.std.proofs.Common.{◌≡◌, ℕ, ◌<◌, ◌≤◌, ◌⊎◌, List, [], ◌∷◌, ◌++◌, length, take, drop, map, replicate, refl, sym, ap, ◌∙◌, subst, arith, zero, suc, Some, inl, inr, length-append}
+use Rattle.route_model.specs.Moments.{IsMoment, last_mark}
 use Rattle.std.specs.List.{AllByRecursion, AllZip, slice_get}
 use Rattle.std.proofs.lemmas.Bool.{cases_eq, cases_lt, cases_Bool}
 use Rattle.std.proofs.lemmas.List.{length-take, map-append}
@@ -61,9 +62,9 @@ greatest-below : (mark last : ℕ) (ts : List ℕ) → mark ≤ last → AllByRe
 greatest-below mark last [] le all = le
 greatest-below mark last (t ∷ ts) le all = let ih = greatest-below mark last ts le all.1 in let h = all.0 in omega (arith, ih, h)
 
-times_low : (batch : List Admitted) → AllByRecursion IsAdmission batch → AllByRecursion (λ t. t ≤ 4294967296) (map admitted_time batch)
+times_low : (batch : List Admitted) → AllByRecursion IsAdmission batch → AllByRecursion (λ t. t ≤ last_mark) (map admitted_time batch)
 times_low [] all = tt
-times_low (a ∷ batch) all = (let h : a.time < 4294967296 = all.0.time in omega arith, times_low batch all.1)
+times_low (a ∷ batch) all = (let h : IsMoment a.time = all.0.time in omega arith, times_low batch all.1)
 
 right_intake : (i : Intake) (batch : List Admitted) → IsIntake i → AllByRecursion IsAdmission batch → IsIntake (with_batch batch i)
 right_intake i batch right valid =
@@ -79,7 +80,7 @@ right_intake i batch right valid =
       rising = rising_from admitted_time (i.admitted ++ kept) (subst (IsRising (λ t. t)) same taken.rising);
       below = from_map admitted_time (λ t. t ≤ greatest i.mark times) (i.admitted ++ kept) (subst (AllByRecursion (λ t. t ≤ greatest i.mark times)) same taken.below);
       valid = all_append IsAdmission i.admitted kept right.valid (all_timely IsAdmission admitted_time i.mark [] batch valid);
-      mark = greatest-below i.mark 4294967296 times right.mark (times_low batch valid);
+      mark = greatest-below i.mark last_mark times right.mark (times_low batch valid);
       counted = (let l = length-append i.admitted kept in omega (arith, n, c, l));
     }
 
@@ -156,7 +157,7 @@ same_given (suc c) mark (i ∷ is) = ap (λ (l : List (List Admitted)). i.admitt
 abbrev pub IsNotBack : ℕ → ℕ → List Intake → Type 0
 IsNotBack c mark is = (i : Intake) → slice_get is c ≡ Some i → i.mark ≤ mark
 
-right_marked_intakes : (c mark : ℕ) (is : List Intake) → IsNotBack c mark is → mark ≤ 4294967296 → AllByRecursion IsIntake is → AllByRecursion IsIntake (changed c (with_mark mark) is)
+right_marked_intakes : (c mark : ℕ) (is : List Intake) → IsNotBack c mark is → mark ≤ last_mark → AllByRecursion IsIntake is → AllByRecursion IsIntake (changed c (with_mark mark) is)
 right_marked_intakes c mark [] back low all = tt
 right_marked_intakes zero mark (i ∷ is) back low all =
     let le : i.mark ≤ mark = back i refl in
@@ -168,7 +169,7 @@ below_marked c mark time [] back all = tt
 below_marked zero mark time (i ∷ is) back all = (let le : i.mark ≤ mark = back i refl in let lt : time < i.mark = all.0 in omega arith, all.1)
 below_marked (suc c) mark time (i ∷ is) back all = (all.0, below_marked c mark time is (λ j e. back j e) all.1)
 
-pub right_marked : (h : History) (c mark : ℕ) → IsNotBack c mark h.intakes → mark ≤ 4294967296 → IsHistory h → IsHistory (marked h c mark)
+pub right_marked : (h : History) (c mark : ℕ) → IsNotBack c mark h.intakes → mark ≤ last_mark → IsHistory h → IsHistory (marked h c mark)
 right_marked h c mark back low right =
     let same : all_of h ≡ all_of (marked h c mark) = ap (merged admitted_time) (sym (same_given c mark h.intakes)) in
     record {
