@@ -8,6 +8,9 @@ use Rattle.version_model.specs.Pages.{Keys, PageNode, CurrentLeaf, ColumnNode, K
 use Rattle.tsb_node.specs.Leaves.{LeafNode, IsLeafPage}
 use Rattle.tsb_node.specs.Columns.{ColumnInPage, IsColumnPage}
 use Rattle.tsb_node.specs.KeyNodes.{KeyNodeInPage, IsKeyNodePage}
+use Rattle.tsb_node.specs.declared.leaf_part.ReadFault.{ReadFault}
+use Rattle.tsb_node.specs.declared.leaf_part.ReadFault.TheVariants.{NotANode}
+use Rattle.tsb_node.specs.Decoded.{IsRefusal}
 use Rattle.tsb_node.specs.Views.{PageRepresents, represents_leaf, represents_column, represents_key_node, keys_between}
 use Rattle.tsb_node.proofs.api.Pages.{one_decoded}
 use Rattle.tsb_walk.specs.declared.page_place.PagePlace.{PagePlace}
@@ -55,3 +58,20 @@ leaf_same octets leaf bounds keys start versions is same represents_node =
     let k : keys_between leaf.bounds ≡ keys = cc in
     let s : leaf.bounds.start ≡ start = cc in
     (ap (λ (b : Bounds). b.start) (sym same) ∙ s, ap keys_between (sym same) ∙ k)
+
+-- ---- a page that isn't read as a node of a kind represents no such node
+
+pub key_node_refused : (octets : List ℕ) (fault : ReadFault) (shown : PageNode) → IsRefusal (λ (node : KeyNodeInPage). IsKeyNodePage node octets) fault → fault ≡ NotANode → PageRepresents octets shown → (level : ℕ) (keys : Keys) (children : List Child) → shown ≡ KeyNode level keys children → ⊥
+key_node_refused octets fault _ refusal same (represents_leaf leaf is) level keys children e = absurd (cc)
+key_node_refused octets fault _ refusal same (represents_column column is) level keys children e = absurd (cc)
+key_node_refused octets fault _ refusal same (represents_key_node node is) level keys children e = subst (IsRefusal (λ (node : KeyNodeInPage). IsKeyNodePage node octets)) same refusal node is
+
+pub column_refused : (octets : List ℕ) (fault : ReadFault) (shown : PageNode) → IsRefusal (λ (column : ColumnInPage). IsColumnPage column octets) fault → fault ≡ NotANode → PageRepresents octets shown → (keys : Keys) (parts : List Part) (start current : ℕ) → shown ≡ ColumnNode keys parts start current → ⊥
+column_refused octets fault _ refusal same (represents_leaf leaf is) keys parts start current e = absurd (cc)
+column_refused octets fault _ refusal same (represents_column column is) keys parts start current e = subst (IsRefusal (λ (column : ColumnInPage). IsColumnPage column octets)) same refusal column is
+column_refused octets fault _ refusal same (represents_key_node node is) keys parts start current e = absurd (cc)
+
+pub leaf_refused : (octets : List ℕ) (fault : ReadFault) (shown : PageNode) → IsRefusal (λ (leaf : LeafNode). IsLeafPage leaf octets) fault → fault ≡ NotANode → PageRepresents octets shown → (keys : Keys) (start : ℕ) (versions : List Version) → shown ≡ CurrentLeaf keys start versions → ⊥
+leaf_refused octets fault _ refusal same (represents_leaf leaf is) keys start versions e = subst (IsRefusal (λ (leaf : LeafNode). IsLeafPage leaf octets)) same refusal leaf is
+leaf_refused octets fault _ refusal same (represents_column column is) keys start versions e = absurd (cc)
+leaf_refused octets fault _ refusal same (represents_key_node node is) keys start versions e = absurd (cc)

@@ -37,7 +37,7 @@ module _ (place : Place) (octets : List ℕ) where
   leaf_sound leaf kind is sound =
       let other = sound_leaf kind sound in
       let same : other.0 ≡ leaf = one_leaf other.0 leaf octets (leaf_begins other.0 octets other.1) (leaf_begins leaf octets is) in
-      (is.block.ended, subst (λ (l : LeafNode). IsWider (range_of l.bounds) (range_of place.bounds)) same other.2)
+      (is.ended, subst (λ (l : LeafNode). IsWider (range_of l.bounds) (range_of place.bounds)) same other.2)
 
   -- ---- columns
 
@@ -58,6 +58,6 @@ module _ (place : Place) (octets : List ℕ) where
   column_sound column kind is sound =
       let other = sound_column kind sound in
       let same : other.0 ≡ column = one_column other.0 column octets (column_begins other.0 octets other.1) (column_begins column octets is) in (
-        (is.block.ended, subst (λ (c : ColumnInBlock). IsWider (range_of c.bounds) (range_of place.bounds)) same other.2),
+        (is.ended, subst (λ (c : ColumnInBlock). IsWider (range_of c.bounds) (range_of place.bounds)) same other.2),
         subst (λ (c : ColumnInBlock). AreLower place.part.block c.parts) same other.3,
       )

@@ -9,7 +9,7 @@ use Rattle.version_model.specs.declared.child.Child.{Child}
 use Rattle.tsb_node.specs.declared.header.Header.{Header}
 use Rattle.tsb_node.specs.Nodes.{body}
 use Rattle.tsb_node.specs.Columns.{BeginsAt}
-use Rattle.tsb_node.specs.KeyNodes.{KeyNodeInPage, IsKeyNode, IsKeyNodePage, IsChildEntry, lows_of, child_octets}
+use Rattle.tsb_node.specs.KeyNodes.{KeyNodeInPage, IsKeyNode, IsWrittenKeyNodePage, IsChildEntry, lows_of, child_octets}
 use Rattle.tsb_node.specs.inner.Fields.{number_in}
 use Rattle.tsb_node.specs.inner.Rows.{IsEncoding, IsFront, StartsAt}
 use Rattle.tsb_node.specs.inner.ChildReading.{child_in, AreChildrenOf, IsKeyNodeOf}
@@ -98,31 +98,32 @@ key_node_start h es k of = ap (λ (b : Bounds). b.start) (sym of.bounds) ∙ of.
 pub key_node_kind : (h : Header) (es : List ℕ) (k : KeyNodeInPage) → IsKeyNodeOf h es k → (h.kind ≡ 3) × (2 ≤ h.level) × (h.level ≤ 7) × (0 < h.count)
 key_node_kind h es k of = (of.kind, omega (arith, of.level, of.valid.lowest), omega (arith, of.level, of.valid.highest), key_node_some h es k of)
 
-abbrev pub key_node_header : KeyNodeInPage → Header
-key_node_header k = record { kind = 3; level = k.level; count = length k.children; used = length (flat_map child_octets k.children); bounds = k.bounds }
+abbrev pub key_node_header : ℕ → KeyNodeInPage → Header
+key_node_header unit k = record { kind = 3; unit = unit; level = k.level; count = length k.children; used = length (flat_map child_octets k.children); bounds = k.bounds }
 
-pub key_node_node : (k : KeyNodeInPage) → IsKeyNode k → IsNode (key_node_header k) (flat_map child_octets k.children)
-key_node_node k valid = record { bounds = valid.bounds; count = omega (arith, valid.fits); used = refl; fits = omega (arith, children-count k.children, valid.fits) }
+pub key_node_node : (unit : ℕ) (k : KeyNodeInPage) → IsKeyNode k → IsNode (key_node_header unit k) (flat_map child_octets k.children)
+key_node_node unit k valid = record { bounds = valid.bounds; count = omega (arith, valid.fits); used = refl; fits = omega (arith, children-count k.children, valid.fits) }
 
-body_of : (h : Header) (es : List ℕ) (k : KeyNodeInPage) → IsKeyNodeOf h es k → node_body h es ≡ node_body (key_node_header k) (flat_map child_octets k.children)
+pub body_of : (h : Header) (es : List ℕ) (k : KeyNodeInPage) → IsKeyNodeOf h es k → node_body h es ≡ node_body (key_node_header h.unit k) (flat_map child_octets k.children)
 body_of h es k of =
-    ap (λ (n : ℕ). body n h.level h.count h.bounds es) of.kind ∙ ap (λ (l : ℕ). body 3 l h.count h.bounds es) of.level ∙ ap (λ (n : ℕ). body 3 k.level n h.bounds es) of.count
-    ∙ ap (λ (b : Bounds). body 3 k.level (length k.children) b es) (sym of.bounds) ∙ ap (body 3 k.level (length k.children) k.bounds) of.encoded
+    ap (λ (n : ℕ). body h.unit n h.level h.count h.bounds es) of.kind ∙ ap (λ (l : ℕ). body h.unit 3 l h.count h.bounds es) of.level ∙ ap (λ (n : ℕ). body h.unit 3 k.level n h.bounds es) of.count
+    ∙ ap (λ (b : Bounds). body h.unit 3 k.level (length k.children) b es) (sym of.bounds) ∙ ap (body h.unit 3 k.level (length k.children) k.bounds) of.encoded
 
-pub key_node_of_begun : (h : Header) (es octets : List ℕ) (k : KeyNodeInPage) → BeginsAsNode h es octets → IsKeyNode k → BeginsAsNode (key_node_header k) (flat_map child_octets k.children) octets → IsKeyNodeOf h es k
-key_node_of_begun h es octets k begun valid other =
-    let same = nodes_same h (key_node_header k) es (flat_map child_octets k.children) octets begun other in
-    record { kind = same.kind; level = same.level; bounds = sym same.bounds; count = same.count; valid = valid; encoded = entries_same h (key_node_header k) es (flat_map child_octets k.children) octets begun other }
+pub key_node_of_begun : (h : Header) (es octets : List ℕ) (k : KeyNodeInPage) (unit : ℕ) → BeginsAsNode h es octets → IsKeyNode k → BeginsAsNode (key_node_header unit k) (flat_map child_octets k.children) octets → IsKeyNodeOf h es k
+key_node_of_begun h es octets k unit begun valid other =
+    let same = nodes_same h (key_node_header unit k) es (flat_map child_octets k.children) octets begun other in
+    record { kind = same.kind; level = same.level; bounds = sym same.bounds; count = same.count; valid = valid; encoded = entries_same h (key_node_header unit k) es (flat_map child_octets k.children) octets begun other }
 
-pub key_node_made : (h : Header) (es page : List ℕ) (k : KeyNodeInPage) → IsNodePage h es page → IsKeyNodeOf h es k → IsKeyNodePage k page
+abbrev pub key_node_made : (h : Header) (es page : List ℕ) (k : KeyNodeInPage) → IsNodePage h es page → IsKeyNodeOf h es k → IsWrittenKeyNodePage k page
 key_node_made h es page k is of = record {
+  unit = h.unit;
   valid = of.valid;
   page = record { current = ap (λ (b : Bounds). b.end) of.bounds ∙ is.page.current; encoded = is.page.encoded ∙ ap (λ (t : List ℕ). t ++ replicate 32 0) (body_of h es k of) };
 }
 
-pub key_node_page : (k : KeyNodeInPage) (page : List ℕ) → IsKeyNodePage k page → IsNodePage (key_node_header k) (flat_map child_octets k.children) page
-key_node_page k page is = record { valid = key_node_node k is.valid; page = record { current = is.page.current; encoded = is.page.encoded } }
+pub key_node_page : (k : KeyNodeInPage) (page : List ℕ) → (is : IsWrittenKeyNodePage k page) → IsNodePage (key_node_header is.unit k) (flat_map child_octets k.children) page
+key_node_page k page is = record { valid = key_node_node is.unit k is.valid; page = record { current = is.page.current; encoded = is.page.encoded } }
 
-pub key_node_back : (h : Header) (es page : List ℕ) (k : KeyNodeInPage) → IsNodePage h es page → IsKeyNodePage k page → IsKeyNodeOf h es k
+pub key_node_back : (h : Header) (es page : List ℕ) (k : KeyNodeInPage) → IsNodePage h es page → IsWrittenKeyNodePage k page → IsKeyNodeOf h es k
 key_node_back h es page k is node =
-    key_node_of_begun h es page k (page_begins h es page is) node.valid (page_begins (key_node_header k) (flat_map child_octets k.children) page (key_node_page k page node))
+    key_node_of_begun h es page k node.unit (page_begins h es page is) node.valid (page_begins (key_node_header node.unit k) (flat_map child_octets k.children) page (key_node_page k page node))

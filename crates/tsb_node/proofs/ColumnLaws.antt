@@ -13,7 +13,7 @@ use Rattle.version_model.specs.declared.part.Part.{Part}
 use Rattle.tsb_node.specs.declared.column.Current.{Current}
 use Rattle.version_model.specs.declared.part.PartKind.{PartKind}
 use Rattle.tsb_node.specs.Columns.{ColumnInPage, ColumnInBlock, IsPartEntry, BeginsAt, starts_of, part_kind, part_octets, current_octets, place_octets}
-use Rattle.tsb_node.specs.Parts.{BeginsAsColumn, BeginsAsOldColumn, IsPartAt}
+use Rattle.tsb_node.specs.Parts.{BeginsAsWrittenColumn, BeginsAsWrittenOldColumn, IsPartAt}
 use Rattle.version_model.specs.Blocks.{start_or}
 use Rattle.tsb_node.specs.inner.PartReading.{IsPlaceBefore, start_at}
 use Rattle.tsb_node.specs.inner.Reading.{area}
@@ -123,34 +123,34 @@ column-size : (c : ColumnInPage) → length (flat_map part_octets c.parts ++ cur
 unfolding current_octets
 column-size c = omega (arith, parts-size c.parts, place-size c.current.start 0 c.current.page, length-append (flat_map part_octets c.parts) (place_octets c.current.start 0 c.current.page))
 
-column_represents : (c : ColumnInPage) (octets : List ℕ) → BeginsAsColumn c octets → number_in 2 4 octets ≡ length c.parts + 1
+column_represents : (c : ColumnInPage) (octets : List ℕ) → BeginsAsWrittenColumn c octets → number_in 2 4 octets ≡ length c.parts + 1
 column_represents c octets is =
     let es : List ℕ = flat_map part_octets c.parts ++ current_octets c.current in
     let fits : length es ≤ 16232 = omega (arith, column-size c, is.valid.follow.fits) in
-    let represents_node = body_represents 2 1 (length c.parts + 1) c.bounds es is.last (omega (arith, is.valid.follow.fits)) fits is.valid.bounds.low is.valid.bounds.start in
+    let represents_node = body_represents is.unit 2 1 (length c.parts + 1) c.bounds es is.last (omega (arith, is.valid.follow.fits)) fits is.valid.bounds.low is.valid.bounds.start in
     ap (number_in 2 4) is.encoded ∙ represents_node.count_is
 
 -- what follows the parts
-after_parts : (c : ColumnInPage) (octets : List ℕ) → BeginsAsColumn c octets → (more : List ℕ) × (area octets ≡ flat_map part_octets c.parts ++ (current_octets c.current ++ more))
+after_parts : (c : ColumnInPage) (octets : List ℕ) → BeginsAsWrittenColumn c octets → (more : List ℕ) × (area octets ≡ flat_map part_octets c.parts ++ (current_octets c.current ++ more))
 after_parts c octets is =
     let ps : List ℕ = flat_map part_octets c.parts in
     let es : List ℕ = ps ++ current_octets c.current in
     let fits : length es ≤ 16232 = omega (arith, column-size c, is.valid.follow.fits) in
     let pad : List ℕ = replicate (16232 - length es) 0 in
-    (pad, ap area is.encoded ∙ body_area 2 1 (length c.parts + 1) c.bounds es is.last fits ∙ append_assoc ps (current_octets c.current) pad)
+    (pad, ap area is.encoded ∙ body_area is.unit 2 1 (length c.parts + 1) c.bounds es is.last fits ∙ append_assoc ps (current_octets c.current) pad)
 
 start_of_part : (ps : List Part) (i : ℕ) (p : Part) (bytes rest : List ℕ) → AllByRecursion IsPartEntry ps → slice_get ps i ≡ Some p → bytes ≡ flat_map part_octets ps ++ rest → start_at i bytes ≡ p.start
 start_of_part ps i p bytes rest all at e =
     let t = part_represents ps i p rest at in
     ap (λ (l : List ℕ). number_in 16 0 (drop (25 * i) l)) e ∙ ap (number_in 16 0) t.1 ∙ (part_read p t.0 (all_at ps i p all at)).start_is
 
-current_here : (c : ColumnInPage) (octets : List ℕ) → BeginsAsColumn c octets → PlaceReads c.current.start 0 c.current.page (drop (25 * length c.parts) (area octets))
+current_here : (c : ColumnInPage) (octets : List ℕ) → BeginsAsWrittenColumn c octets → PlaceReads c.current.start 0 c.current.page (drop (25 * length c.parts) (area octets))
 current_here c octets is =
     let b = after_parts c octets is in
     let here : drop (25 * length c.parts) (area octets) ≡ current_octets c.current ++ b.0 = ap (drop (25 * length c.parts)) b.1 ∙ drop_at (flat_map part_octets c.parts) (current_octets c.current ++ b.0) (25 * length c.parts) (parts-size c.parts) in
     subst (PlaceReads c.current.start 0 c.current.page) (sym here) (current_read c.current b.0 is.valid.current_start is.valid.current_page)
 
-pub column_count : (c : ColumnInPage) (octets : List ℕ) (count : ℕ) → BeginsAsColumn c octets → count ≡ number_in 2 4 octets → (0 < count) × (count ≤ 649)
+pub column_count : (c : ColumnInPage) (octets : List ℕ) (count : ℕ) → BeginsAsWrittenColumn c octets → count ≡ number_in 2 4 octets → (0 < count) × (count ≤ 649)
 column_count c octets count is e = (omega (arith, e, column_represents c octets is), omega (arith, e, column_represents c octets is, is.valid.follow.fits))
 
 first_start : (ps : List Part) (start : ℕ) (p : Part) (rest : List ℕ) → BeginsAt start (starts_of ps ++ rest) → slice_get ps 0 ≡ Some p → p.start ≡ start
@@ -161,7 +161,7 @@ pub no_parts : (ps : List Part) (start current : ℕ) → BeginsAt start (starts
 no_parts [] start current b e = b
 no_parts (q ∷ ps) start current b e = absurd (omega (arith, e))
 
-pub spot_page : (c : ColumnInPage) (octets : List ℕ) (count stamp at start page : ℕ) → BeginsAsColumn c octets → count ≡ number_in 2 4 octets → IsPlaceBefore count (area octets) stamp at → at + 25 ≡ 25 * count
+pub spot_page : (c : ColumnInPage) (octets : List ℕ) (count stamp at start page : ℕ) → BeginsAsWrittenColumn c octets → count ≡ number_in 2 4 octets → IsPlaceBefore count (area octets) stamp at → at + 25 ≡ 25 * count
     → start ≡ number_in 16 at (area octets) → page ≡ number_in 8 (at + 17) (area octets) → ((record { start = start; page = page }) ≡ c.current) × (c.current.start ≤ stamp)
 spot_page c octets count stamp at start page is counted before end s p =
     let n : ℕ = length c.parts in
@@ -177,7 +177,7 @@ spot_page c octets count stamp at start page is counted before end s p =
     (λ i. record { start = start_is i; page = page_is i }, le)
 
 -- where a part ends
-end_is_next : (c : ColumnInPage) (octets : List ℕ) (i : ℕ) → BeginsAsColumn c octets → i ≤ length c.parts → start_at i (area octets) ≡ start_or c.current.start (slice_get c.parts i)
+end_is_next : (c : ColumnInPage) (octets : List ℕ) (i : ℕ) → BeginsAsWrittenColumn c octets → i ≤ length c.parts → start_at i (area octets) ≡ start_or c.current.start (slice_get c.parts i)
 end_is_next c octets i is le = elim (cases_order i (length c.parts)) [
   | inl same ↦ (ap (λ (k : ℕ). start_at k (area octets)) same ∙ (current_here c octets is).start_is ∙ sym (ap (start_or c.current.start) (get_past c.parts i (omega (arith, same)))))
   | inr other ↦ (let g = get_within c.parts i (omega (arith, other)) in
@@ -186,7 +186,7 @@ end_is_next c octets i is le = elim (cases_order i (length c.parts)) [
 ]
 
 -- the part that stands at a place before the last
-pub part_there : (c : ColumnInPage) (octets : List ℕ) (count stamp at : ℕ) → BeginsAsColumn c octets → count ≡ number_in 2 4 octets → (before : IsPlaceBefore count (area octets) stamp at) → (at + 25 ≡ 25 * count → ⊥)
+pub part_there : (c : ColumnInPage) (octets : List ℕ) (count stamp at : ℕ) → BeginsAsWrittenColumn c octets → count ≡ number_in 2 4 octets → (before : IsPlaceBefore count (area octets) stamp at) → (at + 25 ≡ 25 * count → ⊥)
     → (p : Part) × (rest : List ℕ) × IsPartEntry p × (slice_get c.parts before.place ≡ Some p) × (drop at (area octets) ≡ part_octets p ++ rest)
 part_there c octets count stamp at is counted before never =
     let lt : before.place < length c.parts = elim (cases_order before.place (length c.parts)) [
@@ -198,7 +198,7 @@ part_there c octets count stamp at is counted before never =
     let t = part_represents c.parts before.place g.0 (current_octets c.current ++ b.0) g.1 in
     (g.0, t.0, all_at c.parts before.place g.0 is.valid.each g.1, g.1, ap (λ (k : ℕ). drop k (area octets)) before.at_place ∙ ap (drop (25 * before.place)) b.1 ∙ t.1)
 
-pub spot_block : (c : ColumnInPage) (octets : List ℕ) (count stamp at end : ℕ) (p : Part) → BeginsAsColumn c octets → count ≡ number_in 2 4 octets → (before : IsPlaceBefore count (area octets) stamp at)
+pub spot_block : (c : ColumnInPage) (octets : List ℕ) (count stamp at end : ℕ) (p : Part) → BeginsAsWrittenColumn c octets → count ≡ number_in 2 4 octets → (before : IsPlaceBefore count (area octets) stamp at)
     → slice_get c.parts before.place ≡ Some p → end ≡ number_in 16 (at + 25) (area octets) → IsPartAt c.parts c.current.start stamp (record { part = p; end = end })
 spot_block c octets count stamp at end p is counted before here e =
     let lt : before.place < length c.parts = slice_get_within c.parts before.place p here in
@@ -238,18 +238,18 @@ ok_is a b e = cc e
 
 -- ---- the column of a block
 
-old_column_represents : (c : ColumnInBlock) (octets : List ℕ) → BeginsAsOldColumn c octets → number_in 2 4 octets ≡ length c.parts
+old_column_represents : (c : ColumnInBlock) (octets : List ℕ) → BeginsAsWrittenOldColumn c octets → number_in 2 4 octets ≡ length c.parts
 old_column_represents c octets is =
     let es : List ℕ = flat_map part_octets c.parts in
     let fits : length es ≤ 16232 = omega (arith, parts-size c.parts, is.valid.follow.fits) in
-    let represents_node = body_represents 2 1 (length c.parts) c.bounds es is.last (omega (arith, is.valid.follow.fits)) fits is.valid.bounds.low is.valid.bounds.start in
+    let represents_node = body_represents is.unit 2 1 (length c.parts) c.bounds es is.last (omega (arith, is.valid.follow.fits)) fits is.valid.bounds.low is.valid.bounds.start in
     ap (number_in 2 4) is.encoded ∙ represents_node.count_is
 
-old_area : (c : ColumnInBlock) (octets : List ℕ) → BeginsAsOldColumn c octets → (more : List ℕ) × (area octets ≡ flat_map part_octets c.parts ++ more)
+old_area : (c : ColumnInBlock) (octets : List ℕ) → BeginsAsWrittenOldColumn c octets → (more : List ℕ) × (area octets ≡ flat_map part_octets c.parts ++ more)
 old_area c octets is =
     let es : List ℕ = flat_map part_octets c.parts in
     let fits : length es ≤ 16232 = omega (arith, parts-size c.parts, is.valid.follow.fits) in
-    (replicate (16232 - length es) 0, ap area is.encoded ∙ body_area 2 1 (length c.parts) c.bounds es is.last fits)
+    (replicate (16232 - length es) 0, ap area is.encoded ∙ body_area is.unit 2 1 (length c.parts) c.bounds es is.last fits)
 
 some_part : (ps : List Part) (start : ℕ) → BeginsAt start (starts_of ps) → 0 < length ps
 some_part [] start b = absurd b
@@ -259,10 +259,10 @@ first_of : (ps : List Part) (start : ℕ) (p : Part) → BeginsAt start (starts_
 first_of [] start p b e = absurd (none-some p e)
 first_of (q ∷ ps) start p b e = ap (λ (x : Part). x.start) (sym (same_Some q p e)) ∙ b
 
-pub old_count : (c : ColumnInBlock) (octets : List ℕ) (count : ℕ) → BeginsAsOldColumn c octets → count ≡ number_in 2 4 octets → (0 < count) × (count ≤ 649)
+pub old_count : (c : ColumnInBlock) (octets : List ℕ) (count : ℕ) → BeginsAsWrittenOldColumn c octets → count ≡ number_in 2 4 octets → (0 < count) × (count ≤ 649)
 old_count c octets count is e = (omega (arith, e, old_column_represents c octets is, some_part c.parts c.bounds.start is.valid.follow.first), omega (arith, e, old_column_represents c octets is, is.valid.follow.fits))
 
-pub old_there : (c : ColumnInBlock) (octets : List ℕ) (count stamp at : ℕ) → BeginsAsOldColumn c octets → count ≡ number_in 2 4 octets → (before : IsPlaceBefore count (area octets) stamp at)
+pub old_there : (c : ColumnInBlock) (octets : List ℕ) (count stamp at : ℕ) → BeginsAsWrittenOldColumn c octets → count ≡ number_in 2 4 octets → (before : IsPlaceBefore count (area octets) stamp at)
     → (p : Part) × (rest : List ℕ) × IsPartEntry p × (slice_get c.parts before.place ≡ Some p) × (drop at (area octets) ≡ part_octets p ++ rest)
 old_there c octets count stamp at is counted before =
     let g = get_within c.parts before.place (omega (arith, before.below, counted, old_column_represents c octets is)) in
@@ -270,7 +270,7 @@ old_there c octets count stamp at is counted before =
     let t = part_represents c.parts before.place g.0 b.0 g.1 in
     (g.0, t.0, all_at c.parts before.place g.0 is.valid.each g.1, g.1, ap (λ (k : ℕ). drop k (area octets)) before.at_place ∙ ap (drop (25 * before.place)) b.1 ∙ t.1)
 
-old_start : (c : ColumnInBlock) (octets : List ℕ) (count stamp at : ℕ) (p : Part) → BeginsAsOldColumn c octets → (before : IsPlaceBefore count (area octets) stamp at) → c.bounds.start ≤ stamp
+old_start : (c : ColumnInBlock) (octets : List ℕ) (count stamp at : ℕ) (p : Part) → BeginsAsWrittenOldColumn c octets → (before : IsPlaceBefore count (area octets) stamp at) → c.bounds.start ≤ stamp
     → slice_get c.parts before.place ≡ Some p → p.start ≤ stamp
 old_start c octets count stamp at p is before from here =
     let b = old_area c octets is in
@@ -279,7 +279,7 @@ old_start c octets count stamp at p is before from here =
       | inr first ↦ omega (arith, from, first_of c.parts c.bounds.start p is.valid.follow.first (ap (slice_get c.parts) (sym first) ∙ here))
     ]
 
-pub old_last : (c : ColumnInBlock) (octets : List ℕ) (count stamp at end : ℕ) (p : Part) → BeginsAsOldColumn c octets → count ≡ number_in 2 4 octets → (before : IsPlaceBefore count (area octets) stamp at) → at + 25 ≡ 25 * count
+pub old_last : (c : ColumnInBlock) (octets : List ℕ) (count stamp at end : ℕ) (p : Part) → BeginsAsWrittenOldColumn c octets → count ≡ number_in 2 4 octets → (before : IsPlaceBefore count (area octets) stamp at) → at + 25 ≡ 25 * count
     → c.bounds.start ≤ stamp → stamp < end → slice_get c.parts before.place ≡ Some p → IsPartAt c.parts end stamp (record { part = p; end = end })
 old_last c octets count stamp at end p is counted before done from upto here = record {
   place = before.place;
@@ -289,7 +289,7 @@ old_last c octets count stamp at end p is counted before done from upto here = r
   before = upto;
 }
 
-pub old_next : (c : ColumnInBlock) (octets : List ℕ) (count stamp at end next : ℕ) (p : Part) → BeginsAsOldColumn c octets → count ≡ number_in 2 4 octets → (before : IsPlaceBefore count (area octets) stamp at) → (at + 25 ≡ 25 * count → ⊥)
+pub old_next : (c : ColumnInBlock) (octets : List ℕ) (count stamp at end next : ℕ) (p : Part) → BeginsAsWrittenOldColumn c octets → count ≡ number_in 2 4 octets → (before : IsPlaceBefore count (area octets) stamp at) → (at + 25 ≡ 25 * count → ⊥)
     → c.bounds.start ≤ stamp → next ≡ number_in 16 (at + 25) (area octets) → slice_get c.parts before.place ≡ Some p → IsPartAt c.parts end stamp (record { part = p; end = next })
 old_next c octets count stamp at end next p is counted before never from e here =
     let more : suc before.place < count = elim (cases_order (suc before.place) count) [

@@ -9,8 +9,8 @@ use Rattle.version_model.specs.declared.part.Part.{Part}
 use Rattle.tsb_node.specs.declared.column.Current.{Current}
 use Rattle.tsb_node.specs.declared.header.Header.{Header}
 use Rattle.tsb_node.specs.Nodes.{body}
-use Rattle.tsb_node.specs.Columns.{ColumnInPage, ColumnInBlock, IsColumn, IsOldColumn, IsColumnPage, IsColumnBlock, IsPartEntry, BeginsAt, starts_of, part_octets, current_octets}
-use Rattle.tsb_node.specs.Parts.{BeginsAsOldColumn}
+use Rattle.tsb_node.specs.Columns.{ColumnInPage, ColumnInBlock, IsColumn, IsOldColumn, IsWrittenColumnPage, IsWrittenColumnBlock, IsPartEntry, BeginsAt, starts_of, part_octets, current_octets}
+use Rattle.tsb_node.specs.Parts.{BeginsAsWrittenOldColumn}
 use Rattle.tsb_node.specs.inner.Rows.{StartsAt}
 use Rattle.tsb_node.specs.inner.NodeReading.{IsNode, node_body, BeginsAsNode, IsNodePage, IsNodeBlock}
 use Rattle.tsb_node.specs.inner.PartReading.{IsPartBefore, AreParts, IsCurrentOf, IsColumnOf, IsOldColumnOf}
@@ -109,37 +109,38 @@ column_read h es front current c is of =
 abbrev pub column_entries : ColumnInPage → List ℕ
 column_entries c = flat_map part_octets c.parts ++ current_octets c.current
 
-abbrev pub column_header : ColumnInPage → Header
-column_header c = record { kind = 2; level = 1; count = length c.parts + 1; used = length (column_entries c); bounds = c.bounds }
+abbrev pub column_header : ℕ → ColumnInPage → Header
+column_header unit c = record { kind = 2; unit = unit; level = 1; count = length c.parts + 1; used = length (column_entries c); bounds = c.bounds }
 
 entries-size : (c : ColumnInPage) → length (column_entries c) ≡ 25 * (length c.parts + 1)
 entries-size c = omega (arith, parts-size c.parts, current-size c.current, length-append (flat_map part_octets c.parts) (current_octets c.current))
 
-pub column_node : (c : ColumnInPage) → IsColumn c → IsNode (column_header c) (column_entries c)
-column_node c valid = record { bounds = valid.bounds; count = omega (arith, valid.follow.fits); used = refl; fits = omega (arith, entries-size c, valid.follow.fits) }
+pub column_node : (unit : ℕ) (c : ColumnInPage) → IsColumn c → IsNode (column_header unit c) (column_entries c)
+column_node unit c valid = record { bounds = valid.bounds; count = omega (arith, valid.follow.fits); used = refl; fits = omega (arith, entries-size c, valid.follow.fits) }
 
-body_of : (h : Header) (es : List ℕ) (c : ColumnInPage) → IsColumnOf h es c → node_body h es ≡ node_body (column_header c) (column_entries c)
+pub body_of : (h : Header) (es : List ℕ) (c : ColumnInPage) → IsColumnOf h es c → node_body h es ≡ node_body (column_header h.unit c) (column_entries c)
 body_of h es c of =
-    ap (λ (k : ℕ). body k h.level h.count h.bounds es) of.kind ∙ ap (λ (l : ℕ). body 2 l h.count h.bounds es) of.level ∙ ap (λ (n : ℕ). body 2 1 n h.bounds es) of.count
-    ∙ ap (λ (b : Bounds). body 2 1 (length c.parts + 1) b es) (sym of.bounds) ∙ ap (body 2 1 (length c.parts + 1) c.bounds) of.encoded
+    ap (λ (k : ℕ). body h.unit k h.level h.count h.bounds es) of.kind ∙ ap (λ (l : ℕ). body h.unit 2 l h.count h.bounds es) of.level ∙ ap (λ (n : ℕ). body h.unit 2 1 n h.bounds es) of.count
+    ∙ ap (λ (b : Bounds). body h.unit 2 1 (length c.parts + 1) b es) (sym of.bounds) ∙ ap (body h.unit 2 1 (length c.parts + 1) c.bounds) of.encoded
 
-pub column_of_begun : (h : Header) (es octets : List ℕ) (c : ColumnInPage) → BeginsAsNode h es octets → IsColumn c → BeginsAsNode (column_header c) (column_entries c) octets → IsColumnOf h es c
-column_of_begun h es octets c begun valid other =
-    let same = nodes_same h (column_header c) es (column_entries c) octets begun other in
-    record { kind = same.kind; level = same.level; bounds = sym same.bounds; count = same.count; valid = valid; encoded = entries_same h (column_header c) es (column_entries c) octets begun other }
+pub column_of_begun : (h : Header) (es octets : List ℕ) (c : ColumnInPage) (unit : ℕ) → BeginsAsNode h es octets → IsColumn c → BeginsAsNode (column_header unit c) (column_entries c) octets → IsColumnOf h es c
+column_of_begun h es octets c unit begun valid other =
+    let same = nodes_same h (column_header unit c) es (column_entries c) octets begun other in
+    record { kind = same.kind; level = same.level; bounds = sym same.bounds; count = same.count; valid = valid; encoded = entries_same h (column_header unit c) es (column_entries c) octets begun other }
 
-pub column_made : (h : Header) (es page : List ℕ) (c : ColumnInPage) → IsNodePage h es page → IsColumnOf h es c → IsColumnPage c page
+abbrev pub column_made : (h : Header) (es page : List ℕ) (c : ColumnInPage) → IsNodePage h es page → IsColumnOf h es c → IsWrittenColumnPage c page
 column_made h es page c is of = record {
+  unit = h.unit;
   valid = of.valid;
   page = record { current = ap (λ (b : Bounds). b.end) of.bounds ∙ is.page.current; encoded = is.page.encoded ∙ ap (λ (t : List ℕ). t ++ replicate 32 0) (body_of h es c of) };
 }
 
-pub column_page_node : (c : ColumnInPage) (page : List ℕ) → IsColumnPage c page → IsNodePage (column_header c) (column_entries c) page
-column_page_node c page is = record { valid = column_node c is.valid; page = record { current = is.page.current; encoded = is.page.encoded } }
+pub column_page_node : (c : ColumnInPage) (page : List ℕ) → (is : IsWrittenColumnPage c page) → IsNodePage (column_header is.unit c) (column_entries c) page
+column_page_node c page is = record { valid = column_node is.unit c is.valid; page = record { current = is.page.current; encoded = is.page.encoded } }
 
-pub column_back : (h : Header) (es page : List ℕ) (c : ColumnInPage) → IsNodePage h es page → IsColumnPage c page → IsColumnOf h es c
+pub column_back : (h : Header) (es page : List ℕ) (c : ColumnInPage) → IsNodePage h es page → IsWrittenColumnPage c page → IsColumnOf h es c
 column_back h es page c is column =
-    column_of_begun h es page c (page_begins h es page is) column.valid (page_begins (column_header c) (column_entries c) page (column_page_node c page column))
+    column_of_begun h es page c column.unit (page_begins h es page is) column.valid (page_begins (column_header column.unit c) (column_entries c) page (column_page_node c page column))
 
 -- ---- in a block
 
@@ -202,27 +203,27 @@ old_column_some h es c of none = has c.parts of.valid.follow.first (omega (arith
     has [] first e = first
     has (q ∷ qs) first e = omega (arith, e)
 
-abbrev pub old_header : ColumnInBlock → Header
-old_header c = record { kind = 2; level = 1; count = length c.parts; used = length (flat_map part_octets c.parts); bounds = c.bounds }
+abbrev pub old_header : ℕ → ColumnInBlock → Header
+old_header unit c = record { kind = 2; unit = unit; level = 1; count = length c.parts; used = length (flat_map part_octets c.parts); bounds = c.bounds }
 
-pub old_node : (c : ColumnInBlock) → IsOldColumn c → IsNode (old_header c) (flat_map part_octets c.parts)
-old_node c valid = record { bounds = valid.bounds; count = omega (arith, valid.follow.fits); used = refl; fits = omega (arith, parts-size c.parts, valid.follow.fits) }
+pub old_node : (unit : ℕ) (c : ColumnInBlock) → IsOldColumn c → IsNode (old_header unit c) (flat_map part_octets c.parts)
+old_node unit c valid = record { bounds = valid.bounds; count = omega (arith, valid.follow.fits); used = refl; fits = omega (arith, parts-size c.parts, valid.follow.fits) }
 
-old_body_of : (h : Header) (es : List ℕ) (c : ColumnInBlock) → IsOldColumnOf h es c → node_body h es ≡ node_body (old_header c) (flat_map part_octets c.parts)
+pub old_body_of : (h : Header) (es : List ℕ) (c : ColumnInBlock) → IsOldColumnOf h es c → node_body h es ≡ node_body (old_header h.unit c) (flat_map part_octets c.parts)
 old_body_of h es c of =
-    ap (λ (k : ℕ). body k h.level h.count h.bounds es) of.kind ∙ ap (λ (l : ℕ). body 2 l h.count h.bounds es) of.level ∙ ap (λ (n : ℕ). body 2 1 n h.bounds es) of.count
-    ∙ ap (λ (b : Bounds). body 2 1 (length c.parts) b es) (sym of.bounds) ∙ ap (body 2 1 (length c.parts) c.bounds) of.encoded
+    ap (λ (k : ℕ). body h.unit k h.level h.count h.bounds es) of.kind ∙ ap (λ (l : ℕ). body h.unit 2 l h.count h.bounds es) of.level ∙ ap (λ (n : ℕ). body h.unit 2 1 n h.bounds es) of.count
+    ∙ ap (λ (b : Bounds). body h.unit 2 1 (length c.parts) b es) (sym of.bounds) ∙ ap (body h.unit 2 1 (length c.parts) c.bounds) of.encoded
 
-pub old_of_begun : (h : Header) (es octets : List ℕ) (c : ColumnInBlock) → BeginsAsNode h es octets → IsOldColumn c → BeginsAsNode (old_header c) (flat_map part_octets c.parts) octets → IsOldColumnOf h es c
-old_of_begun h es octets c begun valid other =
-    let same = nodes_same h (old_header c) es (flat_map part_octets c.parts) octets begun other in
-    record { kind = same.kind; level = same.level; bounds = sym same.bounds; count = same.count; valid = valid; encoded = entries_same h (old_header c) es (flat_map part_octets c.parts) octets begun other }
+pub old_of_begun : (h : Header) (es octets : List ℕ) (c : ColumnInBlock) (unit : ℕ) → BeginsAsNode h es octets → IsOldColumn c → BeginsAsNode (old_header unit c) (flat_map part_octets c.parts) octets → IsOldColumnOf h es c
+old_of_begun h es octets c unit begun valid other =
+    let same = nodes_same h (old_header unit c) es (flat_map part_octets c.parts) octets begun other in
+    record { kind = same.kind; level = same.level; bounds = sym same.bounds; count = same.count; valid = valid; encoded = entries_same h (old_header unit c) es (flat_map part_octets c.parts) octets begun other }
 
-pub old_begins_of : (h : Header) (es octets : List ℕ) (c : ColumnInBlock) → BeginsAsNode h es octets → IsOldColumnOf h es c → BeginsAsOldColumn c octets
-old_begins_of h es octets c is of = record { valid = of.valid; last = is.last; encoded = is.encoded ∙ ap (λ (t : List ℕ). t ++ is.last) (old_body_of h es c of) }
+pub old_begins_of : (h : Header) (es octets : List ℕ) (c : ColumnInBlock) → BeginsAsNode h es octets → IsOldColumnOf h es c → BeginsAsWrittenOldColumn c octets
+old_begins_of h es octets c is of = record { unit = h.unit; valid = of.valid; last = is.last; encoded = is.encoded ∙ ap (λ (t : List ℕ). t ++ is.last) (old_body_of h es c of) }
 
-pub of_old_begins : (h : Header) (es octets : List ℕ) (c : ColumnInBlock) → BeginsAsNode h es octets → BeginsAsOldColumn c octets → IsOldColumnOf h es c
-of_old_begins h es octets c is column = old_of_begun h es octets c is column.valid (record { valid = old_node c column.valid; last = column.last; encoded = column.encoded })
+pub of_old_begins : (h : Header) (es octets : List ℕ) (c : ColumnInBlock) → BeginsAsNode h es octets → BeginsAsWrittenOldColumn c octets → IsOldColumnOf h es c
+of_old_begins h es octets c is column = old_of_begun h es octets c column.unit is column.valid (record { valid = old_node column.unit c column.valid; last = column.last; encoded = column.encoded })
 
 -- another predicate for a column that is found, and for none
 pub some_column : (o : Option Bounds) (P Q : ColumnInBlock → Type 0) → ((c : ColumnInBlock) → P c → Q c) → IfSome o (λ b. (c : ColumnInBlock) × P c × (c.bounds ≡ b)) → IfSome o (λ b. (c : ColumnInBlock) × Q c × (c.bounds ≡ b))
@@ -233,10 +234,11 @@ pub none_column : (o : Option Bounds) (P Q : ColumnInBlock → Type 0) → ((c :
 none_column None P Q f never = λ c is. never c (f c is)
 none_column (Some b) P Q f never = tt
 
-pub old_made : (h : Header) (es block : List ℕ) (c : ColumnInBlock) → IsNodeBlock h es block → IsOldColumnOf h es c → IsColumnBlock c block
+abbrev pub old_made : (h : Header) (es block : List ℕ) (c : ColumnInBlock) → IsNodeBlock h es block → IsOldColumnOf h es c → IsWrittenColumnBlock c block
 old_made h es block c is of =
     let same = old_body_of h es c of in
     record {
+      unit = h.unit;
       valid = of.valid;
       block = record {
         ended = subst (λ (b : Bounds). IsSome b.end) (sym of.bounds) is.block.ended;
@@ -244,9 +246,9 @@ old_made h es block c is of =
       };
     }
 
-pub old_block_node : (c : ColumnInBlock) (block : List ℕ) → IsColumnBlock c block → IsNodeBlock (old_header c) (flat_map part_octets c.parts) block
-old_block_node c block is = record { valid = old_node c is.valid; block = record { ended = is.block.ended; encoded = is.block.encoded } }
+pub old_block_node : (c : ColumnInBlock) (block : List ℕ) → (is : IsWrittenColumnBlock c block) → IsNodeBlock (old_header is.unit c) (flat_map part_octets c.parts) block
+old_block_node c block is = record { valid = old_node is.unit c is.valid; block = record { ended = is.block.ended; encoded = is.block.encoded } }
 
-pub old_back : (h : Header) (es block : List ℕ) (c : ColumnInBlock) → IsNodeBlock h es block → IsColumnBlock c block → IsOldColumnOf h es c
+pub old_back : (h : Header) (es block : List ℕ) (c : ColumnInBlock) → IsNodeBlock h es block → IsWrittenColumnBlock c block → IsOldColumnOf h es c
 old_back h es block c is column =
-    old_of_begun h es block c (block_begins h es block is) column.valid (block_begins (old_header c) (flat_map part_octets c.parts) block (old_block_node c block column))
+    old_of_begun h es block c column.unit (block_begins h es block is) column.valid (block_begins (old_header column.unit c) (flat_map part_octets c.parts) block (old_block_node c block column))

@@ -1,12 +1,12 @@
 -- Columns that are written.
-use Rattle.std.proofs.Common.{◌≡◌, ℕ, ◌+◌, ◌*◌, ◌^◌, ◌<◌, ◌≤◌, List, [], ◌∷◌, ◌++◌, length, take, replicate, slice_get, Some, None, IsSome, sym, ap, subst, ◌∙◌, arith}
+use Rattle.std.proofs.Common.{◌≡◌, ℕ, ◌+◌, ◌*◌, ◌^◌, ◌<◌, ◌≤◌, List, [], ◌∷◌, ◌++◌, length, take, replicate, slice_get, Some, None, IsSome, refl, sym, ap, subst, ◌∙◌, arith}
 use Rattle.std.specs.List.{flat_map, AllByRecursion}
 use Rattle.std.proofs.lemmas.List.{append-nil, length-append, length-take, take_all}
 use Rattle.std.proofs.lemmas.Grind.{flat_map-append}
 use Rattle.once_store.specs.Digests.{sealed}
 use Rattle.version_model.specs.declared.part.Part.{Part}
 use Rattle.tsb_node.specs.Numbers.{octets_of}
-use Rattle.tsb_node.specs.Nodes.{IsBounds, header, body, seconds}
+use Rattle.tsb_node.specs.Nodes.{IsBounds, header, body, unit_now}
 use Rattle.tsb_node.specs.Columns.{ColumnInPage, ColumnInBlock, IsColumn, IsOldColumn, CanBeColumn, CanBeOldColumn, IsPartEntry, IsColumnPage, IsColumnBlock, part_octets, current_octets, place_octets}
 use Rattle.tsb_node.specs.inner.Laying.{laid, IsFilling}
 use Rattle.tsb_node.proofs.NumberLaws.{octets_of-size}
@@ -15,6 +15,7 @@ use Rattle.tsb_node.proofs.Laying.{put_two, all_push}
 use Rattle.tsb_node.proofs.ColumnLaws.{parts-size}
 use Rattle.tsb_node.proofs.PartLaws.{part-size, current-size}
 use Rattle.tsb_node.proofs.SealingLaws.{sealed_is}
+use Rattle.tsb_node.proofs.WrittenNow.{column_now, old_column_now}
 use Rattle.tsb_node.proofs.WritingLaws.{filling_on, filled, take_more}
 
 pub place_laid : (at start kind number : ℕ) (old : List ℕ) → at + 17 ≤ length old → laid (at + 17) (octets_of 8 number) (laid (at + 16) (kind ∷ []) (laid at (octets_of 16 start) old)) ≡ laid at (place_octets start kind number) old
@@ -67,27 +68,27 @@ old_column_valid c can bounds each = record { bounds = bounds; each = each; foll
 
 -- the column of a page
 pub column_written : (c : ColumnInPage) (count used : ℕ) (sheet : List ℕ) → IsColumn c → c.bounds.end ≡ None → count ≡ length c.parts + 1 → used ≡ 25 * (length c.parts + 1)
-    → IsFilling (header 2 seconds 1 count used c.bounds) (flat_map part_octets c.parts) sheet → IsColumnPage c (laid (120 + 25 * length c.parts) (current_octets c.current) sheet)
+    → IsFilling (header 2 unit_now 1 count used c.bounds) (flat_map part_octets c.parts) sheet → IsColumnPage c (laid (120 + 25 * length c.parts) (current_octets c.current) sheet)
 column_written c count used sheet valid current counted sized f =
     let ps : List ℕ = flat_map part_octets c.parts in
     let es : List ℕ = ps ++ current_octets c.current in
     let size : length es ≡ 25 * (length c.parts + 1) = omega (arith, parts-size c.parts, current-size c.current, length-append ps (current_octets c.current)) in
-    let g = filling_on (header 2 seconds 1 count used c.bounds) ps (current_octets c.current) sheet (120 + 25 * length c.parts) f (omega (arith, parts-size c.parts)) (omega (arith, parts-size c.parts, current-size c.current, valid.follow.fits)) in
-    let h : header 2 seconds 1 count used c.bounds ≡ header 2 seconds 1 (length c.parts + 1) (length es) c.bounds =
-    ap (λ (n : ℕ). header 2 seconds 1 n used c.bounds) counted ∙ ap (λ (n : ℕ). header 2 seconds 1 (length c.parts + 1) n c.bounds) (sized ∙ sym size) in
+    let g = filling_on (header 2 unit_now 1 count used c.bounds) ps (current_octets c.current) sheet (120 + 25 * length c.parts) f (omega (arith, parts-size c.parts)) (omega (arith, parts-size c.parts, current-size c.current, valid.follow.fits)) in
+    let h : header 2 unit_now 1 count used c.bounds ≡ header 2 unit_now 1 (length c.parts + 1) (length es) c.bounds =
+    ap (λ (n : ℕ). header 2 unit_now 1 n used c.bounds) counted ∙ ap (λ (n : ℕ). header 2 unit_now 1 (length c.parts + 1) n c.bounds) (sized ∙ sym size) in
     let whole = subst (λ (t : List ℕ). IsFilling t es (laid (120 + 25 * length c.parts) (current_octets c.current) sheet)) h g in
-    record { valid = valid; page = record { current = current; encoded = filled 2 1 (length c.parts + 1) c.bounds es _ whole (omega (arith, size, valid.follow.fits)) } }
+    column_now c _ (record { unit = unit_now; valid = valid; page = record { current = current; encoded = filled unit_now 2 1 (length c.parts + 1) c.bounds es _ whole (omega (arith, size, valid.follow.fits)) } }) refl
 
 -- the column of a block
 pub old_column_written : (c : ColumnInBlock) (count used : ℕ) (sheet : List ℕ) → IsOldColumn c → IsSome c.bounds.end → count ≡ length c.parts → used ≡ 25 * length c.parts
-    → IsFilling (header 2 seconds 1 count used c.bounds) (flat_map part_octets c.parts) sheet → IsColumnBlock c (sealed sheet)
+    → IsFilling (header 2 unit_now 1 count used c.bounds) (flat_map part_octets c.parts) sheet → IsColumnBlock c (sealed sheet)
 old_column_written c count used sheet valid ended counted sized f =
     let es : List ℕ = flat_map part_octets c.parts in
     let size : length es ≡ 25 * length c.parts = parts-size c.parts in
-    let h : header 2 seconds 1 count used c.bounds ≡ header 2 seconds 1 (length c.parts) (length es) c.bounds =
-    ap (λ (n : ℕ). header 2 seconds 1 n used c.bounds) counted ∙ ap (λ (n : ℕ). header 2 seconds 1 (length c.parts) n c.bounds) (sized ∙ sym size) in
+    let h : header 2 unit_now 1 count used c.bounds ≡ header 2 unit_now 1 (length c.parts) (length es) c.bounds =
+    ap (λ (n : ℕ). header 2 unit_now 1 n used c.bounds) counted ∙ ap (λ (n : ℕ). header 2 unit_now 1 (length c.parts) n c.bounds) (sized ∙ sym size) in
     let fits : length es ≤ 16232 = omega (arith, size, valid.follow.fits) in
-    let whole : sheet ≡ body 2 1 (length c.parts) c.bounds es ++ replicate 32 0 = filled 2 1 (length c.parts) c.bounds es sheet (subst (λ (t : List ℕ). IsFilling t es sheet) h f) fits in
-    let node : List ℕ = body 2 1 (length c.parts) c.bounds es in
-    let long : length node ≡ 16352 = body-size 2 1 (length c.parts) c.bounds es fits in
-    record { valid = valid; block = record { ended = ended; encoded = sealed_is node sheet long whole } }
+    let whole : sheet ≡ body unit_now 2 1 (length c.parts) c.bounds es ++ replicate 32 0 = filled unit_now 2 1 (length c.parts) c.bounds es sheet (subst (λ (t : List ℕ). IsFilling t es sheet) h f) fits in
+    let node : List ℕ = body unit_now 2 1 (length c.parts) c.bounds es in
+    let long : length node ≡ 16352 = body-size unit_now 2 1 (length c.parts) c.bounds es fits in
+    old_column_now c _ (record { unit = unit_now; valid = valid; block = record { ended = ended; encoded = sealed_is node sheet long whole } }) refl

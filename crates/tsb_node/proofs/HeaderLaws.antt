@@ -10,7 +10,7 @@ use Rattle.route_model.specs.Keys.{number_of}
 use Rattle.route_model.proofs.api.KeyNumbers.{number_lt, number_one}
 use Rattle.tsb_node.specs.Numbers.{octets_of, bound_octets}
 use Rattle.tsb_node.specs.inner.Fields.{number_in}
-use Rattle.tsb_node.specs.Nodes.{header, seconds}
+use Rattle.tsb_node.specs.Nodes.{header}
 use Rattle.tsb_node.specs.Headers.{HasHeader}
 use Rattle.tsb_node.specs.declared.header.Header.{Header}
 use Rattle.version_model.specs.declared.bounds.Bounds.{Bounds}
@@ -99,14 +99,13 @@ four (a ∷ b ∷ c ∷ d ∷ xs) le = refl
 abbrev pub bounds_in : List ℕ → Option ℕ → Option ℕ → Bounds
 bounds_in octets high end = record { low = number_in 40 8 octets; high = high; start = number_in 16 88 octets; end = end }
 
-pub header_encoded : (octets : List ℕ) (high end : Option ℕ) → AreOctets octets → 120 ≤ length octets → slice_index octets 1 ≡ 0 → slice_index octets 3 ≡ 0
+pub header_encoded : (octets : List ℕ) (high end : Option ℕ) → AreOctets octets → 120 ≤ length octets → slice_index octets 3 ≡ 0
     → bound_octets 40 high ≡ take 40 (drop 48 octets) → bound_octets 16 end ≡ take 16 (drop 104 octets)
-    → take 120 octets ≡ header (slice_index octets 0) seconds (slice_index octets 2) (number_in 2 4 octets) (number_in 2 6 octets) (bounds_in octets high end)
+    → take 120 octets ≡ header (slice_index octets 0) (slice_index octets 1) (slice_index octets 2) (number_in 2 4 octets) (number_in 2 6 octets) (bounds_in octets high end)
 unfolding header
-header_encoded octets high end are le unit_zero zero_zero high_is end_is =
-    let e0 : take 4 octets ≡ slice_index octets 0 ∷ 0 ∷ slice_index octets 2 ∷ 0 ∷ [] =
-    four octets (omega arith) ∙ ap (λ (n : ℕ). slice_index octets 0 ∷ n ∷ slice_index octets 2 ∷ slice_index octets 3 ∷ []) unit_zero
-    ∙ ap (λ (n : ℕ). slice_index octets 0 ∷ 0 ∷ slice_index octets 2 ∷ n ∷ []) zero_zero in
+header_encoded octets high end are le zero_zero high_is end_is =
+    let e0 : take 4 octets ≡ slice_index octets 0 ∷ slice_index octets 1 ∷ slice_index octets 2 ∷ 0 ∷ [] =
+    four octets (omega arith) ∙ ap (λ (n : ℕ). slice_index octets 0 ∷ slice_index octets 1 ∷ slice_index octets 2 ∷ n ∷ []) zero_zero in
     let f1 = again_in 2 4 octets are (omega arith) in
     let f2 = again_in 2 6 octets are (omega arith) in
     let f3 = again_in 40 8 octets are (omega arith) in
@@ -114,10 +113,10 @@ header_encoded octets high end are le unit_zero zero_zero high_is end_is =
     rw (take_on 104 16 octets, take_on 88 16 octets, take_on 48 40 octets, take_on 8 40 octets, take_on 6 2 octets, take_on 4 2 octets, e0, f1, f2, f3, f5, high_is, end_is) refl
 
 -- an encoded header reads as its fields
-pub has_represents : (h : Header) (octets : List ℕ) → HasHeader h octets → HasHeaderOf h.kind 0 h.level h.count h.used h.bounds octets
+pub has_represents : (h : Header) (octets : List ℕ) → HasHeader h octets → HasHeaderOf h.kind h.unit h.level h.count h.used h.bounds octets
 has_represents h octets has =
-    subst (HasHeaderOf h.kind 0 h.level h.count h.used h.bounds) (ap (λ (t : List ℕ). t ++ drop 120 octets) (sym has.encoded) ∙ take-append-drop 120 octets)
-    (header_represents h.kind 0 h.level h.count h.used h.bounds (drop 120 octets) has.count has.used has.bounds.low has.bounds.start)
+    subst (HasHeaderOf h.kind h.unit h.level h.count h.used h.bounds) (ap (λ (t : List ℕ). t ++ drop 120 octets) (sym has.encoded) ∙ take-append-drop 120 octets)
+    (header_represents h.kind h.unit h.level h.count h.used h.bounds (drop 120 octets) has.count has.used has.bounds.low has.bounds.start)
 
 pub both_some : (P Q : ℕ → Type 0) (o : Option ℕ) → IfSome o P → IfSome o Q → IfSome o (λ n. P n × Q n)
 both_some P Q None p q = tt
@@ -131,12 +130,12 @@ pub second_some : (P Q : ℕ → Type 0) (o : Option ℕ) → IfSome o (λ n. P 
 second_some P Q None p = tt
 second_some P Q (Some n) p = p.1
 
-pub has_header : (octets : List ℕ) (kind level count used low start : ℕ) (high end : Option ℕ) → AreOctets octets → 120 ≤ length octets → slice_index octets 1 ≡ 0 → slice_index octets 3 ≡ 0
-    → kind ≡ slice_index octets 0 → level ≡ slice_index octets 2 → count ≡ number_in 2 4 octets → used ≡ number_in 2 6 octets → low ≡ number_in 40 8 octets → start ≡ number_in 16 88 octets
+pub has_header : (octets : List ℕ) (kind unit level count used low start : ℕ) (high end : Option ℕ) → AreOctets octets → 120 ≤ length octets → slice_index octets 3 ≡ 0
+    → kind ≡ slice_index octets 0 → unit ≡ slice_index octets 1 → level ≡ slice_index octets 2 → count ≡ number_in 2 4 octets → used ≡ number_in 2 6 octets → low ≡ number_in 40 8 octets → start ≡ number_in 16 88 octets
     → bound_octets 40 high ≡ take 40 (drop 48 octets) → bound_octets 16 end ≡ take 16 (drop 104 octets)
     → IfSome high (λ n. n + 1 < 256 ^ 40) → IfSome end (λ n. n + 1 < 256 ^ 16) → IfSome high (λ n. low < n) → IfSome end (λ n. start < n)
-    → HasHeader (record { kind = kind; level = level; count = count; used = used; bounds = record { low = low; high = high; start = start; end = end } }) octets
-has_header octets kind level count used low start high end are le u z k l c s lo st hi en ha ea hb eb = record {
+    → HasHeader (record { kind = kind; unit = unit; level = level; count = count; used = used; bounds = record { low = low; high = high; start = start; end = end } }) octets
+has_header octets kind unit level count used low start high end are le z k u l c s lo st hi en ha ea hb eb = record {
   bounds = record {
     low = rw lo (number_in-lt 40 8 octets are (omega arith));
     start = rw st (number_in-lt 16 88 octets are (omega arith));
@@ -144,7 +143,7 @@ has_header octets kind level count used low start high end are le u z k l c s lo
   };
   count = rw c (number_in-lt 2 4 octets are (omega arith));
   used = rw s (number_in-lt 2 6 octets are (omega arith));
-  encoded = rw (k, l, c, s, lo, st) (header_encoded octets high end are le u z hi en);
+  encoded = rw (k, u, l, c, s, lo, st) (header_encoded octets high end are le z hi en);
 }
 
 -- the bounds that are read are those of the header

@@ -5,7 +5,7 @@ use Rattle.std.proofs.Common.{inl, inr}
 use Rattle.std.proofs.lemmas.Bool.{cases_lt}
 use Rattle.std.proofs.lemmas.List.{length-append, length-take, take-append-drop, take-append-le, drop-append-le, length-drop, drop_at}
 use Rattle.route_model.specs.Keys.{number_of}
-use Rattle.tsb_node.specs.Leaves.{LeafNode, BeginsAsLeaf}
+use Rattle.tsb_node.specs.Leaves.{LeafNode, BeginsAsWrittenLeaf}
 use Rattle.tsb_node.specs.Holding.{IsSomeEntry, BeginsWithEntries, HasItsEntries}
 use Rattle.tsb_node.specs.inner.Fields.{number_in}
 use Rattle.tsb_node.specs.inner.Reading.{value_size, after, area, after_version}
@@ -73,7 +73,7 @@ whole_more n rest bytes at is are = record {
 }
 
 -- the octets of a leaf do
-pub leaf_holds : (leaf : LeafNode) (octets : List ℕ) → BeginsAsLeaf leaf octets → HasItsEntries octets
+pub leaf_holds : (leaf : LeafNode) (octets : List ℕ) → BeginsAsWrittenLeaf leaf octets → HasItsEntries octets
 leaf_holds leaf octets is = begins_of (number_in 2 4 octets) (area octets) (record { whole = λ k lt. leaf_whole leaf octets k is lt })
 
 -- what a node holds, its entries begin with

@@ -12,7 +12,7 @@ use Rattle.version_model.specs.declared.bounds.Bounds.{Bounds}
 use Rattle.version_model.specs.declared.child.Child.{Child}
 use Rattle.tsb_node.specs.Columns.{BeginsAt}
 use Rattle.tsb_node.specs.KeyNodes.{KeyNodeInPage, IsKeyNode, IsChildEntry, child_octets, lows_of}
-use Rattle.tsb_node.specs.Children.{BeginsAsKeyNode, IsKeyWithin, IsUnder, high_of}
+use Rattle.tsb_node.specs.Children.{BeginsAsWrittenKeyNode, IsKeyWithin, IsUnder, high_of}
 use Rattle.tsb_node.specs.inner.ChildReading.{child_in, children_in, IsChildBefore}
 use Rattle.tsb_node.specs.inner.Reading.{area}
 use Rattle.tsb_node.proofs.NumberLaws.{octets_of-size, octets_of-number, field_in, drop_twice}
@@ -65,19 +65,19 @@ children-count (c ∷ cs) = omega (arith, children-count cs, child-size c, lengt
 few : (node : KeyNodeInPage) → IsKeyNode node → length (flat_map child_octets node.children) ≤ 16232
 few node valid = omega (arith, children-count node.children, valid.fits)
 
-pub key_node_represents : (node : KeyNodeInPage) (octets : List ℕ) → BeginsAsKeyNode node octets → HasHeaderOf 3 0 node.level (length node.children) (length (flat_map child_octets node.children)) node.bounds octets
+pub key_node_represents : (node : KeyNodeInPage) (octets : List ℕ) → (is : BeginsAsWrittenKeyNode node octets) → HasHeaderOf 3 is.unit node.level (length node.children) (length (flat_map child_octets node.children)) node.bounds octets
 key_node_represents node octets is =
-    subst (HasHeaderOf 3 0 node.level (length node.children) (length (flat_map child_octets node.children)) node.bounds) (sym is.encoded)
-    (body_represents 3 node.level (length node.children) node.bounds (flat_map child_octets node.children) is.last (omega (arith, is.valid.fits)) (few node is.valid) is.valid.bounds.low is.valid.bounds.start)
+    subst (HasHeaderOf 3 is.unit node.level (length node.children) (length (flat_map child_octets node.children)) node.bounds) (sym is.encoded)
+    (body_represents is.unit 3 node.level (length node.children) node.bounds (flat_map child_octets node.children) is.last (omega (arith, is.valid.fits)) (few node is.valid) is.valid.bounds.low is.valid.bounds.start)
 
-pub children_are : (node : KeyNodeInPage) (octets : List ℕ) (count : ℕ) → BeginsAsKeyNode node octets → count ≡ number_in 2 4 octets → children_in count (area octets) ≡ node.children
+pub children_are : (node : KeyNodeInPage) (octets : List ℕ) (count : ℕ) → BeginsAsWrittenKeyNode node octets → count ≡ number_in 2 4 octets → children_in count (area octets) ≡ node.children
 children_are node octets count is e =
     let represents_node = key_node_represents node octets is in
-    let here = ap area is.encoded ∙ body_area 3 node.level (length node.children) node.bounds (flat_map child_octets node.children) is.last (few node is.valid) in
+    let here = ap area is.encoded ∙ body_area is.unit 3 node.level (length node.children) node.bounds (flat_map child_octets node.children) is.last (few node is.valid) in
     ap (λ (n : ℕ). children_in n (area octets)) (e ∙ represents_node.count_is) ∙ ap (children_in (length node.children)) here ∙ children_read node.bounds node.children (replicate (16232 - length (flat_map child_octets node.children)) 0) is.valid.each
 
 -- a key node has a child, and at most 338
-pub some_child : (node : KeyNodeInPage) (octets : List ℕ) (count : ℕ) → BeginsAsKeyNode node octets → count ≡ number_in 2 4 octets → (0 < count) × (count ≤ 338)
+pub some_child : (node : KeyNodeInPage) (octets : List ℕ) (count : ℕ) → BeginsAsWrittenKeyNode node octets → count ≡ number_in 2 4 octets → (0 < count) × (count ≤ 338)
 some_child node octets count is e =
     let represents_node = key_node_represents node octets is in
     (omega (arith, e, represents_node.count_is, first node.children node.bounds.low is.valid.first), omega (arith, e, represents_node.count_is, is.valid.fits))
@@ -103,7 +103,7 @@ lowest : (cs : List Child) (low : ℕ) (c : Child) → BeginsAt low (lows_of cs)
 lowest [] low c b e = absurd b
 lowest (d ∷ cs) low c b e = ap (λ (x : Child). x.low) (sym (same_Some d c e)) ∙ b
 
-module _ (node : KeyNodeInPage) (octets : List ℕ) (count key place low page : ℕ) (is : BeginsAsKeyNode node octets) (within : IsKeyWithin node.bounds key) (counted : count ≡ number_in 2 4 octets)
+module _ (node : KeyNodeInPage) (octets : List ℕ) (count key place low page : ℕ) (is : BeginsAsWrittenKeyNode node octets) (within : IsKeyWithin node.bounds key) (counted : count ≡ number_in 2 4 octets)
     (before : IsChildBefore count (area octets) key place) (l : low ≡ number_in 40 (48 * place) (area octets)) (p : page ≡ number_in 8 (48 * place + 40) (area octets)) where
   same : children_in count (area octets) ≡ node.children
   same = children_are node octets count is counted

@@ -5,14 +5,16 @@ use Rattle.std.proofs.lemmas.List.{append-nil, length-append, length-take, lengt
 use Rattle.std.proofs.lemmas.Grind.{flat_map-append}
 use Rattle.tsb_node.specs.Numbers.{octets_of, bound_octets}
 use Rattle.version_model.specs.Versions.{Version, IsAbove}
-use Rattle.tsb_node.specs.Nodes.{header, body, seconds, IsBounds}
+use Rattle.tsb_node.specs.Nodes.{header, body, unit_now, IsBounds}
 use Rattle.version_model.specs.declared.bounds.Bounds.{Bounds}
-use Rattle.tsb_node.specs.Leaves.{LeafNode, IsLeaf, IsLeafPage, entry, entries, tag, value_encoded, IsVersionOf}
+use Rattle.tsb_node.specs.Leaves.{LeafNode, IsLeaf, IsWrittenLeafPage, entry, entries, tag, value_encoded, IsVersionOf}
+use Rattle.tsb_node.specs.inner.Fresh.{IsFreshLeafPage}
 use Rattle.tsb_node.specs.inner.Laying.{laid}
 use Rattle.tsb_node.specs.Pushing.{with_version, version}
 use Rattle.tsb_node.specs.Children.{IsKeyWithin}
 use Rattle.route_model.specs.Octets.{AreOctets}
 use Rattle.tsb_node.proofs.NumberLaws.{octets_of-size, drop_twice}
+use Rattle.tsb_node.proofs.Entries.{entry-size}
 use Rattle.tsb_node.proofs.Leaves.{header-size, bound_octets-size}
 use Rattle.std.proofs.lemmas.Option.{none-some}
 use Rattle.version_model.proofs.api.Pushed.{IsRising-push}
@@ -91,16 +93,16 @@ recounted kind unit level count used count' used' b rest =
     ap (laid 6 u') one ∙ two ∙ append_assoc f c' (u' ++ r) ∙ sym (header_parts kind unit level count' used' b rest)
 
 -- entries after the others of a body
-body_pushed : (kind level count used : ℕ) (b : Bounds) (es new last : List ℕ) → used ≡ length es → length es + length new ≤ 16232
-    → laid 6 (octets_of 2 (used + length new)) (laid 4 (octets_of 2 (count + 1)) (laid (120 + used) new (body kind level count b es ++ last))) ≡ body kind level (count + 1) b (es ++ new) ++ last
+body_pushed : (unit kind level count used : ℕ) (b : Bounds) (es new last : List ℕ) → used ≡ length es → length es + length new ≤ 16232
+    → laid 6 (octets_of 2 (used + length new)) (laid 4 (octets_of 2 (count + 1)) (laid (120 + used) new (body unit kind level count b es ++ last))) ≡ body unit kind level (count + 1) b (es ++ new) ++ last
 unfolding body
-body_pushed kind level count used b es new last same fits =
-    let h : List ℕ = header kind seconds level count (length es) b in
+body_pushed unit kind level count used b es new last same fits =
+    let h : List ℕ = header kind unit level count (length es) b in
     let room : ℕ = 16232 - length es in
     let left : ℕ = 16232 - length (es ++ new) in
     let both : length (es ++ new) ≡ length es + length new = length-append es new in
     let sum : room ≡ length new + left = omega (arith, both) in
-    let size : length (h ++ es) ≡ 120 + used = omega (arith, length-append h es, header-size kind seconds level count (length es) b, same) in
+    let size : length (h ++ es) ≡ 120 + used = omega (arith, length-append h es, header-size kind unit level count (length es) b, same) in
     let zeros_part : replicate room 0 ≡ replicate (length new) 0 ++ replicate left 0 = ap (λ (n : ℕ). replicate n 0) sum ∙ replicate_add (length new) left 0 in
     let old : ((h ++ es) ++ replicate room 0) ++ last ≡ (h ++ es) ++ (replicate (length new) 0 ++ (replicate left 0 ++ last)) =
     append_assoc (h ++ es) (replicate room 0) last ∙ ap (λ (t : List ℕ). (h ++ es) ++ (t ++ last)) zeros_part
@@ -110,11 +112,11 @@ body_pushed kind level count used b es new last same fits =
     ∙ append_assoc h es (new ++ (replicate left 0 ++ last)) in
     let used' : ℕ = length (es ++ new) in
     let sizes : used + length new ≡ used' = omega (arith, both, same) in
-    let h' : List ℕ = header kind seconds level (count + 1) used' b in
+    let h' : List ℕ = header kind unit level (count + 1) used' b in
     let end : h' ++ (es ++ (new ++ (replicate left 0 ++ last))) ≡ ((h' ++ (es ++ new)) ++ replicate left 0) ++ last = regroup5 h' es new (replicate left 0) last in
     ap (λ (t : List ℕ). laid 6 (octets_of 2 (used + length new)) (laid 4 (octets_of 2 (count + 1)) t)) one
     ∙ ap (λ (n : ℕ). laid 6 (octets_of 2 n) (laid 4 (octets_of 2 (count + 1)) (h ++ (es ++ (new ++ (replicate left 0 ++ last)))))) sizes
-    ∙ recounted kind seconds level count (length es) (count + 1) used' b (es ++ (new ++ (replicate left 0 ++ last)))
+    ∙ recounted kind unit level count (length es) (count + 1) used' b (es ++ (new ++ (replicate left 0 ++ last)))
     ∙ end
   where
     regroup5 : (h e n r l : List ℕ) → h ++ (e ++ (n ++ (r ++ l))) ≡ ((h ++ (e ++ n)) ++ r) ++ l
@@ -139,22 +141,26 @@ leaf_pushed leaf v valid is above fits = record {
   fits = omega (arith, ap length (entries-push leaf.versions v), length-append (entries leaf.versions) (entry v));
 }
 
-pub page_pushed : (leaf : LeafNode) (v : Version) (octets : List ℕ) (count used : ℕ) → IsLeafPage leaf octets → IsVersionOf leaf.bounds v → IsAbove leaf.versions v.stamp
+pub page_pushed : (leaf : LeafNode) (v : Version) (octets : List ℕ) (count used : ℕ) → (page : IsWrittenLeafPage leaf octets) → page.unit ≡ unit_now → IsVersionOf leaf.bounds v → IsAbove leaf.versions v.stamp
     → count ≡ length leaf.versions → used ≡ length (entries leaf.versions) → used + length (entry v) ≤ 16232
-    → IsLeafPage (with_version leaf v) (laid 6 (octets_of 2 (used + length (entry v))) (laid 4 (octets_of 2 (count + 1)) (laid (120 + used) (entry v) octets)))
-page_pushed leaf v octets count used page is above counted sized fits =
+    → IsFreshLeafPage (with_version leaf v) (laid 6 (octets_of 2 (used + length (entry v))) (laid 4 (octets_of 2 (count + 1)) (laid (120 + used) (entry v) octets)))
+page_pushed leaf v octets count used page now is above counted sized fits =
     let es : List ℕ = entries leaf.versions in
     let more : count + 1 ≡ length (leaf.versions ++ v ∷ []) = omega (arith, counted, length-push leaf.versions v) in
-    let whole : octets ≡ body 1 0 count leaf.bounds es ++ replicate 32 0 = page.page.encoded ∙ ap (λ (n : ℕ). body 1 0 n leaf.bounds es ++ replicate 32 0) (sym counted) in
+    let whole : octets ≡ body page.unit 1 0 count leaf.bounds es ++ replicate 32 0 = page.page.encoded ∙ ap (λ (n : ℕ). body page.unit 1 0 n leaf.bounds es ++ replicate 32 0) (sym counted) in
     record {
-      valid = leaf_pushed leaf v page.valid is above (omega arith);
       page = record {
-        current = page.page.current;
-        encoded = ap (λ (t : List ℕ). laid 6 (octets_of 2 (used + length (entry v))) (laid 4 (octets_of 2 (count + 1)) (laid (120 + used) (entry v) t))) whole
-            ∙ body_pushed 1 0 count used leaf.bounds es (entry v) (replicate 32 0) sized (omega arith)
-            ∙ ap (λ (n : ℕ). body 1 0 n leaf.bounds (es ++ entry v) ++ replicate 32 0) more
-            ∙ ap (λ (t : List ℕ). body 1 0 (length (leaf.versions ++ v ∷ [])) leaf.bounds t ++ replicate 32 0) (sym (entries-push leaf.versions v));
+        unit = page.unit;
+        valid = leaf_pushed leaf v page.valid is above (omega arith);
+        page = record {
+          current = page.page.current;
+          encoded = ap (λ (t : List ℕ). laid 6 (octets_of 2 (used + length (entry v))) (laid 4 (octets_of 2 (count + 1)) (laid (120 + used) (entry v) t))) whole
+              ∙ body_pushed page.unit 1 0 count used leaf.bounds es (entry v) (replicate 32 0) sized (omega arith)
+              ∙ ap (λ (n : ℕ). body page.unit 1 0 n leaf.bounds (es ++ entry v) ++ replicate 32 0) more
+              ∙ ap (λ (t : List ℕ). body page.unit 1 0 (length (leaf.versions ++ v ∷ [])) leaf.bounds t ++ replicate 32 0) (sym (entries-push leaf.versions v));
+        };
       };
+      now = now;
     }
 
 put_next : (at place : ℕ) (a b old : List ℕ) → place ≡ at + length a → place ≤ length old → laid place b (laid at a old) ≡ laid at (a ++ b) old
@@ -181,12 +187,12 @@ entry_laid at v old le =
     ∙ put_next at (at + 59) (((k ++ s) ++ t) ++ n) o old (omega (arith, size4)) (omega arith)
 
 -- a header that is laid field by field
-pub header_laid : (kind level count used : ℕ) (b : Bounds) (old : List ℕ) → 120 ≤ length old
-    → laid 104 (bound_octets 16 b.end) (laid 88 (octets_of 16 b.start) (laid 48 (bound_octets 40 b.high) (laid 8 (octets_of 40 b.low) (laid 6 (octets_of 2 used) (laid 4 (octets_of 2 count) (laid 0 (front4 kind 0 level) old))))))
-    ≡ laid 0 (header kind seconds level count used b) old
+pub header_laid : (unit kind level count used : ℕ) (b : Bounds) (old : List ℕ) → 120 ≤ length old
+    → laid 104 (bound_octets 16 b.end) (laid 88 (octets_of 16 b.start) (laid 48 (bound_octets 40 b.high) (laid 8 (octets_of 40 b.low) (laid 6 (octets_of 2 used) (laid 4 (octets_of 2 count) (laid 0 (front4 kind unit level) old))))))
+    ≡ laid 0 (header kind unit level count used b) old
 unfolding header
-header_laid kind level count used b old le =
-    let f0 : List ℕ = front4 kind 0 level in
+header_laid unit kind level count used b old le =
+    let f0 : List ℕ = front4 kind unit level in
     let f1 : List ℕ = octets_of 2 count in
     let f2 : List ℕ = octets_of 2 used in
     let f3 : List ℕ = octets_of 40 b.low in
@@ -207,28 +213,54 @@ header_laid kind level count used b old le =
     ∙ put_next 0 104 (((((f0 ++ f1) ++ f2) ++ f3) ++ f4) ++ f5) f6 old (omega (arith, z6)) (omega arith)
 
 -- a header that is laid on zeros is a node without entries
-pub laid_on_zeros : (kind level : ℕ) (b : Bounds) → laid 0 (header kind seconds level 0 0 b) (replicate 16384 0) ≡ body kind level 0 b [] ++ replicate 32 0
+pub laid_on_zeros : (unit kind level : ℕ) (b : Bounds) → laid 0 (header kind unit level 0 0 b) (replicate 16384 0) ≡ body unit kind level 0 b [] ++ replicate 32 0
 unfolding body
-laid_on_zeros kind level b =
-    let h : List ℕ = header kind seconds level 0 0 b in
-    let size : length h ≡ 120 = header-size kind seconds level 0 0 b in
+laid_on_zeros unit kind level b =
+    let h : List ℕ = header kind unit level 0 0 b in
+    let size : length h ≡ 120 = header-size kind unit level 0 0 b in
     let zeros_part : replicate 16384 0 ≡ replicate 120 0 ++ replicate 16264 0 = replicate_add 120 16264 0 in
     let rest : replicate 16264 0 ≡ replicate 16232 0 ++ replicate 32 0 = replicate_add 16232 32 0 in
     ap (laid 0 h) zeros_part ∙ put_field 0 [] (replicate 120 0) (replicate 16264 0) h refl (length-replicate {A = ℕ} 120 0 ∙ sym size)
     ∙ ap (λ (t : List ℕ). h ++ t) rest ∙ sym (append_assoc h (replicate 16232 0) (replicate 32 0)) ∙ ap (λ (t : List ℕ). (t ++ replicate 16232 0) ++ replicate 32 0) (sym (append-nil h))
 
-pub leaf_started : (b : Bounds) (octets : List ℕ) → IsBounds b → b.end ≡ None → octets ≡ laid 0 (header 1 seconds 0 0 0 b) (replicate 16384 0)
-    → IsLeafPage (record { bounds = b; versions = [] }) octets
+pub leaf_started : (b : Bounds) (octets : List ℕ) → IsBounds b → b.end ≡ None → octets ≡ laid 0 (header 1 unit_now 0 0 0 b) (replicate 16384 0)
+    → IsFreshLeafPage (record { bounds = b; versions = [] }) octets
 unfolding entries
 leaf_started b octets valid current is = record {
-  valid = record {
-    bounds = valid;
-    each = tt;
-    rising = record { rises = λ i j v w lt at_i at_j. absurd (none-some v at_i) };
-    fits = omega arith;
+  page = record {
+    unit = unit_now;
+    valid = record {
+      bounds = valid;
+      each = tt;
+      rising = record { rises = λ i j v w lt at_i at_j. absurd (none-some v at_i) };
+      fits = omega arith;
+    };
+    page = record { current = current; encoded = is ∙ laid_on_zeros unit_now 1 0 b };
   };
-  page = record { current = current; encoded = is ∙ laid_on_zeros 1 0 b };
+  now = refl;
 }
+
+regroup_entry : (f k s t n o r : List ℕ) → (f ++ ((((k ++ s) ++ t) ++ n) ++ o)) ++ r ≡ (f ++ k) ++ (s ++ (t ++ (n ++ (o ++ r))))
+regroup_entry f k s t n o r = simp append_assoc
+
+-- another stamp in an entry that was laid
+pub entry_restamped : (at : ℕ) (v : Version) (s : ℕ) (old : List ℕ) → at + length (entry v) ≤ length old → laid (at + 40) (octets_of 16 s) (laid at (entry v) old) ≡ laid at (entry (version v.key s v.value)) old
+unfolding laid entry
+entry_restamped at v s old le =
+    let w : Version = version v.key s v.value in
+    let f : List ℕ = take at old in
+    let k : List ℕ = octets_of 40 v.key in
+    let a : List ℕ = octets_of 16 v.stamp in
+    let b : List ℕ = octets_of 16 s in
+    let t : List ℕ = tag v.value ∷ [] in
+    let n : List ℕ = octets_of 2 (length (value_encoded v.value)) in
+    let o : List ℕ = value_encoded v.value in
+    let r : List ℕ = drop (at + length (entry v)) old in
+    let same : length (entry w) ≡ length (entry v) = entry-size w ∙ sym (entry-size v) in
+    let here : length (f ++ k) ≡ at + 40 = omega (arith, length-append f k, length-take at old, octets_of-size 40 v.key, le) in
+    let wide : length a ≡ length b = octets_of-size 16 v.stamp ∙ sym (octets_of-size 16 s) in
+    ap (laid (at + 40) b) (regroup_entry f k a t n o r) ∙ put_field (at + 40) (f ++ k) a (t ++ (n ++ (o ++ r))) b here wide ∙ sym (regroup_entry f k b t n o r)
+    ∙ ap (λ (m : ℕ). (f ++ entry w) ++ drop (at + m) old) (sym same)
 
 -- all octets are replaced
 pub laid_all : (o old : List ℕ) → length old ≡ length o → laid 0 o old ≡ o

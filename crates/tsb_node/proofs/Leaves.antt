@@ -5,9 +5,9 @@ use Rattle.sha2.specs.Sha256.{sha256}
 use Rattle.tsb_node.specs.Numbers.{octets_of, bound_octets}
 use Rattle.tsb_node.specs.inner.Fields.{number_in}
 use Rattle.version_model.specs.Versions.{Version}
-use Rattle.tsb_node.specs.Nodes.{header, body, seconds}
+use Rattle.tsb_node.specs.Nodes.{header, body}
 use Rattle.version_model.specs.declared.bounds.Bounds.{Bounds}
-use Rattle.tsb_node.specs.Leaves.{LeafNode, IsLeaf, leaf_body, BeginsAsLeaf, IsLeafPage, IsLeafBlock, entry, entries}
+use Rattle.tsb_node.specs.Leaves.{LeafNode, IsLeaf, leaf_body, BeginsAsWrittenLeaf, IsWrittenLeafPage, IsWrittenLeafBlock, entry, entries}
 use Rattle.tsb_node.specs.inner.Reading.{versions_in, area}
 use Rattle.tsb_node.proofs.NumberLaws.{octets_of-size, octets_of-number, field_in}
 use Rattle.tsb_node.proofs.Entries.{entry-size, entries_read}
@@ -101,33 +101,33 @@ header_represents kind unit level count used b rest count_lt used_lt low_lt star
     }
 
 -- the octets of a node after its header
-pub body-size : (kind level count : ℕ) (b : Bounds) (es : List ℕ) → length es ≤ 16232 → length (body kind level count b es) ≡ 16352
+pub body-size : (unit kind level count : ℕ) (b : Bounds) (es : List ℕ) → length es ≤ 16232 → length (body unit kind level count b es) ≡ 16352
 unfolding body
-body-size kind level count b es fits =
-    let h : List ℕ = header kind seconds level count (length es) b in
-    let size = header-size kind seconds level count (length es) b in
+body-size unit kind level count b es fits =
+    let h : List ℕ = header kind unit level count (length es) b in
+    let size = header-size kind unit level count (length es) b in
     let pad : List ℕ = replicate (16232 - length es) 0 in
     let e3 : length pad ≡ 16232 - length es = length-replicate (16232 - length es) 0 in
     omega (arith, size, e3, length-append h es, length-append (h ++ es) pad)
 
-pub body_area : (kind level count : ℕ) (b : Bounds) (es last : List ℕ) → length es ≤ 16232 → area (body kind level count b es ++ last) ≡ es ++ replicate (16232 - length es) 0
+pub body_area : (unit kind level count : ℕ) (b : Bounds) (es last : List ℕ) → length es ≤ 16232 → area (body unit kind level count b es ++ last) ≡ es ++ replicate (16232 - length es) 0
 unfolding body
-body_area kind level count b es last fits =
-    let whole : List ℕ = body kind level count b es in
-    let first : take 16352 (whole ++ last) ≡ whole = take_at whole last 16352 (body-size kind level count b es fits) in
-    let h : List ℕ = header kind seconds level count (length es) b in
+body_area unit kind level count b es last fits =
+    let whole : List ℕ = body unit kind level count b es in
+    let first : take 16352 (whole ++ last) ≡ whole = take_at whole last 16352 (body-size unit kind level count b es fits) in
+    let h : List ℕ = header kind unit level count (length es) b in
     let pad : List ℕ = replicate (16232 - length es) 0 in
-    ap (drop 120) (first ∙ append_assoc h es pad) ∙ drop_at h (es ++ pad) 120 (header-size kind seconds level count (length es) b)
+    ap (drop 120) (first ∙ append_assoc h es pad) ∙ drop_at h (es ++ pad) 120 (header-size kind unit level count (length es) b)
 
-pub body_represents : (kind level count : ℕ) (b : Bounds) (es last : List ℕ) → count < 256 ^ 2 → length es ≤ 16232 → b.low < 256 ^ 40 → b.start < 256 ^ 16
-    → HasHeaderOf kind seconds level count (length es) b (body kind level count b es ++ last)
+pub body_represents : (unit kind level count : ℕ) (b : Bounds) (es last : List ℕ) → count < 256 ^ 2 → length es ≤ 16232 → b.low < 256 ^ 40 → b.start < 256 ^ 16
+    → HasHeaderOf kind unit level count (length es) b (body unit kind level count b es ++ last)
 unfolding body
-body_represents kind level count b es last few fits low start =
-    let h : List ℕ = header kind seconds level count (length es) b in
+body_represents unit kind level count b es last few fits low start =
+    let h : List ℕ = header kind unit level count (length es) b in
     let pad : List ℕ = replicate (16232 - length es) 0 in
     let e : ((h ++ es) ++ pad) ++ last ≡ h ++ (es ++ (pad ++ last)) = append_assoc (h ++ es) pad last ∙ append_assoc h es (pad ++ last) in
-    subst (HasHeaderOf kind seconds level count (length es) b) (sym e)
-    (header_represents kind seconds level count (length es) b (es ++ (pad ++ last)) few (omega arith) low start)
+    subst (HasHeaderOf kind unit level count (length es) b) (sym e)
+    (header_represents kind unit level count (length es) b (es ++ (pad ++ last)) few (omega arith) low start)
 
 -- ---- leaves
 
@@ -142,23 +142,23 @@ few_versions leaf valid = omega (arith, entries-count leaf.versions, valid.fits)
 abbrev pub pad_of : LeafNode → List ℕ
 pad_of leaf = replicate (16232 - length (entries leaf.versions)) 0
 
-pub leaf_represents : (leaf : LeafNode) (octets : List ℕ) → BeginsAsLeaf leaf octets → HasHeaderOf 1 0 0 (length leaf.versions) (length (entries leaf.versions)) leaf.bounds octets
+pub leaf_represents : (leaf : LeafNode) (octets : List ℕ) → (is : BeginsAsWrittenLeaf leaf octets) → HasHeaderOf 1 is.unit 0 (length leaf.versions) (length (entries leaf.versions)) leaf.bounds octets
 leaf_represents leaf octets is =
-    subst (HasHeaderOf 1 0 0 (length leaf.versions) (length (entries leaf.versions)) leaf.bounds) (sym is.encoded)
-    (body_represents 1 0 (length leaf.versions) leaf.bounds (entries leaf.versions) is.last (few_versions leaf is.valid) is.valid.fits is.valid.bounds.low is.valid.bounds.start)
+    subst (HasHeaderOf 1 is.unit 0 (length leaf.versions) (length (entries leaf.versions)) leaf.bounds) (sym is.encoded)
+    (body_represents is.unit 1 0 (length leaf.versions) leaf.bounds (entries leaf.versions) is.last (few_versions leaf is.valid) is.valid.fits is.valid.bounds.low is.valid.bounds.start)
 
-pub leaf_area : (leaf : LeafNode) (octets : List ℕ) → BeginsAsLeaf leaf octets → area octets ≡ entries leaf.versions ++ pad_of leaf
-leaf_area leaf octets is = ap area is.encoded ∙ body_area 1 0 (length leaf.versions) leaf.bounds (entries leaf.versions) is.last is.valid.fits
+pub leaf_area : (leaf : LeafNode) (octets : List ℕ) → BeginsAsWrittenLeaf leaf octets → area octets ≡ entries leaf.versions ++ pad_of leaf
+leaf_area leaf octets is = ap area is.encoded ∙ body_area is.unit 1 0 (length leaf.versions) leaf.bounds (entries leaf.versions) is.last is.valid.fits
 
 -- a leaf has the versions that its octets represent
-pub leaf_versions : (leaf : LeafNode) (octets : List ℕ) → BeginsAsLeaf leaf octets → versions_in (number_in 2 4 octets) (area octets) ≡ leaf.versions
+pub leaf_versions : (leaf : LeafNode) (octets : List ℕ) → BeginsAsWrittenLeaf leaf octets → versions_in (number_in 2 4 octets) (area octets) ≡ leaf.versions
 leaf_versions leaf octets is =
     let represents_node = leaf_represents leaf octets is in
     ap (λ (n : ℕ). versions_in n (area octets)) represents_node.count_is ∙ ap (versions_in (length leaf.versions)) (leaf_area leaf octets is)
     ∙ entries_read leaf.bounds leaf.versions (pad_of leaf) is.valid.each
 
-pub begins_page : (leaf : LeafNode) (octets : List ℕ) → IsLeafPage leaf octets → BeginsAsLeaf leaf octets
-begins_page leaf octets page = record { valid = page.valid; last = replicate 32 0; encoded = page.page.encoded }
+abbrev pub begins_page : (leaf : LeafNode) (octets : List ℕ) → IsWrittenLeafPage leaf octets → BeginsAsWrittenLeaf leaf octets
+begins_page leaf octets page = record { unit = page.unit; valid = page.valid; last = replicate 32 0; encoded = page.page.encoded }
 
-pub begins_block : (leaf : LeafNode) (octets : List ℕ) → IsLeafBlock leaf octets → BeginsAsLeaf leaf octets
-begins_block leaf octets block = record { valid = block.valid; last = sha256 (leaf_body leaf); encoded = block.block.encoded }
+abbrev pub begins_block : (leaf : LeafNode) (octets : List ℕ) → IsWrittenLeafBlock leaf octets → BeginsAsWrittenLeaf leaf octets
+begins_block leaf octets block = record { unit = block.unit; valid = block.valid; last = sha256 (leaf_body block.unit leaf); encoded = block.block.encoded }

@@ -25,6 +25,12 @@ pub mod Refusals
 pub mod ColumnReading
 pub mod ChildLaws
 pub mod OneNode
+pub mod ScalingLaws
+pub mod WrittenNow
+pub mod MomentLaws
+pub mod MomentEntries
+pub mod MomentLeaves
+pub mod MomentColumns
 pub mod ViewLaws
 pub mod ColumnWriting
 pub mod api

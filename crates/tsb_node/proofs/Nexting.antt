@@ -8,7 +8,7 @@ use Rattle.version_model.specs.Looks.{NoneWithin, IsLeastLive}
 use Rattle.version_model.specs.inner.Lower.{IsLower}
 use Rattle.version_model.proofs.api.AsOfs.{dead_of, live_of}
 use Rattle.tsb_node.specs.declared.leaf.FoundVersion.{FoundVersion}
-use Rattle.tsb_node.specs.Leaves.{LeafNode, BeginsAsLeaf, IsVersionOf, entry}
+use Rattle.tsb_node.specs.Leaves.{LeafNode, BeginsAsWrittenLeaf, IsVersionOf, entry}
 use Rattle.tsb_node.specs.Finding.{version_found}
 use Rattle.tsb_node.specs.inner.Nexts.{IsLeastOf, ReportsLive}
 use Rattle.tsb_node.specs.inner.Fields.{number_in}
@@ -107,7 +107,7 @@ none_after vs s from first least dead is ended = λ key above below. elim (cases
 ]
 
 -- the last key of all is the last
-pub none_at_last : (leaf : LeafNode) (octets : List ℕ) (s first least : ℕ) → BeginsAsLeaf leaf octets → NoneWithin leaf.versions s first (suc least) → suc least ≡ 2 ^ 320 → IsLeastLive leaf.versions s first None
+pub none_at_last : (leaf : LeafNode) (octets : List ℕ) (s first least : ℕ) → BeginsAsWrittenLeaf leaf octets → NoneWithin leaf.versions s first (suc least) → suc least ≡ 2 ^ 320 → IsLeastLive leaf.versions s first None
 none_at_last leaf octets s first least is dead last = λ key above v holds.
     let valid = all_at (IsVersionOf leaf.bounds) leaf.versions holds.has.place v is.valid.each holds.has.is in
     dead key above (omega (arith, valid.key, last, holds.of_key)) v holds

@@ -5,21 +5,21 @@ use Rattle.std.proofs.lemmas.List.{length-take, length-drop}
 use Rattle.std.proofs.lemmas.List.Elements.{All-replicate}
 use Rattle.sha2.specs.Sha256.{sha256}
 use Rattle.tsb_node.specs.declared.header.Header.{Header}
-use Rattle.tsb_node.specs.Nodes.{header, seconds}
+use Rattle.tsb_node.specs.Nodes.{header}
 use Rattle.tsb_node.specs.Headers.{HasHeader}
 use Rattle.tsb_node.specs.inner.Reading.{area}
 use Rattle.tsb_node.specs.inner.NodeReading.{node_body, BeginsAsNode, IsNodePage, IsNodeBlock}
 use Rattle.tsb_node.proofs.ReadingLaws.{SameHeader, header_one, Parts, node_parts, parts_node, node_last, all_zeros}
 
-pub begun_parts : (h : Header) (es octets : List ℕ) → BeginsAsNode h es octets → Parts h.kind h.level h.count h.bounds es octets
-begun_parts h es octets is = node_parts h.kind h.level h.count h.bounds es is.last octets is.valid.fits is.encoded
+pub begun_parts : (h : Header) (es octets : List ℕ) → BeginsAsNode h es octets → Parts h.unit h.kind h.level h.count h.bounds es octets
+begun_parts h es octets is = node_parts h.unit h.kind h.level h.count h.bounds es is.last octets is.valid.fits is.encoded
 
 pub begun_header : (h : Header) (es octets : List ℕ) → BeginsAsNode h es octets → HasHeader h octets
 begun_header h es octets is = record {
   bounds = is.valid.bounds;
   count = is.valid.count;
   used = omega (arith, is.valid.used, is.valid.fits);
-  encoded = (begun_parts h es octets is).front ∙ ap (λ (n : ℕ). header h.kind seconds h.level h.count n h.bounds) (sym is.valid.used);
+  encoded = (begun_parts h es octets is).front ∙ ap (λ (n : ℕ). header h.kind h.unit h.level h.count n h.bounds) (sym is.valid.used);
 }
 
 -- what a header that is read represents of the node
@@ -45,7 +45,7 @@ begun_is h octets has size fits zeros_all =
     record {
       valid = record { bounds = has.bounds; count = has.count; used = used; fits = omega (arith, used) };
       last = drop 16352 octets;
-      encoded = parts_node h.kind h.level h.count h.used h.bounds es octets size used fits has.encoded refl zeros_all;
+      encoded = parts_node h.unit h.kind h.level h.count h.used h.bounds es octets size used fits has.encoded refl zeros_all;
     }
 
 -- nodes that begin the same octets are one
@@ -62,7 +62,7 @@ page_begins h es octets page = record { valid = page.valid; last = replicate 32 
 
 pub page_made : (h : Header) (es octets : List ℕ) → BeginsAsNode h es octets → length octets ≡ 16384 → h.bounds.end ≡ None → All (λ octet. octet ≡ 0) (drop 16352 octets) → IsNodePage h es octets
 page_made h es octets is size current zeros_all =
-    let n = node_last h.kind h.level h.count h.bounds es is.last octets is.valid.fits is.encoded in
+    let n = node_last h.unit h.kind h.level h.count h.bounds es is.last octets is.valid.fits is.encoded in
     let long : length (drop 16352 octets) ≡ 32 = omega (arith, length-drop 16352 octets) in
     record {
       valid = is.valid;
@@ -74,7 +74,7 @@ page_made h es octets is size current zeros_all =
 
 pub page_zeros : (h : Header) (es octets : List ℕ) → IsNodePage h es octets → All (λ octet. octet ≡ 0) (drop 16352 octets)
 page_zeros h es octets page =
-    let n = node_last h.kind h.level h.count h.bounds es (replicate 32 0) octets page.valid.fits page.page.encoded in
+    let n = node_last h.unit h.kind h.level h.count h.bounds es (replicate 32 0) octets page.valid.fits page.page.encoded in
     subst (All (λ octet. octet ≡ 0)) (sym n.1) (All-replicate (λ (octet : ℕ). octet ≡ 0) 32 0 refl)
 
 -- ---- blocks
@@ -84,10 +84,10 @@ block_begins h es octets block = record { valid = block.valid; last = sha256 (no
 
 pub block_made : (h : Header) (es octets : List ℕ) → BeginsAsNode h es octets → IsSome h.bounds.end → drop 16352 octets ≡ sha256 (take 16352 octets) → IsNodeBlock h es octets
 block_made h es octets is ended digest =
-    let n = node_last h.kind h.level h.count h.bounds es is.last octets is.valid.fits is.encoded in
+    let n = node_last h.unit h.kind h.level h.count h.bounds es is.last octets is.valid.fits is.encoded in
     record { valid = is.valid; block = record { ended = ended; encoded = is.encoded ∙ ap (λ (t : List ℕ). node_body h es ++ t) (sym n.1 ∙ digest ∙ ap sha256 n.0) } }
 
 pub block_digest : (h : Header) (es octets : List ℕ) → IsNodeBlock h es octets → drop 16352 octets ≡ sha256 (take 16352 octets)
 block_digest h es octets block =
-    let n = node_last h.kind h.level h.count h.bounds es (sha256 (node_body h es)) octets block.valid.fits block.block.encoded in
+    let n = node_last h.unit h.kind h.level h.count h.bounds es (sha256 (node_body h es)) octets block.valid.fits block.block.encoded in
     n.1 ∙ ap sha256 (sym n.0)

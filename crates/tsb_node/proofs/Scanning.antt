@@ -6,7 +6,7 @@ use Rattle.std.proofs.lemmas.Option.{slice_get_within}
 use Rattle.tsb_node.specs.inner.Fields.{number_in}
 use Rattle.version_model.specs.Versions.{Version, AsOf, IsRising}
 use Rattle.version_model.specs.declared.bounds.Bounds.{Bounds}
-use Rattle.tsb_node.specs.Leaves.{LeafNode, BeginsAsLeaf, entry, entries, IsVersionOf}
+use Rattle.tsb_node.specs.Leaves.{LeafNode, BeginsAsWrittenLeaf, entry, entries, IsVersionOf}
 use Rattle.tsb_node.specs.inner.Reading.{value_size, value_in, version_in, versions_in, after, after_version, area}
 use Rattle.std.specs.Ordering.{nat_cmp, is_le}
 use Rattle.std.proofs.Common.{inl, inr, true}
@@ -97,7 +97,7 @@ scan_no count i key s rest bytes (Some found) lt e never h = record {
 -- ---- of a leaf
 
 -- what was scanned to the end holds
-pub scanned : (leaf : LeafNode) (octets : List ℕ) (key s : ℕ) (rest : List ℕ) → BeginsAsLeaf leaf octets
+pub scanned : (leaf : LeafNode) (octets : List ℕ) (key s : ℕ) (rest : List ℕ) → BeginsAsWrittenLeaf leaf octets
     → IsLast (versions_in (number_in 2 4 octets) (area octets)) (area octets) key s (number_in 2 4 octets) (Some rest) → AsOf leaf.versions key s (version_in rest)
 scanned leaf octets key s rest is h =
     let count : ℕ = number_in 2 4 octets in
@@ -109,7 +109,7 @@ scanned leaf octets key s rest is h =
     subst (λ (t : List Version). AsOf t key s (version_in rest)) same
     (holds_last vs key s h.place (version_in rest) rising (at_place count h.place rest (area octets) h.below h.at) h.counts none)
 
-pub scanned_none : (leaf : LeafNode) (octets : List ℕ) (key s : ℕ) → BeginsAsLeaf leaf octets
+pub scanned_none : (leaf : LeafNode) (octets : List ℕ) (key s : ℕ) → BeginsAsWrittenLeaf leaf octets
     → NoneFrom (versions_in (number_in 2 4 octets) (area octets)) key s 0 (number_in 2 4 octets) → (v : Version) → AsOf leaf.versions key s v → ⊥
 scanned_none leaf octets key s is none v holds =
     let count : ℕ = number_in 2 4 octets in
@@ -134,11 +134,11 @@ whole_encoded b (suc n) (v ∷ vs) rest all lt =
     let same : after (suc n) (entries (v ∷ vs) ++ rest) ≡ after n (entries vs ++ rest) = ap (after (suc n)) e ∙ ap (after n) r.beyond in
     subst IsWholeVersion (sym same) (whole_encoded b n vs rest all.1 (omega arith))
 
-pub leaf_whole : (leaf : LeafNode) (octets : List ℕ) (k : ℕ) → BeginsAsLeaf leaf octets → k < number_in 2 4 octets → IsWholeVersion (after k (area octets))
+pub leaf_whole : (leaf : LeafNode) (octets : List ℕ) (k : ℕ) → BeginsAsWrittenLeaf leaf octets → k < number_in 2 4 octets → IsWholeVersion (after k (area octets))
 leaf_whole leaf octets k is lt =
     let represents_node = leaf_represents leaf octets is in
     subst (λ (t : List ℕ). IsWholeVersion (after k t)) (sym (leaf_area leaf octets is)) (whole_encoded leaf.bounds k leaf.versions (pad_of leaf) is.valid.each (omega (arith, lt, represents_node.count_is)))
 
 -- so what has one that isn't whole is no leaf
-pub broken_none : (leaf : LeafNode) (octets : List ℕ) → IsBroken (area octets) (number_in 2 4 octets) → BeginsAsLeaf leaf octets → ⊥
+pub broken_none : (leaf : LeafNode) (octets : List ℕ) → IsBroken (area octets) (number_in 2 4 octets) → BeginsAsWrittenLeaf leaf octets → ⊥
 broken_none leaf octets broken is = broken.broken (leaf_whole leaf octets broken.place is broken.below)

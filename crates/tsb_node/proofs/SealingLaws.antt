@@ -7,12 +7,14 @@ use Rattle.once_store.specs.Digests.{sealed}
 use Rattle.tsb_node.specs.Numbers.{octets_of, bound_octets}
 use Rattle.version_model.specs.declared.bounds.Bounds.{Bounds}
 use Rattle.version_model.specs.Versions.{Version}
-use Rattle.tsb_node.specs.Nodes.{header, body, seconds}
-use Rattle.tsb_node.specs.Leaves.{LeafNode, IsLeaf, IsLeafPage, IsLeafBlock, entries, IsVersionOf}
+use Rattle.tsb_node.specs.Nodes.{header, body}
+use Rattle.tsb_node.specs.Leaves.{LeafNode, IsLeaf, IsLeafBlock, entries, IsVersionOf}
+use Rattle.tsb_node.specs.inner.Fresh.{IsFreshLeafPage}
 use Rattle.tsb_node.specs.inner.Laying.{laid}
 use Rattle.tsb_node.specs.Sealing.{ended}
 use Rattle.tsb_node.proofs.NumberLaws.{octets_of-size}
 use Rattle.tsb_node.proofs.Leaves.{bound_octets-size, body-size}
+use Rattle.tsb_node.proofs.WrittenNow.{block_now}
 use Rattle.tsb_node.proofs.Laying.{put_field}
 
 abbrev pub ending : Bounds → ℕ → Bounds
@@ -38,13 +40,13 @@ header_ended kind unit level count used b end rest =
     let same : length old ≡ length (octets_of 16 end) = bound_octets-size 16 b.end ∙ sym (octets_of-size 16 end) in
     ap (laid 104 (octets_of 16 end)) (append_assoc front old rest) ∙ put_field 104 front old rest (octets_of 16 end) size same ∙ sym (append_assoc front (octets_of 16 end) rest)
 
-body_ended : (kind level count : ℕ) (b : Bounds) (es last : List ℕ) (end : ℕ) → laid 104 (octets_of 16 end) (body kind level count b es ++ last) ≡ body kind level count (ending b end) es ++ last
+body_ended : (unit kind level count : ℕ) (b : Bounds) (es last : List ℕ) (end : ℕ) → laid 104 (octets_of 16 end) (body unit kind level count b es ++ last) ≡ body unit kind level count (ending b end) es ++ last
 unfolding body
-body_ended kind level count b es last end =
-    let h : List ℕ = header kind seconds level count (length es) b in
-    let h' : List ℕ = header kind seconds level count (length es) (ending b end) in
+body_ended unit kind level count b es last end =
+    let h : List ℕ = header kind unit level count (length es) b in
+    let h' : List ℕ = header kind unit level count (length es) (ending b end) in
     let p : List ℕ = replicate (16232 - length es) 0 in
-    ap (laid 104 (octets_of 16 end)) (append_assoc (h ++ es) p last ∙ append_assoc h es (p ++ last)) ∙ header_ended kind seconds level count (length es) b end (es ++ (p ++ last))
+    ap (laid 104 (octets_of 16 end)) (append_assoc (h ++ es) p last ∙ append_assoc h es (p ++ last)) ∙ header_ended kind unit level count (length es) b end (es ++ (p ++ last))
     ∙ sym (append_assoc (h' ++ es) p last ∙ append_assoc h' es (p ++ last))
 
 -- what is kept of versions, where only the end changes
@@ -60,14 +62,16 @@ leaf_ended leaf end valid lt after = record {
   fits = valid.fits;
 }
 
-pub block_made : (leaf : LeafNode) (page : List ℕ) (end : ℕ) → IsLeafPage leaf page → end + 1 < 256 ^ 16 → leaf.bounds.start < end
+pub block_made : (leaf : LeafNode) (page : List ℕ) (end : ℕ) → IsFreshLeafPage leaf page → end + 1 < 256 ^ 16 → leaf.bounds.start < end
     → IsLeafBlock (ended leaf end) (sealed (laid 104 (octets_of 16 end) page))
-block_made leaf page end is lt after =
+block_made leaf page end fresh lt after =
+    let is = fresh.page in
     let n : ℕ = length leaf.versions in
     let es : List ℕ = entries leaf.versions in
-    let node : List ℕ = body 1 0 n (ending leaf.bounds end) es in
-    let whole : laid 104 (octets_of 16 end) page ≡ node ++ replicate 32 0 = ap (laid 104 (octets_of 16 end)) is.page.encoded ∙ body_ended 1 0 n leaf.bounds es (replicate 32 0) end in
-    record {
+    let node : List ℕ = body is.unit 1 0 n (ending leaf.bounds end) es in
+    let whole : laid 104 (octets_of 16 end) page ≡ node ++ replicate 32 0 = ap (laid 104 (octets_of 16 end)) is.page.encoded ∙ body_ended is.unit 1 0 n leaf.bounds es (replicate 32 0) end in
+    block_now (ended leaf end) _ (record {
+      unit = is.unit;
       valid = leaf_ended leaf end is.valid lt after;
-      block = record { ended = refl; encoded = sealed_is node (laid 104 (octets_of 16 end) page) (body-size 1 0 n (ending leaf.bounds end) es is.valid.fits) whole };
-    }
+      block = record { ended = refl; encoded = sealed_is node (laid 104 (octets_of 16 end) page) (body-size is.unit 1 0 n (ending leaf.bounds end) es is.valid.fits) whole };
+    }) fresh.now

@@ -9,13 +9,14 @@ use Rattle.tsb_node.specs.Numbers.{octets_of}
 use Rattle.tsb_node.specs.inner.Fields.{number_in}
 use Rattle.version_model.specs.declared.bounds.Bounds.{Bounds}
 use Rattle.version_model.specs.Versions.{Version, Has, IsRising, IsAbove}
-use Rattle.tsb_node.specs.Nodes.{IsBounds, header, seconds, body}
-use Rattle.tsb_node.specs.Leaves.{LeafNode, IsLeaf, BeginsAsLeaf, IsLeafPage, entry, entries, IsVersionOf}
+use Rattle.tsb_node.specs.Nodes.{IsBounds, header, unit_now, body}
+use Rattle.tsb_node.specs.Leaves.{LeafNode, IsLeaf, BeginsAsWrittenLeaf, entry, entries, IsVersionOf}
 use Rattle.tsb_node.specs.inner.Reading.{value_size, after, area}
+use Rattle.tsb_node.specs.inner.Fresh.{IsFreshLeafPage}
 use Rattle.tsb_node.specs.inner.Laying.{laid, IsFilling}
 use Rattle.tsb_node.specs.inner.Sides.{is_below, located_within, side_of}
 use Rattle.std.proofs.lemmas.List.Elements.{filter-append}
-use Rattle.tsb_node.proofs.Scanning.{key_decoded}
+use Rattle.tsb_node.proofs.Scanning.{key_decoded, stamp_decoded}
 use Rattle.version_model.proofs.api.Pushed.{get-push, IsRising-push}
 use Rattle.tsb_node.proofs.Entries.{entry_read, entry-size, after_encoded}
 use Rattle.tsb_node.proofs.Leaves.{leaf_area, pad_of, header-size}
@@ -55,7 +56,7 @@ keeps b v = located_within b v.key
 
 -- of the first n versions those between the bounds have been copied
 pub record HasCopied (leaf : LeafNode) (b : Bounds) (n at kept : ℕ) (page : List ℕ) : Type 0 where
-  pub filling : IsFilling (header 1 seconds 0 0 0 b) (entries (filter (keeps b) (take n leaf.versions))) page
+  pub filling : IsFilling (header 1 unit_now 0 0 0 b) (entries (filter (keeps b) (take n leaf.versions))) page
   pub at_is : at ≡ 120 + length (entries (filter (keeps b) (take n leaf.versions)))
   pub kept_is : kept ≡ length (filter (keeps b) (take n leaf.versions))
   pub each : AllByRecursion (IsVersionOf b) (filter (keeps b) (take n leaf.versions))
@@ -85,7 +86,7 @@ entries-cons : (v : Version) (vs : List Version) → entries (v ∷ vs) ≡ entr
 unfolding entries
 entries-cons v vs = refl
 
-pub next_version : (leaf : LeafNode) (octets rest : List ℕ) (n : ℕ) → BeginsAsLeaf leaf octets → n < length leaf.versions → rest ≡ after n (area octets) → IsNext leaf n rest
+pub next_version : (leaf : LeafNode) (octets rest : List ℕ) (n : ℕ) → BeginsAsWrittenLeaf leaf octets → n < length leaf.versions → rest ≡ after n (area octets) → IsNext leaf n rest
 next_version leaf octets rest n is lt at =
     let d = get_drop leaf.versions n lt in
     let valid : IsVersionOf leaf.bounds d.0 = all_at (IsVersionOf leaf.bounds) leaf.versions n d.0 is.valid.each d.2 in
@@ -101,6 +102,11 @@ pub key_of_entry : (b : Bounds) (v : Version) (bytes : List ℕ) → IsVersionOf
 key_of_entry b v bytes is e =
     let r = entry_read b v [] is in
     ap (number_in 40 0) (e ∙ sym (append-nil (entry v))) ∙ sym (key_decoded (entry v ++ [])) ∙ ap (λ (w : Version). w.key) r.is
+
+pub stamp_of_entry : (b : Bounds) (v : Version) (bytes : List ℕ) → IsVersionOf b v → bytes ≡ entry v → number_in 16 40 bytes ≡ v.stamp
+stamp_of_entry b v bytes is e =
+    let r = entry_read b v [] is in
+    ap (number_in 16 40) (e ∙ sym (append-nil (entry v))) ∙ sym (stamp_decoded (entry v ++ [])) ∙ ap (λ (w : Version). w.stamp) r.is
 
 pub take_version : (vs : List Version) (n : ℕ) (v : Version) → slice_get vs n ≡ Some v → take (n + 1) vs ≡ take n vs ++ v ∷ []
 take_version [] n v e = absurd (none-some v e)
@@ -147,7 +153,7 @@ copied_more leaf b n at kept page v valid is within room c =
     let l = located b v.key within in
     let above : IsAbove old v.stamp = record { above = λ w h. (let k = c.is_in w h in valid.rising.rises k.0 n w v k.1 k.2 is) } in
     record {
-      filling = rw (same, more) (filling_on (header 1 seconds 0 0 0 b) (entries old) (entry v) page at c.filling c.at_is (omega (arith, room, c.at_is)));
+      filling = rw (same, more) (filling_on (header 1 unit_now 0 0 0 b) (entries old) (entry v) page at c.filling c.at_is (omega (arith, room, c.at_is)));
       at_is = rw (same, more) (omega (arith, c.at_is, length-append (entries old) (entry v)));
       kept_is = rw same (omega (arith, c.kept_is, length-append old (v ∷ [])));
       each = rw same (all_push (IsVersionOf b) old v c.each (record { short = record { low = l.0; high = l.1; size = was.short.size }; key = was.key; stamp = was.stamp; octets = was.octets }));
@@ -158,12 +164,12 @@ copied_more leaf b n at kept page v valid is within room c =
       ];
     }
 
-pub copied_start : (leaf : LeafNode) (b : Bounds) (page : List ℕ) → IsLeafPage (record { bounds = b; versions = [] }) page → HasCopied leaf b 0 120 0 page
+pub copied_start : (leaf : LeafNode) (b : Bounds) (page : List ℕ) → IsFreshLeafPage (record { bounds = b; versions = [] }) page → HasCopied leaf b 0 120 0 page
 unfolding entries body
 copied_start leaf b page is = record {
   filling = record {
-    size = header-size 1 seconds 0 0 0 b;
-    encoded = is.page.encoded ∙ append_assoc (header 1 seconds 0 0 0 b ++ []) (replicate 16232 0) (replicate 32 0) ∙ ap (λ (t : List ℕ). (header 1 seconds 0 0 0 b ++ []) ++ t) (sym (replicate_add 16232 32 0));
+    size = header-size 1 unit_now 0 0 0 b;
+    encoded = is.page.page.encoded ∙ ap (λ (u : ℕ). ((header 1 u 0 0 0 b ++ []) ++ replicate 16232 0) ++ replicate 32 0) is.now ∙ append_assoc (header 1 unit_now 0 0 0 b ++ []) (replicate 16232 0) (replicate 32 0) ∙ ap (λ (t : List ℕ). (header 1 unit_now 0 0 0 b ++ []) ++ t) (sym (replicate_add 16232 32 0));
   };
   at_is = refl;
   kept_is = refl;
@@ -173,27 +179,27 @@ copied_start leaf b page is = record {
 }
 
 pub copied_end : (leaf : LeafNode) (b : Bounds) (n at kept used : ℕ) (page : List ℕ) → IsBounds b → b.end ≡ None → n ≡ length leaf.versions → at ≤ 16352 → used + 120 ≡ at → HasCopied leaf b n at kept page
-    → IsLeafPage (side_of leaf b) (laid 6 (octets_of 2 used) (laid 4 (octets_of 2 kept) page))
+    → IsFreshLeafPage (side_of leaf b) (laid 6 (octets_of 2 used) (laid 4 (octets_of 2 kept) page))
 copied_end leaf b n at kept used page valid current done small sized c =
     let vs : List Version = filter (keeps b) (take n leaf.versions) in
     let all : vs ≡ filter (keeps b) leaf.versions = ap (filter (keeps b)) (take_all n leaf.versions (omega (arith, done))) in
     let es : List ℕ = entries vs in
     let rep : List ℕ = replicate (16264 - length es) 0 in
-    let h : List ℕ = header 1 seconds 0 kept used b in
-    let whole : page ≡ header 1 seconds 0 0 0 b ++ (es ++ rep) = c.filling.encoded ∙ append_assoc (header 1 seconds 0 0 0 b) es rep in
+    let h : List ℕ = header 1 unit_now 0 kept used b in
+    let whole : page ≡ header 1 unit_now 0 0 0 b ++ (es ++ rep) = c.filling.encoded ∙ append_assoc (header 1 unit_now 0 0 0 b) es rep in
     let counted : laid 6 (octets_of 2 used) (laid 4 (octets_of 2 kept) page) ≡ (h ++ es) ++ rep =
-    ap (λ (t : List ℕ). laid 6 (octets_of 2 used) (laid 4 (octets_of 2 kept) t)) whole ∙ recounted 1 seconds 0 0 0 kept used b (es ++ rep) ∙ sym (append_assoc h es rep) in
+    ap (λ (t : List ℕ). laid 6 (octets_of 2 used) (laid 4 (octets_of 2 kept) t)) whole ∙ recounted 1 unit_now 0 0 0 kept used b (es ++ rep) ∙ sym (append_assoc h es rep) in
     let size : used ≡ length es = omega (arith, sized, c.at_is) in
-    let filling : IsFilling (header 1 seconds 0 (length vs) (length es) b) es (laid 6 (octets_of 2 used) (laid 4 (octets_of 2 kept) page)) = record {
-      size = header-size 1 seconds 0 (length vs) (length es) b;
-      encoded = counted ∙ ap (λ (k : ℕ). (header 1 seconds 0 k used b ++ es) ++ rep) c.kept_is ∙ ap (λ (k : ℕ). (header 1 seconds 0 (length vs) k b ++ es) ++ rep) size;
+    let filling : IsFilling (header 1 unit_now 0 (length vs) (length es) b) es (laid 6 (octets_of 2 used) (laid 4 (octets_of 2 kept) page)) = record {
+      size = header-size 1 unit_now 0 (length vs) (length es) b;
+      encoded = counted ∙ ap (λ (k : ℕ). (header 1 unit_now 0 k used b ++ es) ++ rep) c.kept_is ∙ ap (λ (k : ℕ). (header 1 unit_now 0 (length vs) k b ++ es) ++ rep) size;
     } in
     let fits : length es ≤ 16232 = omega (arith, small, c.at_is) in
-    let encoded = filled 1 0 (length vs) b es (laid 6 (octets_of 2 used) (laid 4 (octets_of 2 kept) page)) filling fits in
-    subst (λ (t : List Version). IsLeafPage (record { bounds = b; versions = t }) (laid 6 (octets_of 2 used) (laid 4 (octets_of 2 kept) page))) all
+    let encoded = filled unit_now 1 0 (length vs) b es (laid 6 (octets_of 2 used) (laid 4 (octets_of 2 kept) page)) filling fits in
+    subst (λ (t : List Version). IsFreshLeafPage (record { bounds = b; versions = t }) (laid 6 (octets_of 2 used) (laid 4 (octets_of 2 kept) page))) all
     (record {
-      valid = record { bounds = valid; each = c.each; rising = c.rising; fits = fits };
-      page = record { current = current; encoded = encoded };
+      page = record { unit = unit_now; valid = record { bounds = valid; each = c.each; rising = c.rising; fits = fits }; page = record { current = current; encoded = encoded } };
+      now = refl;
     })
 
 pub after_none : (bytes : List ℕ) → bytes ≡ after 0 bytes

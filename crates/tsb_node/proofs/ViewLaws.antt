@@ -1,5 +1,5 @@
 -- What nodes represent is what the tree asks of them.
-use Rattle.std.proofs.Common.{◌≡◌, ℕ, zero, suc, ◌^◌, ◌<◌, ◌≤◌, ◌⊎◌, inl, inr, List, [], ◌∷◌, ◌++◌, length, map, slice_get, Option, Some, None, Bool, true, not, nat_lt, refl, sym, ap, subst, ◌∙◌, arith}
+use Rattle.std.proofs.Common.{◌≡◌, ℕ, zero, suc, ◌^◌, ◌<◌, ◌≤◌, ◌⊎◌, inl, inr, List, [], ◌∷◌, ◌++◌, length, map, filter, slice_get, Option, Some, None, Bool, true, not, nat_lt, refl, sym, ap, subst, ◌∙◌, arith}
 use Rattle.std.specs.List.{AllByRecursion}
 use Rattle.std.specs.Option.{IfSome}
 use Rattle.std.proofs.lemmas.List.{length-append}
@@ -204,6 +204,14 @@ within_yes b key low high = and_from (not (nat_lt key b.low)) (is_below b.high k
 
 version_at : (leaf : LeafNode) (v : Version) → IsLeaf leaf → Has leaf.versions v → IsVersionOf leaf.bounds v
 version_at leaf v valid has = each_get (IsVersionOf leaf.bounds) leaf.versions has.place v valid.each has.is
+
+filter_each : (b : Bounds) (vs : List Version) → AllByRecursion (IsVersionOf b) vs → filter (λ v. located_within b v.key) vs ≡ vs
+filter_each b [] all = refl
+filter_each b (v ∷ vs) all = rw (within_yes b v.key all.0.short.low all.0.short.high) (ap (λ (t : List Version). v ∷ t) (filter_each b vs all.1))
+
+-- the side of a leaf's own bounds is the leaf
+pub side_whole : (leaf : LeafNode) → IsLeaf leaf → side_of leaf leaf.bounds ≡ leaf
+side_whole leaf valid = let versions = filter_each leaf.bounds leaf.versions valid.each in λ i. record { bounds = leaf.bounds; versions = versions i }
 
 -- what is copied is the side
 pub side_is : (leaf : LeafNode) (b : Bounds) → IsSide b leaf.versions (side_of leaf b).versions

@@ -7,9 +7,10 @@ use Rattle.std.proofs.lemmas.Grind.{flat_map-append}
 use Rattle.tsb_node.specs.Numbers.{octets_of}
 use Rattle.version_model.specs.declared.bounds.Bounds.{Bounds}
 use Rattle.version_model.specs.declared.child.Child.{Child}
-use Rattle.tsb_node.specs.Nodes.{IsBounds, header, body, seconds}
+use Rattle.tsb_node.specs.Nodes.{IsBounds, header, body, unit_now}
 use Rattle.tsb_node.specs.KeyNodes.{KeyNodeInPage, IsKeyNode, CanBeKeyNode, IsKeyNodePage, IsChildEntry, child_octets}
 use Rattle.tsb_node.specs.inner.Laying.{laid, IsFilling}
+use Rattle.tsb_node.proofs.WrittenNow.{key_node_now}
 use Rattle.tsb_node.proofs.Leaves.{header-size}
 use Rattle.tsb_node.proofs.NumberLaws.{octets_of-size}
 use Rattle.std.proofs.lemmas.List.{length-take}
@@ -17,10 +18,10 @@ use Rattle.std.proofs.lemmas.Option.{same_Some, none-some}
 use Rattle.tsb_node.proofs.KeyNodeLaws.{child-size, children-count}
 use Rattle.tsb_node.proofs.Laying.{put_field, put_two, replicate_add, all_push}
 
-pub filling_start : (kind level count used : ℕ) (b : Bounds) (page : List ℕ) → page ≡ laid 0 (header kind seconds level count used b) (replicate 16384 0) → IsFilling (header kind seconds level count used b) [] page
-filling_start kind level count used b page is =
-    let h : List ℕ = header kind seconds level count used b in
-    let size : length h ≡ 120 = header-size kind seconds level count used b in
+pub filling_start : (unit kind level count used : ℕ) (b : Bounds) (page : List ℕ) → page ≡ laid 0 (header kind unit level count used b) (replicate 16384 0) → IsFilling (header kind unit level count used b) [] page
+filling_start unit kind level count used b page is =
+    let h : List ℕ = header kind unit level count used b in
+    let size : length h ≡ 120 = header-size kind unit level count used b in
     let split : replicate 16384 0 ≡ replicate 120 0 ++ replicate 16264 0 = replicate_add 120 16264 0 in
     record {
       size = size;
@@ -41,10 +42,10 @@ filling_on h es new page at f here fits =
           ∙ sym (append_assoc (h ++ es) new (replicate left 0)) ∙ ap (λ (t : List ℕ). t ++ replicate left 0) (append_assoc h es new);
     }
 
-pub filled : (kind level count : ℕ) (b : Bounds) (es page : List ℕ) → IsFilling (header kind seconds level count (length es) b) es page → length es ≤ 16232 → page ≡ body kind level count b es ++ replicate 32 0
+pub filled : (unit kind level count : ℕ) (b : Bounds) (es page : List ℕ) → IsFilling (header kind unit level count (length es) b) es page → length es ≤ 16232 → page ≡ body unit kind level count b es ++ replicate 32 0
 unfolding body
-filled kind level count b es page f fits =
-    let h : List ℕ = header kind seconds level count (length es) b in
+filled unit kind level count b es page f fits =
+    let h : List ℕ = header kind unit level count (length es) b in
     let n : ℕ = 16232 - length es in
     let sum : 16264 - length es ≡ n + 32 = omega arith in
     f.encoded ∙ ap (λ (t : List ℕ). (h ++ es) ++ t) (ap (λ (k : ℕ). replicate k 0) sum ∙ replicate_add n 32 0) ∙ sym (append_assoc (h ++ es) (replicate n 0) (replicate 32 0))
@@ -101,7 +102,7 @@ children_fit b [] each below = tt
 children_fit b (c ∷ cs) each below = (record { low = each.0.0; high = below.0; page = each.0.1 }, children_fit b cs each.1 below.1)
 
 pub written_end : (node : KeyNodeInPage) (count used at n : ℕ) (page : List ℕ) → CanBeKeyNode node → IsBounds node.bounds → count ≡ length node.children → used ≡ 48 * length node.children → n ≡ length node.children
-    → HasWritten (header 3 seconds node.level count used node.bounds) node.children n at page → node.bounds.end ≡ None → IsKeyNodePage node page
+    → HasWritten (header 3 unit_now node.level count used node.bounds) node.children n at page → node.bounds.end ≡ None → IsKeyNodePage node page
 written_end node count used at n page can bounds counted sized done w current =
     let cs : List Child = node.children in
     let es : List ℕ = flat_map child_octets cs in
@@ -117,8 +118,8 @@ written_end node count used at n page can bounds counted sized done w current =
       fits = can.fits;
     } in
     let size : used ≡ length es = sized ∙ sym (children-count cs) in
-    let f : IsFilling (header 3 seconds node.level (length cs) (length es) node.bounds) es page =
-    subst (λ (t : List ℕ). IsFilling (header 3 seconds node.level (length cs) (length es) node.bounds) t page) (ap (flat_map child_octets) all)
-    (subst (λ (k : ℕ). IsFilling (header 3 seconds node.level (length cs) k node.bounds) (flat_map child_octets (take n cs)) page) size
-    (subst (λ (k : ℕ). IsFilling (header 3 seconds node.level k used node.bounds) (flat_map child_octets (take n cs)) page) counted w.filling)) in
-    record { valid = valid; page = record { current = current; encoded = filled 3 node.level (length cs) node.bounds es page f (omega (arith, children-count cs, valid.fits)) } }
+    let f : IsFilling (header 3 unit_now node.level (length cs) (length es) node.bounds) es page =
+    subst (λ (t : List ℕ). IsFilling (header 3 unit_now node.level (length cs) (length es) node.bounds) t page) (ap (flat_map child_octets) all)
+    (subst (λ (k : ℕ). IsFilling (header 3 unit_now node.level (length cs) k node.bounds) (flat_map child_octets (take n cs)) page) size
+    (subst (λ (k : ℕ). IsFilling (header 3 unit_now node.level k used node.bounds) (flat_map child_octets (take n cs)) page) counted w.filling)) in
+    key_node_now node page (record { unit = unit_now; valid = valid; page = record { current = current; encoded = filled unit_now 3 node.level (length cs) node.bounds es page f (omega (arith, children-count cs, valid.fits)) } }) refl

@@ -3,13 +3,21 @@ use Rattle.std.specs.Prelude.{◌≡◌, ℕ, suc, ◌≤◌, ◌<◌, List, ◌
 use Rattle.version_model.specs.declared.bounds.Bounds.{Bounds}
 use Rattle.version_model.specs.declared.child.Child.{Child}
 use Rattle.tsb_node.specs.declared.key_node.Under.{Under}
+use Rattle.tsb_node.specs.Scaling.{IsKnownUnit}
 use Rattle.tsb_node.specs.KeyNodes.{KeyNodeInPage, IsKeyNode, key_node_body}
+
+-- the octets begin as the page of the key node does, of some unit
+pub record BeginsAsWrittenKeyNode (node : KeyNodeInPage) (octets : List ℕ) : Type 0 where
+  pub unit : ℕ
+  pub valid : IsKeyNode node
+  pub last : List ℕ
+  pub encoded : octets ≡ key_node_body unit node ++ last
 
 -- the octets begin as the page of the key node does
 pub record BeginsAsKeyNode (node : KeyNodeInPage) (octets : List ℕ) : Type 0 where
+  pub begins : BeginsAsWrittenKeyNode node octets
+  pub known : IsKnownUnit begins.unit
   pub valid : IsKeyNode node
-  pub last : List ℕ
-  pub encoded : octets ≡ key_node_body node ++ last
 
 -- the key lies between the bounds
 pub record IsKeyWithin (b : Bounds) (key : ℕ) : Type 0 where

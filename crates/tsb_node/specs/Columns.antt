@@ -1,7 +1,8 @@
 -- A column: the parts of its past, and in a page its current leaf.
-use Rattle.std.specs.Prelude.{◌≡◌, ℕ, ◌+◌, ◌*◌, ◌<◌, ◌≤◌, ◌^◌, List, [], ◌∷◌, ◌++◌, length, map, IfSome}
+use Rattle.std.specs.Prelude.{◌≡◌, ℕ, ◌+◌, ◌*◌, ◌<◌, ◌≤◌, ◌^◌, List, [], ◌∷◌, ◌++◌, length, map, None, IfSome, IsSome}
 use Rattle.std.specs.List.{flat_map, AllByRecursion}
 use Rattle.tsb_node.specs.Numbers.{octets_of}
+use Rattle.tsb_node.specs.Scaling.{scaled, scaled_bounds, IsInMoments}
 use Rattle.tsb_node.specs.Nodes.{IsBounds, AreInOrder, body, IsInPage, IsInBlock}
 use Rattle.version_model.specs.declared.bounds.Bounds.{Bounds}
 use Rattle.version_model.specs.declared.part.PartKind.{PartKind}
@@ -94,20 +95,51 @@ pub record CanBeOldColumn (c : ColumnInBlock) : Type 0 where
   pub bounds : AreInOrder c.bounds
   pub follow : OldPartsFollow c
 
--- the octets of a column's page but for the last 32: a node of kind 2 and level 1, the current leaf after the parts
-abbrev pub column_body : ColumnInPage → List ℕ
-column_body c = body 2 1 (length c.parts + 1) c.bounds (flat_map part_octets c.parts ++ current_octets c.current)
+-- the octets of a column's page but for the last 32, its times in a unit: a node of kind 2 and level 1, the current leaf after the parts
+abbrev pub column_body : ℕ → ColumnInPage → List ℕ
+column_body unit c = body unit 2 1 (length c.parts + 1) c.bounds (flat_map part_octets c.parts ++ current_octets c.current)
 
--- the octets of a column's block but for the last 32
-abbrev pub old_column_body : ColumnInBlock → List ℕ
-old_column_body c = body 2 1 (length c.parts) c.bounds (flat_map part_octets c.parts)
+-- the octets of a column's block but for the last 32, its times in a unit
+abbrev pub old_column_body : ℕ → ColumnInBlock → List ℕ
+old_column_body unit c = body unit 2 1 (length c.parts) c.bounds (flat_map part_octets c.parts)
+
+-- the octets are the page of the column, its times in some unit
+pub record IsWrittenColumnPage (column : ColumnInPage) (octets : List ℕ) : Type 0 where
+  pub unit : ℕ
+  pub valid : IsColumn column
+  pub page : IsInPage column.bounds (column_body unit column) octets
+
+-- the octets are the block of the column, its times in some unit
+pub record IsWrittenColumnBlock (column : ColumnInBlock) (octets : List ℕ) : Type 0 where
+  pub unit : ℕ
+  pub valid : IsOldColumn column
+  pub block : IsInBlock column.bounds (old_column_body unit column) octets
+
+-- a part, and a column, whose times are k times those of this one
+abbrev pub scaled_part : ℕ → Part → Part
+scaled_part k p = record { start = scaled k p.start; kind = p.kind; block = p.block }
+
+abbrev pub scaled_current : ℕ → Current → Current
+scaled_current k c = record { start = scaled k c.start; page = c.page }
+
+abbrev pub scaled_column : ℕ → ColumnInPage → ColumnInPage
+scaled_column k c = record { bounds = scaled_bounds k c.bounds; parts = map (scaled_part k) c.parts; current = scaled_current k c.current }
+
+abbrev pub scaled_old_column : ℕ → ColumnInBlock → ColumnInBlock
+scaled_old_column k c = record { bounds = scaled_bounds k c.bounds; parts = map (scaled_part k) c.parts }
 
 -- the octets are the page of the column
 pub record IsColumnPage (column : ColumnInPage) (octets : List ℕ) : Type 0 where
+  pub as_written : ColumnInPage
+  pub page : IsWrittenColumnPage as_written octets
+  pub moments : IsInMoments scaled_column page.unit as_written column
   pub valid : IsColumn column
-  pub page : IsInPage column.bounds (column_body column) octets
+  pub current : column.bounds.end ≡ None
 
 -- the octets are the block of the column
 pub record IsColumnBlock (column : ColumnInBlock) (octets : List ℕ) : Type 0 where
+  pub as_written : ColumnInBlock
+  pub block : IsWrittenColumnBlock as_written octets
+  pub moments : IsInMoments scaled_old_column block.unit as_written column
   pub valid : IsOldColumn column
-  pub block : IsInBlock column.bounds (old_column_body column) octets
+  pub ended : IsSome column.bounds.end

@@ -1,7 +1,8 @@
 -- A key node: the lowest keys and the pages of its children.
-use Rattle.std.specs.Prelude.{◌≡◌, ℕ, ◌*◌, ◌<◌, ◌≤◌, ◌^◌, List, ◌++◌, length, map, IfSome}
+use Rattle.std.specs.Prelude.{◌≡◌, ℕ, ◌*◌, ◌<◌, ◌≤◌, ◌^◌, List, ◌++◌, length, map, None, IfSome}
 use Rattle.std.specs.List.{flat_map, AllByRecursion}
 use Rattle.tsb_node.specs.Numbers.{octets_of}
+use Rattle.tsb_node.specs.Scaling.{IsKnownUnit}
 use Rattle.tsb_node.specs.Nodes.{IsBounds, AreInOrder, body, IsInPage}
 use Rattle.version_model.specs.declared.bounds.Bounds.{Bounds}
 use Rattle.tsb_node.specs.Columns.{BeginsAt, AreAscending}
@@ -46,11 +47,19 @@ IsKeyNode k = IsKeyNodeWith IsBounds IsChildEntry k
 abbrev pub CanBeKeyNode : KeyNodeInPage → Type 0
 CanBeKeyNode k = IsKeyNodeWith AreInOrder (λ b c. IfSome b.high (λ n. c.low < n)) k
 
--- the octets of a key node but for the last 32: a node of kind 3
-abbrev pub key_node_body : KeyNodeInPage → List ℕ
-key_node_body k = body 3 k.level (length k.children) k.bounds (flat_map child_octets k.children)
+-- the octets of a key node but for the last 32, of a unit: a node of kind 3
+abbrev pub key_node_body : ℕ → KeyNodeInPage → List ℕ
+key_node_body unit k = body unit 3 k.level (length k.children) k.bounds (flat_map child_octets k.children)
 
--- the octets are the page of the key node
-pub record IsKeyNodePage (node : KeyNodeInPage) (octets : List ℕ) : Type 0 where
+-- the octets are the page of the key node, of some unit
+pub record IsWrittenKeyNodePage (node : KeyNodeInPage) (octets : List ℕ) : Type 0 where
+  pub unit : ℕ
   pub valid : IsKeyNode node
-  pub page : IsInPage node.bounds (key_node_body node) octets
+  pub page : IsInPage node.bounds (key_node_body unit node) octets
+
+-- the octets are the page of the key node, which is the same in each unit
+pub record IsKeyNodePage (node : KeyNodeInPage) (octets : List ℕ) : Type 0 where
+  pub page : IsWrittenKeyNodePage node octets
+  pub known : IsKnownUnit page.unit
+  pub valid : IsKeyNode node
+  pub current : node.bounds.end ≡ None

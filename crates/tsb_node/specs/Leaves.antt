@@ -1,9 +1,10 @@
 -- A leaf: the versions of its keys.
-use Rattle.std.specs.Prelude.{◌≡◌, ℕ, ◌<◌, ◌≤◌, ◌^◌, List, [], ◌∷◌, ◌++◌, length, Option, Some, None, IfSome}
+use Rattle.std.specs.Prelude.{◌≡◌, ℕ, ◌<◌, ◌≤◌, ◌^◌, List, [], ◌∷◌, ◌++◌, length, map, Option, Some, None, IfSome, IsSome}
 use Rattle.std.specs.List.{flat_map, AllByRecursion}
 use Rattle.route_model.specs.Octets.{AreOctets}
 use Rattle.tsb_node.specs.Numbers.{octets_of}
 use Rattle.version_model.specs.Versions.{Version, IsRising}
+use Rattle.tsb_node.specs.Scaling.{scaled_bounds, scaled_version, IsInMoments}
 use Rattle.tsb_node.specs.Nodes.{IsBounds, AreInOrder, body, IsInPage, IsInBlock}
 use Rattle.version_model.specs.declared.bounds.Bounds.{Bounds}
 
@@ -58,22 +59,52 @@ IsLeaf leaf = IsLeafWith IsBounds IsVersionOf leaf
 abbrev pub CanBeLeaf : LeafNode → Type 0
 CanBeLeaf leaf = IsLeafWith AreInOrder IsShortOf leaf
 
--- the octets of a leaf but for the last 32: a node of kind 1 and level 0
-abbrev pub leaf_body : LeafNode → List ℕ
-leaf_body leaf = body 1 0 (length leaf.versions) leaf.bounds (entries leaf.versions)
+-- the octets of a leaf but for the last 32, its times in a unit: a node of kind 1 and level 0
+abbrev pub leaf_body : ℕ → LeafNode → List ℕ
+leaf_body unit leaf = body unit 1 0 (length leaf.versions) leaf.bounds (entries leaf.versions)
+
+-- the octets are the page of the leaf, its times in some unit
+pub record IsWrittenLeafPage (leaf : LeafNode) (octets : List ℕ) : Type 0 where
+  pub unit : ℕ
+  pub valid : IsLeaf leaf
+  pub page : IsInPage leaf.bounds (leaf_body unit leaf) octets
+
+-- the octets are the block of the leaf, its times in some unit
+pub record IsWrittenLeafBlock (leaf : LeafNode) (octets : List ℕ) : Type 0 where
+  pub unit : ℕ
+  pub valid : IsLeaf leaf
+  pub block : IsInBlock leaf.bounds (leaf_body unit leaf) octets
+
+-- the octets begin as a page or a block of the leaf does, its times in some unit
+pub record BeginsAsWrittenLeaf (leaf : LeafNode) (octets : List ℕ) : Type 0 where
+  pub unit : ℕ
+  pub valid : IsLeaf leaf
+  pub last : List ℕ
+  pub encoded : octets ≡ leaf_body unit leaf ++ last
+
+-- the leaf whose times are k times those of this one
+abbrev pub scaled_leaf : ℕ → LeafNode → LeafNode
+scaled_leaf k leaf = record { bounds = scaled_bounds k leaf.bounds; versions = map (scaled_version k) leaf.versions }
 
 -- the octets are the page of the leaf
 pub record IsLeafPage (leaf : LeafNode) (octets : List ℕ) : Type 0 where
+  pub as_written : LeafNode
+  pub page : IsWrittenLeafPage as_written octets
+  pub moments : IsInMoments scaled_leaf page.unit as_written leaf
   pub valid : IsLeaf leaf
-  pub page : IsInPage leaf.bounds (leaf_body leaf) octets
+  pub current : leaf.bounds.end ≡ None
 
 -- the octets are the block of the leaf
 pub record IsLeafBlock (leaf : LeafNode) (octets : List ℕ) : Type 0 where
+  pub as_written : LeafNode
+  pub block : IsWrittenLeafBlock as_written octets
+  pub moments : IsInMoments scaled_leaf block.unit as_written leaf
   pub valid : IsLeaf leaf
-  pub block : IsInBlock leaf.bounds (leaf_body leaf) octets
+  pub ended : IsSome leaf.bounds.end
 
 -- the octets begin as a page or a block of the leaf does
 pub record BeginsAsLeaf (leaf : LeafNode) (octets : List ℕ) : Type 0 where
+  pub as_written : LeafNode
+  pub begins : BeginsAsWrittenLeaf as_written octets
+  pub moments : IsInMoments scaled_leaf begins.unit as_written leaf
   pub valid : IsLeaf leaf
-  pub last : List ℕ
-  pub encoded : octets ≡ leaf_body leaf ++ last

@@ -1,5 +1,6 @@
 pub mod Numbers
 pub mod Nodes
+pub mod Scaling
 pub mod Leaves
 pub mod Columns
 pub mod KeyNodes

@@ -1,6 +1,7 @@
 -- What all nodes have in common: a header of 120 octets, entries, zeros, and 32 octets at the end. A node fills 16,384 octets.
 use Rattle.std.specs.Prelude.{◌≡◌, ℕ, ◌+◌, ◌-◌, ◌<◌, ◌^◌, List, [], ◌∷◌, ◌++◌, length, replicate, None, IfSome, IsSome}
 use Rattle.sha2.specs.Sha256.{sha256}
+use Rattle.route_model.specs.Units.{written, unit_number}
 use Rattle.version_model.specs.declared.bounds.Bounds.{Bounds}
 use Rattle.tsb_node.specs.Numbers.{octets_of, bound_octets}
 
@@ -16,18 +17,18 @@ pub record IsBounds (b : Bounds) : Type 0 where
   pub start : b.start < 256 ^ 16
   pub order : AreInOrder b
 
--- The header: kind, unit of times, level, zero, how many entries, their octets, low key, high key, start stamp, end stamp.
+-- The header: kind, number of the unit of times, level, zero, how many entries, their octets, low key, high key, start stamp, end stamp.
 unfoldable pub header : ℕ → ℕ → ℕ → ℕ → ℕ → Bounds → List ℕ
 header kind unit level count used b =
     (kind ∷ unit ∷ level ∷ 0 ∷ []) ++ octets_of 2 count ++ octets_of 2 used ++ octets_of 40 b.low ++ bound_octets 40 b.high ++ octets_of 16 b.start ++ bound_octets 16 b.end
 
--- times are in whole seconds
-abbrev pub seconds : ℕ
-seconds = 0
+-- the number of the unit in which nodes are written
+abbrev pub unit_now : ℕ
+unit_now = unit_number written
 
 -- a node but for the last 32 octets: its header, its entries, and zeros
-unfoldable pub body : ℕ → ℕ → ℕ → Bounds → List ℕ → List ℕ
-body kind level count bounds entries = header kind seconds level count (length entries) bounds ++ entries ++ replicate (16232 - length entries) 0
+unfoldable pub body : ℕ → ℕ → ℕ → ℕ → Bounds → List ℕ → List ℕ
+body unit kind level count bounds entries = header kind unit level count (length entries) bounds ++ entries ++ replicate (16232 - length entries) 0
 
 -- a page is current, and ends in 32 zeros
 pub record IsInPage (bounds : Bounds) (node octets : List ℕ) : Type 0 where

@@ -9,3 +9,6 @@ pub mod Rows
 pub mod NodeReading
 pub mod Sides
 pub mod Nexts
+pub mod Fresh
+pub mod Spots
+pub mod InMoments

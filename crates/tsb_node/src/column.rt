@@ -5,12 +5,14 @@ ghost use Rattle.std.specs.Prelude.{ℕ, List, slice_index, drop, ◌++◌, Ok};
 ghost use Rattle.version_model.specs.declared.part.PartKind.{PartKind as PartKindValue};
 ghost use Rattle.version_model.specs.declared.part.Part.{Part as PartValue};
 ghost use Rattle.tsb_node.specs.Columns.{ColumnInPage, ColumnInBlock, IsPartEntry, part_kind, part_octets};
-ghost use Rattle.tsb_node.specs.Parts.{BeginsAsColumn, BeginsAsOldColumn, IsSpot, IsPartAt};
+ghost use Rattle.tsb_node.specs.Parts.{BeginsAsColumn, BeginsAsOldColumn, BeginsAsWrittenColumn, BeginsAsWrittenOldColumn, IsSpot, IsPartAt};
+ghost use Rattle.tsb_node.specs.inner.Spots.{SpotFits, PartFits, scaled_spot, scaled_part_at};
 ghost use Rattle.std.specs.Result.{MatchResult};
 ghost use Rattle.tsb_node.specs.inner.PartReading.{IsPlaceBefore};
 
 use crate::header::is_stamp_below;
 use crate::leaf::{FIRST, LAST, NotANode};
+use crate::moments::{floor_stamp, moments_of, part_in_moments, stamp_in_moments};
 use crate::numbers::{number2, number8, stamp_at};
 use version_model::{Part, PartKind, Stamp};
 
@@ -88,11 +90,10 @@ fn place_before(area: &[u8], count: u16, stamp: Stamp) -> usize
     25 * first
 }
 
-/// Where the column that begins these octets of a page has its versions at a stamp.
-/// Fails only if they aren't a column, but not in every such case.
-pub fn spot_for(octets: &[u8], stamp: Stamp) -> Result<Spot, NotANode>
+// Where the column that begins these octets of a page has its versions at a stamp, all stamps in the column's unit.
+fn spot_written(octets: &[u8], stamp: Stamp) -> Result<Spot, NotANode>
     requires size { length octets.now ≡ 16384 }
-    ensures spot { (column : ColumnInPage) → BeginsAsColumn column octets.now → MatchResult result (IsSpot column stamp) (λ e. ⊥) }
+    ensures spot { (column : ColumnInPage) → BeginsAsWrittenColumn column octets.now → MatchResult result (IsSpot column stamp) (λ e. ⊥) }
 {
     let count = number2(octets, 4);
     if count == 0 {
@@ -118,12 +119,46 @@ pub fn spot_for(octets: &[u8], stamp: Stamp) -> Result<Spot, NotANode>
     }))
 }
 
-/// The part of a past in which a stamp lies, of the column of a block that ends at a stamp.
-/// Fails only if the octets aren't such a column, but not in every such case.
-pub fn part_for(octets: &[u8], end: Stamp, stamp: Stamp) -> Result<PartAt, NotANode>
+// A spot in moments, in a column whose times are k moments each.
+fn spot_in_moments(spot: Spot, k: u64) -> Spot
+    ensures { SpotFits k spot → result ≡ scaled_spot k spot }
+{
+    match spot {
+        Spot::InPage(current) => Spot::InPage(Current {
+            start: stamp_in_moments(current.start, k),
+            page: current.page,
+        }),
+        Spot::InBlock(found) => Spot::InBlock(found_in_moments(found, k)),
+    }
+}
+
+// A part with its end in moments, in a column whose times are k moments each.
+fn found_in_moments(found: PartAt, k: u64) -> PartAt
+    ensures { PartFits k found → result ≡ scaled_part_at k found }
+{
+    PartAt {
+        part: part_in_moments(found.part, k),
+        end: stamp_in_moments(found.end, k),
+    }
+}
+
+/// Where the column that begins these octets of a page has its versions at a stamp.
+/// Fails only if they aren't a column, but not in every such case.
+pub fn spot_for(octets: &[u8], stamp: Stamp) -> Result<Spot, NotANode>
     requires size { length octets.now ≡ 16384 }
-    requires before { stamp < end }
-    ensures part { (column : ColumnInBlock) → BeginsAsOldColumn column octets.now → column.bounds.end ≡ Some end → column.bounds.start ≤ stamp → MatchResult result (IsPartAt column.parts end stamp) (λ e. ⊥) }
+    ensures spot { (column : ColumnInPage) → BeginsAsColumn column octets.now → MatchResult result (IsSpot column stamp) (λ e. ⊥) }
+{
+    let k = moments_of(octets[1]);
+    match spot_written(octets, floor_stamp(stamp, k)) {
+        Ok(spot) => Ok(spot_in_moments(spot, k)),
+        Err(NotANode) => Err(NotANode),
+    }
+}
+
+// The part of a past in which a stamp lies, as `part_for` returns it, all stamps in the column's unit.
+fn part_written(octets: &[u8], end: Stamp, stamp: Stamp) -> Result<PartAt, NotANode>
+    requires size { length octets.now ≡ 16384 }
+    ensures part { (column : ColumnInBlock) → BeginsAsWrittenOldColumn column octets.now → column.bounds.end ≡ Some end → column.bounds.start ≤ stamp → stamp < end → MatchResult result (IsPartAt column.parts end stamp) (λ e. ⊥) }
 {
     let count = number2(octets, 4);
     if count == 0 {
@@ -144,4 +179,18 @@ pub fn part_for(octets: &[u8], end: Stamp, stamp: Stamp) -> Result<PartAt, NotAN
         part,
         end: stamp_at(area, at + 25),
     })
+}
+
+/// The part of a past in which a stamp lies, of the column of a block that ends at a stamp.
+/// Fails only if the octets aren't such a column, but not in every such case.
+pub fn part_for(octets: &[u8], end: Stamp, stamp: Stamp) -> Result<PartAt, NotANode>
+    requires size { length octets.now ≡ 16384 }
+    requires before { stamp < end }
+    ensures part { (column : ColumnInBlock) → BeginsAsOldColumn column octets.now → column.bounds.end ≡ Some end → column.bounds.start ≤ stamp → MatchResult result (IsPartAt column.parts end stamp) (λ e. ⊥) }
+{
+    let k = moments_of(octets[1]);
+    match part_written(octets, floor_stamp(end, k), floor_stamp(stamp, k)) {
+        Ok(found) => Ok(found_in_moments(found, k)),
+        Err(NotANode) => Err(NotANode),
+    }
 }

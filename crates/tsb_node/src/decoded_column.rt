@@ -1,16 +1,18 @@
 //! Reads the pages and blocks of columns into owned values.
 
-ghost use Rattle.std.specs.Prelude.{◌≡◌};
+ghost use Rattle.std.specs.Prelude.{◌≡◌, IsSome};
 ghost use Rattle.std.specs.Result.{MatchResult};
 ghost use Rattle.tsb_node.specs.Columns.{IsColumnPage, IsColumnBlock};
 ghost use Rattle.tsb_node.specs.Decoded.{decoded_column, decoded_old_column, IsRefusal};
 ghost use Rattle.tsb_node.specs.inner.NodeReading.{IsNode};
-ghost use Rattle.tsb_node.specs.inner.PartReading.{IsColumnOf, IsOldColumnOf};
+ghost use Rattle.tsb_node.specs.Scaling.{IsKnownUnit};
+ghost use Rattle.tsb_node.specs.inner.InMoments.{IsColumnFrom, IsOldColumnFrom};
 
 use crate::column::Current;
 use crate::column_reading::{current_of, parts_in};
 use crate::header::{Header, is_of_kind};
 use crate::leaf_part::ReadFault;
+use crate::moments::{bounds_in_moments, in_moments, is_known, moments_of, scale_parts};
 use crate::node_reading::{node_of_block, node_of_page};
 use disk_models::{Block, Page};
 use std::alloc::Global;
@@ -34,24 +36,35 @@ pub struct DecodedOldColumn {
 /// Reads the column whose header and entries in a page these are.
 fn column_in(alloc: Global, header: &Header, entries: &[u8]) -> Result<DecodedColumn, ReadFault>
     requires node { IsNode header.now entries.now }
-    ensures column { MatchResult result (λ decoded. IsColumnOf header.now entries.now (decoded_column decoded)) (IsRefusal (IsColumnOf header.now entries.now)) }
+    requires known { IsKnownUnit header.now.unit }
+    ensures column { MatchResult result (λ decoded. IsColumnFrom header.now entries.now (decoded_column decoded)) (IsRefusal (IsColumnFrom header.now entries.now)) }
 {
     let Some((current, front)) = current_of(header, entries) else {
         return Err(ReadFault::NotANode);
     };
-    let bounds = header.bounds;
+    let k = moments_of(header.unit);
+    let Some(bounds) = bounds_in_moments(&header.bounds, k) else {
+        return Err(ReadFault::NotANode);
+    };
+    let Some(start) = in_moments(current.start, k) else {
+        return Err(ReadFault::NotANode);
+    };
     match parts_in(
         alloc,
         front,
         header.count - 1,
-        bounds.start,
+        header.bounds.start,
         Some(current.start),
     ) {
-        Ok(parts) => Ok(DecodedColumn {
-            bounds,
-            parts,
-            current,
-        }),
+        Ok(mut parts) => {
+            scale_parts(&mut parts, k);
+            let page = current.page;
+            Ok(DecodedColumn {
+                bounds,
+                parts,
+                current: Current { start, page },
+            })
+        }
         Err(fault) => Err(fault),
     }
 }
@@ -63,7 +76,9 @@ fn read_old_column(
     entries: &[u8],
 ) -> Result<DecodedOldColumn, ReadFault>
     requires node { IsNode header.now entries.now }
-    ensures column { MatchResult result (λ decoded. IsOldColumnOf header.now entries.now (decoded_old_column decoded)) (IsRefusal (IsOldColumnOf header.now entries.now)) }
+    requires known { IsKnownUnit header.now.unit }
+    requires ended { IsSome header.now.bounds.end }
+    ensures column { MatchResult result (λ decoded. IsOldColumnFrom header.now entries.now (decoded_old_column decoded)) (IsRefusal (IsOldColumnFrom header.now entries.now)) }
 {
     if !is_of_kind(header, 2, 1) {
         return Err(ReadFault::NotANode);
@@ -71,9 +86,16 @@ fn read_old_column(
     if header.count == 0 {
         return Err(ReadFault::NotANode);
     }
-    let bounds = header.bounds;
-    match parts_in(alloc, entries, header.count, bounds.start, bounds.end) {
-        Ok(parts) => Ok(DecodedOldColumn { bounds, parts }),
+    let k = moments_of(header.unit);
+    let Some(bounds) = bounds_in_moments(&header.bounds, k) else {
+        return Err(ReadFault::NotANode);
+    };
+    let (start, end) = (header.bounds.start, header.bounds.end);
+    match parts_in(alloc, entries, header.count, start, end) {
+        Ok(mut parts) => {
+            scale_parts(&mut parts, k);
+            Ok(DecodedOldColumn { bounds, parts })
+        }
         Err(fault) => Err(fault),
     }
 }
@@ -86,6 +108,9 @@ pub fn column_of_page(alloc: Global, page: &Page) -> Result<DecodedColumn, ReadF
     let Some((header, entries)) = node_of_page(page) else {
         return Err(ReadFault::NotANode);
     };
+    if !is_known(header.unit) {
+        return Err(ReadFault::NotANode);
+    }
     column_in(alloc, &header, entries)
 }
 
@@ -97,5 +122,8 @@ pub fn column_of_block(alloc: Global, block: &Block) -> Result<DecodedOldColumn,
     let Some((header, entries)) = node_of_block(block) else {
         return Err(ReadFault::NotANode);
     };
+    if !is_known(header.unit) {
+        return Err(ReadFault::NotANode);
+    }
     read_old_column(alloc, &header, entries)
 }

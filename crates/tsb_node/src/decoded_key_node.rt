@@ -10,6 +10,7 @@ ghost use Rattle.tsb_node.specs.inner.ChildReading.{IsKeyNodeOf};
 use crate::header::Header;
 use crate::key_node_reading::children_in;
 use crate::leaf_part::ReadFault;
+use crate::moments::is_known;
 use crate::node_reading::node_of_page;
 use disk_models::Page;
 use std::alloc::Global;
@@ -60,5 +61,8 @@ pub fn key_node_of_page(alloc: Global, page: &Page) -> Result<DecodedKeyNode, Re
     let Some((header, entries)) = node_of_page(page) else {
         return Err(ReadFault::NotANode);
     };
+    if !is_known(header.unit) {
+        return Err(ReadFault::NotANode);
+    }
     key_node_in(alloc, &header, entries)
 }

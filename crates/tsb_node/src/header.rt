@@ -8,11 +8,12 @@ use crate::numbers::{key_at, number2, stamp_at};
 use route_model::Key;
 use version_model::{Bounds, Stamp};
 
-/// What the header of a node represents: its kind (1 a leaf, 2 a column, 3 a key node), its level, how many entries it has
-/// and in how many octets, and its bounds.
+/// What the header of a node represents: its kind (1 a leaf, 2 a column, 3 a key node), the number of the unit of its times, its level,
+/// how many entries it has and in how many octets, and its bounds, in that unit.
 #[derive(Clone, Copy, Debug)]
 pub struct Header {
     pub kind: u8,
+    pub unit: u8,
     pub level: u8,
     pub count: u16,
     pub used: u16,
@@ -101,9 +102,6 @@ pub fn read_header(octets: &[u8]) -> Option<Header>
     ensures found { IfSome result (λ h. HasHeader h octets.now) }
     ensures none { IfNone result ((h : Header) → HasHeader h octets.now → ⊥) }
 {
-    if octets[1] != 0 {
-        return None;
-    }
     if octets[3] != 0 {
         return None;
     }
@@ -121,6 +119,7 @@ pub fn read_header(octets: &[u8]) -> Option<Header>
     }
     Some(Header {
         kind: octets[0],
+        unit: octets[1],
         level: octets[2],
         count: number2(octets, 4),
         used: number2(octets, 6),

@@ -10,11 +10,9 @@ ghost use Rattle.version_model.specs.Sizes.{octets};
 ghost use Rattle.version_model.specs.LeafVersions.{IsBelow, IsFromKey};
 ghost use Rattle.version_model.specs.Blocks.{BlockNode, AreParts, IsPartOf};
 ghost use Rattle.version_model.specs.Pages.{PageNode, AreChildren, IsChildOf, past_range};
-ghost use Rattle.tsb_node.specs.declared.header.Header.{Header};
 ghost use Rattle.tsb_node.specs.declared.key_node.Under.{Under};
 ghost use Rattle.tsb_node.specs.declared.column.PartAt.{PartAt};
 ghost use Rattle.tsb_node.specs.declared.column.Spot.TheVariants.{InBlock};
-ghost use Rattle.tsb_node.specs.Headers.{HasHeader, IsHeaderOf};
 ghost use Rattle.tsb_node.specs.Leaves.{LeafNode, IsLeaf, IsLeafBlock, BeginsAsLeaf, entries};
 ghost use Rattle.tsb_node.specs.Columns.{ColumnInPage, ColumnInBlock, IsColumn, IsOldColumn, IsColumnBlock};
 ghost use Rattle.tsb_node.specs.KeyNodes.{KeyNodeInPage, IsKeyNode};
@@ -30,18 +28,6 @@ pub fn nodes_are_one()
     ensures key_nodes { (a b : KeyNodeInPage) (octets : List ℕ) → BeginsAsKeyNode a octets → BeginsAsKeyNode b octets → a ≡ b }
     ensures pages { (a b : PageNode) (octets : List ℕ) → PageRepresents octets a → PageRepresents octets b → a ≡ b }
     ensures blocks { (a b : BlockNode) (octets : List ℕ) → BlockRepresents octets a → BlockRepresents octets b → a ≡ b }
-{}
-
-/// The header with which the octets of a node begin is the node's.
-pub fn headers_are_of_their_nodes()
-    ensures leaf { (leaf : LeafNode) (header : Header) (octets : List ℕ) → BeginsAsLeaf leaf octets → HasHeader header octets
-        → IsHeaderOf 1 0 (length leaf.versions) leaf.bounds header }
-    ensures column { (column : ColumnInPage) (header : Header) (octets : List ℕ) → BeginsAsColumn column octets → HasHeader header octets
-        → IsHeaderOf 2 1 (length column.parts + 1) column.bounds header }
-    ensures old_column { (column : ColumnInBlock) (header : Header) (octets : List ℕ) → BeginsAsOldColumn column octets → HasHeader header octets
-        → IsHeaderOf 2 1 (length column.parts) column.bounds header }
-    ensures key_node { (node : KeyNodeInPage) (header : Header) (octets : List ℕ) → BeginsAsKeyNode node octets → HasHeader header octets
-        → IsHeaderOf 3 node.level (length node.children) node.bounds header }
 {}
 
 /// Octets are the block of a node exactly if they begin as it does, the node has an end, and they end in their digest.

@@ -6,15 +6,18 @@ ghost use Rattle.tsb_node.specs.Children.{IsKeyWithin};
 ghost use Rattle.version_model.specs.Versions.{IsAbove};
 ghost use Rattle.tsb_node.specs.Pushing.{version, PushedTo, StaysUnlessPushed};
 ghost use Rattle.std.specs.Prelude.{◌≡◌, ◌≤◌, ◌+◌, length, option_map, IfSome, IfNone, IfOk, IfErr};
-ghost use Rattle.tsb_node.specs.Leaves.{LeafNode, BeginsAsLeaf, IsLeafPage, value_encoded};
+ghost use Rattle.tsb_node.specs.Leaves.{LeafNode, BeginsAsLeaf, BeginsAsWrittenLeaf, IsLeafPage, value_encoded};
+ghost use Rattle.tsb_node.specs.inner.Fresh.{IsFreshLeafPage};
 ghost use Rattle.tsb_node.specs.Finding.{Finds};
 ghost use Rattle.std.specs.Result.{MatchResult};
 ghost use Rattle.tsb_node.specs.inner.Scanning.{IsLast, IsBroken, IsWholeVersion};
 ghost use Rattle.tsb_node.specs.inner.Reading.{value_size, version_in, versions_in};
 
+use crate::leaf_splitting::copy_whole;
+use crate::moments::{floor_stamp, is_now, moments_of, stamp_in_moments};
 use crate::numbers::{key_at, key_fits, number2, stamp_at, stamp_fits};
 use crate::writing::{bounds_fit, octets_in, put_entry, put_header, two_octets};
-use disk_models::Page;
+use disk_models::{PAGE_SIZE, Page, Sheet};
 use route_model::Key;
 use std::marker::Model;
 use version_model::{Bounds, Stamp};
@@ -125,6 +128,23 @@ fn found_at<'a>(bytes: &'a [u8]) -> FoundVersion<'a>
     }
 }
 
+/// What the leaf that begins these octets has for a key at a stamp, all stamps in the leaf's unit.
+pub fn find_written<'a>(
+    octets: &'a [u8],
+    key: Key,
+    stamp: Stamp,
+) -> Result<Option<FoundVersion<'a>>, NotANode>
+    requires size { length octets.now ≡ 16384 }
+    ensures found { (leaf : LeafNode) → BeginsAsWrittenLeaf leaf octets.now → MatchResult result (Finds leaf.versions key stamp) (λ e. ⊥) }
+{
+    let count = number2(octets, 4);
+    let area = octets.split_at(LAST).0.split_at(FIRST).1;
+    match last_of(area, count, key, stamp)? {
+        Some(rest) => Ok(Some(found_at(rest.as_slice()))),
+        None => Ok(None),
+    }
+}
+
 /// What the leaf that begins these octets, a page's or a block's, has for a key at a stamp.
 /// Fails only if they aren't a leaf, but not in every such case.
 pub fn find<'a>(
@@ -135,22 +155,28 @@ pub fn find<'a>(
     requires size { length octets.now ≡ 16384 }
     ensures found { (leaf : LeafNode) → BeginsAsLeaf leaf octets.now → MatchResult result (Finds leaf.versions key stamp) (λ e. ⊥) }
 {
-    let count = number2(octets, 4);
-    let area = octets.split_at(LAST).0.split_at(FIRST).1;
-    match last_of(area, count, key, stamp)? {
-        Some(rest) => Ok(Some(found_at(rest.as_slice()))),
-        None => Ok(None),
-    }
+    let k = moments_of(octets[1]);
+    let Some(found) = find_written(octets, key, floor_stamp(stamp, k))? else {
+        return Ok(None);
+    };
+    Ok(Some(FoundVersion {
+        stamp: stamp_in_moments(found.stamp, k),
+        value: found.value,
+    }))
 }
 
 /// How many octets the entries of a leaf may fill.
 pub const ROOM: usize = 16_232;
 
-/// Appends a version of a key of the leaf in this page, later than all of its versions, if there is room for it, and returns whether
-/// there was. Fails only if the page isn't a leaf, but not in every such case. If nothing was written the page is as it was.
-pub fn push(page: &mut Page, key: Key, stamp: Stamp, value: Option<&[u8]>) -> Result<bool, NotANode>
+/// Appends a version as [`push`] does, to a leaf in the unit in which nodes are written.
+fn push_written(
+    page: &mut Page,
+    key: Key,
+    stamp: Stamp,
+    value: Option<&[u8]>,
+) -> Result<bool, NotANode>
     requires short { length (value_encoded (option_map (λ x. x.now) value)) ≤ 3072 }
-    ensures pushed { (leaf : LeafNode) → IsLeafPage leaf page.old → IsKeyWithin leaf.bounds key → IsAbove leaf.versions stamp
+    ensures pushed { (leaf : LeafNode) → IsFreshLeafPage leaf page.old → IsKeyWithin leaf.bounds key → IsAbove leaf.versions stamp
         → PushedTo leaf (version key stamp (option_map (λ x. x.now) value.entry)) page.new result }
     ensures stays { StaysUnlessPushed page.old page.new result }
 {
@@ -171,13 +197,90 @@ pub fn push(page: &mut Page, key: Key, stamp: Stamp, value: Option<&[u8]>) -> Re
     Ok(true)
 }
 
+// Appends a version as `push` does, to a leaf whose octets these are, of another unit: the page is written anew in this one.
+fn push_anew(
+    page: &mut Page,
+    octets: &[u8],
+    key: Key,
+    stamp: Stamp,
+    value: Option<&[u8]>,
+) -> Result<bool, NotANode>
+    requires size { length octets.now ≡ 16384 }
+    requires short { length (value_encoded (option_map (λ x. x.now) value)) ≤ 3072 }
+    ensures pushed { (leaf : LeafNode) → BeginsAsLeaf leaf octets.now → leaf.bounds.end ≡ None → IsKeyWithin leaf.bounds key → IsAbove leaf.versions stamp
+        → PushedTo leaf (version key stamp (option_map (λ x. x.now) value.entry)) page.new result }
+{
+    copy_whole(octets, page)?;
+    push_written(page, key, stamp, value)
+}
+
+// Writes all octets of a page.
+fn put_back(page: &mut Page, octets: &[u8])
+    requires size { length octets.now ≡ 16384 }
+    ensures { page.new ≡ octets.now }
+{
+    let _old = page.octets();
+    page.put(0, octets);
+}
+
+// Appends a version as `push` does, to a leaf of another unit.
+fn push_other(
+    page: &mut Page,
+    key: Key,
+    stamp: Stamp,
+    value: Option<&[u8]>,
+) -> Result<bool, NotANode>
+    requires short { length (value_encoded (option_map (λ x. x.now) value)) ≤ 3072 }
+    ensures pushed { (leaf : LeafNode) → IsLeafPage leaf page.old → IsKeyWithin leaf.bounds key → IsAbove leaf.versions stamp
+        → PushedTo leaf (version key stamp (option_map (λ x. x.now) value.entry)) page.new result }
+    ensures stays { StaysUnlessPushed page.old page.new result }
+{
+    let mut octets = [0u8; PAGE_SIZE];
+    octets.copy_from_slice(page.octets());
+    match push_anew(page, &octets, key, stamp, value) {
+        Ok(true) => Ok(true),
+        Ok(false) => {
+            put_back(page, &octets);
+            Ok(false)
+        }
+        Err(NotANode) => {
+            put_back(page, &octets);
+            Err(NotANode)
+        }
+    }
+}
+
+/// Appends a version of a key of the leaf in this page, later than all of its versions, if there is room for it, and returns whether
+/// there was. Fails only if the page isn't a leaf, but not in every such case. If nothing was written the page is as it was. A leaf of
+/// another unit is written anew in the one in which nodes are written.
+pub fn push(page: &mut Page, key: Key, stamp: Stamp, value: Option<&[u8]>) -> Result<bool, NotANode>
+    requires short { length (value_encoded (option_map (λ x. x.now) value)) ≤ 3072 }
+    ensures pushed { (leaf : LeafNode) → IsLeafPage leaf page.old → IsKeyWithin leaf.bounds key → IsAbove leaf.versions stamp
+        → PushedTo leaf (version key stamp (option_map (λ x. x.now) value.entry)) page.new result }
+    ensures stays { StaysUnlessPushed page.old page.new result }
+{
+    if is_now(page.octets()[1]) {
+        return push_written(page, key, stamp, value);
+    }
+    push_other(page, key, stamp, value)
+}
+
+/// Writes a leaf without versions over a page, or over a block that gets its end later.
+pub fn start<K>(sheet: &mut Sheet<K>, bounds: &Bounds)
+    requires valid { AreInOrder bounds.now }
+    requires current { bounds.now.end ≡ None }
+    ensures { IsFreshLeafPage (record { bounds = bounds.now; versions = [] }) sheet.new }
+{
+    bounds_fit(bounds);
+    sheet.clear();
+    put_header(sheet, 1, 0, 0, 0, bounds);
+}
+
 /// Writes a leaf without versions over a page.
 pub fn start_leaf(page: &mut Page, bounds: &Bounds)
     requires valid { AreInOrder bounds.now }
     requires current { bounds.now.end ≡ None }
     ensures { IsLeafPage (record { bounds = bounds.now; versions = [] }) page.new }
 {
-    bounds_fit(bounds);
-    page.clear();
-    put_header(page, 1, 0, 0, 0, bounds);
+    start(page, bounds);
 }

@@ -1,14 +1,16 @@
 //! The entries of a leaf, owned.
 
-ghost use Rattle.std.specs.Prelude.{◌≡◌, ◌↔◌, ◌++◌, ◌∷◌, ◌+◌, [], length, IfOk, OnOk, IsTrue, Err};
+ghost use Rattle.std.specs.Prelude.{◌≡◌, ◌<◌, ◌↔◌, ◌++◌, ◌∷◌, ◌+◌, ◌^◌, [], length, IfOk, OnOk, IsTrue, Err};
 ghost use Rattle.version_model.specs.Entries.{version_of, versions_of};
 ghost use Rattle.tsb_node.specs.Leaves.{LeafNode, BeginsAsLeaf};
+ghost use Rattle.tsb_node.specs.Scaling.{scaled, scaled_version};
 ghost use Rattle.tsb_node.specs.Holding.{BeginsWithEntries, HasItsEntries};
 ghost use Rattle.tsb_node.specs.inner.Reading.{value_size, version_in};
 ghost use Rattle.tsb_node.specs.inner.Scanning.{IsWholeVersion};
 
 use crate::leaf::{FIRST, LAST, entry_size};
 use crate::leaf_part::ReadFault;
+use crate::moments::{moments_of, stamp_in_moments};
 use crate::numbers::{key_at, number2, stamp_at};
 use std::alloc::{AllocError, Global};
 use version_model::Entry;
@@ -35,10 +37,10 @@ pub fn whole_size(bytes: &[u8]) -> usize
     59 + number2(bytes, 57) as usize
 }
 
-/// What the entry at the front represents.
-pub fn entry_of(alloc: Global, bytes: &[u8]) -> Result<Entry, AllocError>
+/// What the entry at the front represents, of a node whose times are k moments each.
+pub fn entry_of(alloc: Global, bytes: &[u8], k: u64) -> Result<Entry, AllocError>
     requires { IsWholeVersion bytes.now }
-    ensures { IfOk result (λ entry. version_of entry ≡ version_in bytes.now) }
+    ensures { scaled k (version_in bytes.now).stamp < 256 ^ 16 → IfOk result (λ entry. version_of entry ≡ scaled_version k (version_in bytes.now)) }
 {
     let size = number2(bytes, 57) as usize;
     let value = if bytes[56] == 0 {
@@ -48,7 +50,7 @@ pub fn entry_of(alloc: Global, bytes: &[u8]) -> Result<Entry, AllocError>
     };
     Ok(Entry {
         key: key_at(bytes, 0),
-        stamp: stamp_at(bytes, 40),
+        stamp: stamp_in_moments(stamp_at(bytes, 40), k),
         value,
     })
 }
@@ -70,6 +72,7 @@ pub fn entries_in(alloc: Global, octets: &[u8]) -> Result<Vec<Entry>, ReadFault>
     ensures not_a_node { result ≡ Err ReadFault.NotANode ↔ (HasItsEntries octets.now → ⊥) }
     ensures memory { result ≡ Err ReadFault.Memory → HasItsEntries octets.now }
 {
+    let k = moments_of(octets[1]);
     let count = number2(octets, 4);
     let area = octets.split_at(LAST).0.split_at(FIRST).1;
     if !begins_with_entries(area, count) {
@@ -78,7 +81,7 @@ pub fn entries_in(alloc: Global, octets: &[u8]) -> Result<Vec<Entry>, ReadFault>
     let mut rest = area;
     let mut kept = Vec::new(alloc);
     for _ in 0..count {
-        keep(&mut kept, entry_of(alloc, rest)?)?;
+        keep(&mut kept, entry_of(alloc, rest, k)?)?;
         rest = rest.split_at(whole_size(rest)).1;
     }
     Ok(kept)

@@ -2,7 +2,7 @@
 
 ghost use Rattle.std.specs.Prelude.{◌≡◌, ◌≤◌, ◌↔◌, length, IfOk, IfSome, IsTrue};
 ghost use Rattle.version_model.specs.inner.Lower.{IsLower};
-ghost use Rattle.tsb_node.specs.Leaves.{LeafNode, BeginsAsLeaf};
+ghost use Rattle.tsb_node.specs.Leaves.{LeafNode, BeginsAsLeaf, BeginsAsWrittenLeaf};
 ghost use Rattle.tsb_node.specs.inner.Fields.{number_in};
 ghost use Rattle.tsb_node.specs.inner.Scanning.{IsWholeVersion};
 ghost use Rattle.tsb_node.specs.inner.Nexts.{IsLeastOf, ReportsLive};
@@ -10,7 +10,8 @@ ghost use Rattle.version_model.specs.Looks.{IsLeastLive};
 ghost use Rattle.std.specs.Result.{MatchResult};
 
 use crate::header::{is_key_below, is_stamp_below};
-use crate::leaf::{FIRST, LAST, NotANode, entry_size, find};
+use crate::leaf::{FIRST, LAST, NotANode, entry_size, find_written};
+use crate::moments::{floor_stamp, moments_of};
 use crate::numbers::{key_at, number2, stamp_at};
 use route_model::Key;
 use version_model::Stamp;
@@ -18,9 +19,9 @@ use version_model::Stamp;
 // Whether the key has a value as of the stamp.
 fn is_live(octets: &[u8], key: Key, stamp: Stamp) -> Result<bool, NotANode>
     requires size { length octets.now ≡ 16384 }
-    ensures live { (leaf : LeafNode) → BeginsAsLeaf leaf octets.now → MatchResult result (ReportsLive leaf.versions key stamp) (λ e. ⊥) }
+    ensures live { (leaf : LeafNode) → BeginsAsWrittenLeaf leaf octets.now → MatchResult result (ReportsLive leaf.versions key stamp) (λ e. ⊥) }
 {
-    match find(octets, key, stamp) {
+    match find_written(octets, key, stamp) {
         Ok(Some(found)) => Ok(found.value.is_some()),
         Ok(None) => Ok(false),
         Err(NotANode) => Err(NotANode),
@@ -51,7 +52,7 @@ fn is_candidate(bytes: &[u8], from: Key, stamp: Stamp, best: &Option<Key>) -> bo
 // The least key from `from` on of which the leaf that begins these octets has a version, or an end, that isn't after the stamp.
 fn least_key(octets: &[u8], from: Key, stamp: Stamp) -> Result<Option<Key>, NotANode>
     requires size { length octets.now ≡ 16384 }
-    ensures least { (leaf : LeafNode) → BeginsAsLeaf leaf octets.now → MatchResult result (IsLeastOf leaf.versions stamp from) (λ e. ⊥) }
+    ensures least { (leaf : LeafNode) → BeginsAsWrittenLeaf leaf octets.now → MatchResult result (IsLeastOf leaf.versions stamp from) (λ e. ⊥) }
     ensures onward { IfOk result (λ least. IfSome least (λ key. from ≤ key)) }
 {
     let count = number2(octets, 4);
@@ -69,12 +70,10 @@ fn least_key(octets: &[u8], from: Key, stamp: Stamp) -> Result<Option<Key>, NotA
     Ok(best)
 }
 
-/// The least key from `from` on, itself included, that has a value as of the stamp, of the leaf that begins these octets.
-/// Fails only if they aren't a leaf, but not in every such case. The entries are scanned twice for the key that is found, and twice
-/// more for each key before it that has ended.
-pub fn next(octets: &[u8], from: Key, stamp: Stamp) -> Result<Option<Key>, NotANode>
+// The key that `next` returns, the stamp in the leaf's unit.
+fn next_written(octets: &[u8], from: Key, stamp: Stamp) -> Result<Option<Key>, NotANode>
     requires size { length octets.now ≡ 16384 }
-    ensures next { (leaf : LeafNode) → BeginsAsLeaf leaf octets.now → MatchResult result (IsLeastLive leaf.versions stamp from) (λ e. ⊥) }
+    ensures next { (leaf : LeafNode) → BeginsAsWrittenLeaf leaf octets.now → MatchResult result (IsLeastLive leaf.versions stamp from) (λ e. ⊥) }
 {
     let mut from = from;
     loop {
@@ -95,4 +94,15 @@ pub fn next(octets: &[u8], from: Key, stamp: Stamp) -> Result<Option<Key>, NotAN
         };
         from = beyond;
     }
+}
+
+/// The least key from `from` on, itself included, that has a value as of the stamp, of the leaf that begins these octets.
+/// Fails only if they aren't a leaf, but not in every such case. The entries are scanned twice for the key that is found, and twice
+/// more for each key before it that has ended.
+pub fn next(octets: &[u8], from: Key, stamp: Stamp) -> Result<Option<Key>, NotANode>
+    requires size { length octets.now ≡ 16384 }
+    ensures next { (leaf : LeafNode) → BeginsAsLeaf leaf octets.now → MatchResult result (IsLeastLive leaf.versions stamp from) (λ e. ⊥) }
+{
+    let k = moments_of(octets[1]);
+    next_written(octets, from, floor_stamp(stamp, k))
 }

@@ -1,10 +1,11 @@
 //! The versions of one key of a leaf.
 
-ghost use Rattle.std.specs.Prelude.{◌≡◌, ◌↔◌, length, filter, IfOk, IsTrue, Err, ◌≤◌, ◌<◌};
+ghost use Rattle.std.specs.Prelude.{◌≡◌, ◌↔◌, length, filter, IfOk, IsTrue, Err, ◌≤◌, ◌<◌, ◌^◌};
 ghost use Rattle.version_model.specs.Ranges.{end_or};
 ghost use Rattle.version_model.specs.Looks.{is_of};
 ghost use Rattle.version_model.specs.Entries.{versions_of};
 ghost use Rattle.tsb_node.specs.Leaves.{LeafNode, BeginsAsLeaf};
+ghost use Rattle.tsb_node.specs.Scaling.{scaled};
 ghost use Rattle.tsb_node.specs.Holding.{HasItsEntries};
 ghost use Rattle.tsb_node.specs.inner.Fields.{number_in};
 ghost use Rattle.tsb_node.specs.inner.Scanning.{IsWholeVersion};
@@ -12,6 +13,7 @@ ghost use Rattle.tsb_node.specs.inner.Scanning.{IsWholeVersion};
 use crate::header::{is_same_key, is_stamp_below};
 use crate::leaf::{FIRST, LAST};
 use crate::leaf_entries::{begins_with_entries, entry_of, keep, whole_size};
+use crate::moments::{moments_of, stamp_in_moments};
 use crate::numbers::{key_at, number2, stamp_at};
 use route_model::Key;
 use std::alloc::{AllocError, Global};
@@ -37,15 +39,16 @@ impl From<AllocError> for ReadFault {
     }
 }
 
-// Whether the entry at the front is of the key, from a stamp on and before the end.
-fn is_entry_of(bytes: &[u8], key: Key, from: Stamp, end: Option<Stamp>) -> bool
+// Whether the entry at the front is of the key, from a stamp on and before the end, of a node whose times are k moments each.
+fn is_entry_of(bytes: &[u8], key: Key, from: Stamp, end: Option<Stamp>, k: u64) -> bool
     requires { IsWholeVersion bytes.now }
-    ensures { IsTrue result ↔ ((number_in 40 0 bytes.now ≡ key) × (from ≤ number_in 16 40 bytes.now) × (number_in 16 40 bytes.now < end_or end)) }
+    ensures { scaled k (number_in 16 40 bytes.now) < 256 ^ 16
+        → IsTrue result ↔ ((number_in 40 0 bytes.now ≡ key) × (from ≤ scaled k (number_in 16 40 bytes.now)) × (scaled k (number_in 16 40 bytes.now) < end_or end)) }
 {
     if !is_same_key(key_at(bytes, 0), key) {
         return false;
     }
-    let stamp = stamp_at(bytes, 40);
+    let stamp = stamp_in_moments(stamp_at(bytes, 40), k);
     if is_stamp_below(stamp, from) {
         return false;
     }
@@ -71,6 +74,7 @@ pub fn part(
     ensures not_a_node { result ≡ Err ReadFault.NotANode ↔ (HasItsEntries octets.now → ⊥) }
     ensures memory { result ≡ Err ReadFault.Memory → HasItsEntries octets.now }
 {
+    let k = moments_of(octets[1]);
     let count = number2(octets, 4);
     let area = octets.split_at(LAST).0.split_at(FIRST).1;
     if !begins_with_entries(area, count) {
@@ -79,8 +83,8 @@ pub fn part(
     let mut rest = area;
     let mut kept = Vec::new(alloc);
     for _ in 0..count {
-        if is_entry_of(rest, key, from, end) {
-            keep(&mut kept, entry_of(alloc, rest)?)?;
+        if is_entry_of(rest, key, from, end, k) {
+            keep(&mut kept, entry_of(alloc, rest, k)?)?;
         }
         rest = rest.split_at(whole_size(rest)).1;
     }

@@ -1,15 +1,21 @@
 //! Reads pages as leaves, exactly if they are leaves.
 
-ghost use Rattle.std.specs.Prelude.{List, ℕ, ◌≡◌, ◌≤◌, ◌<◌, ◌+◌, ◌↔◌, length, take, drop, All, IfSome, IfNone, IsTrue, None};
+ghost use Rattle.std.specs.Prelude.{List, ℕ, ◌≡◌, ◌≤◌, ◌<◌, ◌+◌, ◌↔◌, length, slice_index, take, drop, All, IfSome, IfNone, IsTrue, MatchOption, None};
 ghost use Rattle.tsb_node.specs.inner.Reading.{value_size};
-ghost use Rattle.tsb_node.specs.Leaves.{LeafNode, BeginsAsLeaf, IsLeafPage, IsLeafBlock};
+ghost use Rattle.std.specs.List.{AllByRecursion};
+ghost use Rattle.route_model.specs.Units.{moments_in};
+ghost use Rattle.tsb_node.specs.Nodes.{IsBounds};
+ghost use Rattle.tsb_node.specs.Scaling.{scaled_bounds, IsKnownUnit};
+ghost use Rattle.tsb_node.specs.Leaves.{LeafNode, IsLeaf, BeginsAsLeaf, BeginsAsWrittenLeaf, IsLeafPage, IsLeafBlock, IsWrittenLeafPage, IsWrittenLeafBlock, scaled_leaf};
+ghost use Rattle.tsb_node.specs.inner.Fresh.{StampFits};
 ghost use Rattle.tsb_node.specs.inner.Checking.{IsEncoded, AreEntries, IsAfter, IsLeafOf};
 ghost use Rattle.tsb_node.specs.inner.NodeReading.{IsNode};
 
 use crate::header::{Header, is_below_high, is_key_below, is_of_kind, is_stamp_below};
-use crate::leaf::entry_size;
+use crate::leaf::{FIRST, LAST, entry_size};
+use crate::moments::{bounds_in_moments, fits, is_known, moments_of};
 use crate::node_reading::{node_of_block, node_of_page};
-use crate::numbers::{key_at, stamp_at};
+use crate::numbers::{key_at, number2, stamp_at};
 use disk_models::{Block, Page};
 use version_model::{Bounds, Stamp};
 
@@ -90,10 +96,10 @@ fn leaf_bounds(header: &Header, entries: &[u8]) -> Option<Bounds>
     Some(header.bounds)
 }
 
-/// The bounds of the leaf in a page, or none if the page is no leaf.
-pub fn read_leaf(page: &Page) -> Option<Bounds>
-    ensures found { IfSome result (λ bounds. (leaf : LeafNode) × IsLeafPage leaf page.now × (leaf.bounds ≡ bounds)) }
-    ensures none { IfNone result ((leaf : LeafNode) → IsLeafPage leaf page.now → ⊥) }
+// The bounds of the leaf in a page, in its unit, or none if the page is no leaf.
+fn written_leaf(page: &Page) -> Option<Bounds>
+    ensures found { IfSome result (λ bounds. (leaf : LeafNode) × IsWrittenLeafPage leaf page.now × (leaf.bounds ≡ bounds)) }
+    ensures none { IfNone result ((leaf : LeafNode) → IsWrittenLeafPage leaf page.now → ⊥) }
 {
     let Some((header, entries)) = node_of_page(page) else {
         return None;
@@ -101,15 +107,84 @@ pub fn read_leaf(page: &Page) -> Option<Bounds>
     leaf_bounds(&header, entries)
 }
 
-/// The bounds of the leaf in a block, or none if the block is no leaf.
-pub fn read_leaf_block(block: &Block) -> Option<Bounds>
-    ensures found { IfSome result (λ bounds. (leaf : LeafNode) × IsLeafBlock leaf block.now × (leaf.bounds ≡ bounds)) }
-    ensures none { IfNone result ((leaf : LeafNode) → IsLeafBlock leaf block.now → ⊥) }
+// The bounds of the leaf in a block, in its unit, or none if the block is no leaf.
+fn written_leaf_block(block: &Block) -> Option<Bounds>
+    ensures found { IfSome result (λ bounds. (leaf : LeafNode) × IsWrittenLeafBlock leaf block.now × (leaf.bounds ≡ bounds)) }
+    ensures none { IfNone result ((leaf : LeafNode) → IsWrittenLeafBlock leaf block.now → ⊥) }
 {
     let Some((header, entries)) = node_of_block(block) else {
         return None;
     };
     leaf_bounds(&header, entries)
+}
+
+// Whether the times of the leaf that begins these octets have eight octets once they are multiplied by k.
+fn times_fit(octets: &[u8], k: u64) -> bool
+    requires size { length octets.now ≡ 16384 }
+    ensures { (leaf : LeafNode) → BeginsAsWrittenLeaf leaf octets.now → IsTrue result ↔ AllByRecursion (StampFits k) leaf.versions }
+{
+    if k == 1 {
+        return true;
+    }
+    let count = number2(octets, 4);
+    let mut rest = octets.split_at(LAST).0.split_at(FIRST).1;
+    for _ in 0..count {
+        let Some(size) = entry_size(rest) else {
+            return false;
+        };
+        if !fits(stamp_at(rest, 40), k) {
+            return false;
+        }
+        rest = rest.split_at(size).1;
+    }
+    true
+}
+
+// The bounds of the leaf that begins these octets, in moments, if these are its bounds in its unit; none if its times don't fit.
+fn leaf_in_moments(octets: &[u8], bounds: &Bounds) -> Option<Bounds>
+    requires size { length octets.now ≡ 16384 }
+    requires valid { IsBounds bounds.now }
+    ensures leaf { (known : IsKnownUnit (slice_index octets.now 1)) (leaf : LeafNode) → BeginsAsWrittenLeaf leaf octets.now → leaf.bounds ≡ bounds.now
+        → MatchOption result (IsLeaf (scaled_leaf (moments_in known.unit) leaf) → ⊥) (λ b. (b ≡ scaled_bounds (moments_in known.unit) leaf.bounds) × IsLeaf (scaled_leaf (moments_in known.unit) leaf)) }
+{
+    let k = moments_of(octets[1]);
+    let Some(bounds) = bounds_in_moments(bounds, k) else {
+        return None;
+    };
+    if !times_fit(octets, k) {
+        return None;
+    }
+    Some(bounds)
+}
+
+/// The bounds of the leaf in a page, or none if the page is no leaf.
+pub fn read_leaf(page: &Page) -> Option<Bounds>
+    ensures found { IfSome result (λ bounds. (leaf : LeafNode) × IsLeafPage leaf page.now × (leaf.bounds ≡ bounds)) }
+    ensures none { IfNone result ((leaf : LeafNode) → IsLeafPage leaf page.now → ⊥) }
+{
+    let octets = page.octets();
+    if !is_known(octets[1]) {
+        return None;
+    }
+    let Some(bounds) = written_leaf(page) else {
+        return None;
+    };
+    leaf_in_moments(octets, &bounds)
+}
+
+/// The bounds of the leaf in a block, or none if the block is no leaf.
+pub fn read_leaf_block(block: &Block) -> Option<Bounds>
+    ensures found { IfSome result (λ bounds. (leaf : LeafNode) × IsLeafBlock leaf block.now × (leaf.bounds ≡ bounds)) }
+    ensures none { IfNone result ((leaf : LeafNode) → IsLeafBlock leaf block.now → ⊥) }
+{
+    let octets = block.octets();
+    if !is_known(octets[1]) {
+        return None;
+    }
+    let Some(bounds) = written_leaf_block(block) else {
+        return None;
+    };
+    leaf_in_moments(octets, &bounds)
 }
 
 /// Octets are the page, or the block, of one leaf at most.

@@ -12,6 +12,10 @@
 //! `part_for`, ..) and take no memory; `next` looks each candidate key up, and scans all entries for each only if keys fall as
 //! stamps rise (at most 275 entries, of 59 octets at least).
 //!
+//! A header names the unit of the node's times: nodes are written in one unit, and read of each, in moments (`moments`). A lookup in a
+//! node of another unit goes by the stamp in that unit, and what it finds is multiplied; a leaf of one that takes a version, or moves into a
+//! block, is first written anew.
+//!
 //! Readers check all octets before they allocate, so out of memory is reported of nodes alone, and no count reserves room. They
 //! refuse what the tree relies on not to be: low keys and starts that aren't below high keys and ends, stamps that don't rise
 //! strictly, keys outside the node's, an end with octets, columns and key nodes without entries or whose first entry isn't where the
@@ -39,6 +43,7 @@ mod leaf_reading;
 mod leaf_sealing;
 mod leaf_splitting;
 mod leaf_writing;
+mod moments;
 mod node_reading;
 mod numbers;
 mod writing;
@@ -48,13 +53,12 @@ pub use column_writing::{write_column, write_old_column};
 pub use decoded_column::{DecodedColumn, DecodedOldColumn, column_of_block, column_of_page};
 pub use decoded_key_node::{DecodedKeyNode, key_node_of_page};
 pub use decoded_leaf::{DecodedLeaf, leaf_of_block, leaf_of_page};
-pub use header::{Header, read_header};
 pub use heads::{KeyNodeHead, column_head, key_node_head, leaf_head};
 pub use key_node::{Under, child_for};
 pub use key_node_writing::write_key_node;
 pub use laws::{
-    blocks_begin_as_their_nodes, entries_have_their_octets, headers_are_of_their_nodes,
-    nodes_are_one, nodes_say_what_the_tree_asks, sides_are_key_splits,
+    blocks_begin_as_their_nodes, entries_have_their_octets, nodes_are_one,
+    nodes_say_what_the_tree_asks, sides_are_key_splits,
 };
 pub use leaf::{FoundVersion, NotANode, Value, find, push, start_leaf};
 pub use leaf_entries::entries_in;

@@ -6,12 +6,12 @@ ghost use Rattle.route_model.specs.Octets.{AreOctets};
 ghost use Rattle.tsb_node.specs.Leaves.{tag, value_encoded, entry};
 ghost use Rattle.tsb_node.specs.inner.Laying.{laid};
 ghost use Rattle.tsb_node.specs.Pushing.{version};
-ghost use Rattle.tsb_node.specs.Nodes.{header, seconds, IsBounds, AreInOrder};
+ghost use Rattle.tsb_node.specs.Nodes.{header, unit_now, IsBounds, AreInOrder};
 
 use crate::numbers::{key_fits, stamp_fits};
 use byteorder::{BigEndian, ByteOrder};
 use disk_models::{Page, Sheet};
-use route_model::Key;
+use route_model::{Key, Unit};
 use version_model::{Bounds, Stamp};
 
 /// A number in two octets.
@@ -138,10 +138,11 @@ pub fn put_header<K>(
     used: u16,
     bounds: &Bounds,
 )
-    ensures { page.new ≡ laid 0 (header kind seconds level count used bounds.now) page.old }
+    ensures { page.new ≡ laid 0 (header kind unit_now level count used bounds.now) page.old }
 {
     let _octets = page.octets();
-    page.put(0, &[kind, 0, level, 0]);
+    let unit = Unit::written().number();
+    page.put(0, &[kind, unit, level, 0]);
     page.put(4, &two_octets(count));
     page.put(6, &two_octets(used));
     page.put(8, &key_octets(bounds.low));

@@ -57,7 +57,7 @@ leaf_of place octets versions for =
     let decoded = leaf_decoded octets (OldLeaf for.wide versions) for.represents_node for.wide versions refl in
     record {
       leaf = decoded.leaf;
-      of = record { begins = leaf_begins decoded.leaf octets decoded.block; ended = decoded.block.block.ended; wider = subst (λ (r : Range). IsWider r (range_of place.bounds)) (sym decoded.range) for.wider };
+      of = record { begins = leaf_begins decoded.leaf octets decoded.block; ended = decoded.block.ended; wider = subst (λ (r : Range). IsWider r (range_of place.bounds)) (sym decoded.range) for.wider };
       same = decoded.same;
     }
 
@@ -83,7 +83,7 @@ pub record ColumnOf (place : Place) (octets : List ℕ) (parts : List Part) : Ty
 pub column_of : (place : Place) (octets : List ℕ) (parts : List Part) → IsColumnFor place octets parts → ColumnOf place octets parts
 column_of place octets parts for =
     let decoded = column_decoded octets (OldColumn for.wide parts) for.represents_node for.wide parts refl in
-    let end = some_is decoded.column.bounds.end decoded.block.block.ended in
+    let end = some_is decoded.column.bounds.end decoded.block.ended in
     record {
       column = decoded.column;
       end = end.0;

@@ -1,5 +1,5 @@
 -- Pages, and what they represent in the words of the tree.
-use Rattle.std.proofs.Common.{◌≡◌, ℕ, List, replicate}
+use Rattle.std.proofs.Common.{◌≡◌, ℕ, List}
 use Rattle.version_model.specs.Ranges.{high_or}
 use Rattle.version_model.specs.Blocks.{IsPartOf}
 use Rattle.version_model.specs.Pages.{PageNode, IsChildOf, past_range}
@@ -12,8 +12,7 @@ use Rattle.tsb_node.specs.KeyNodes.{KeyNodeInPage, IsKeyNodePage}
 use Rattle.tsb_node.specs.Children.{BeginsAsKeyNode, IsUnder}
 use Rattle.tsb_node.specs.Parts.{BeginsAsColumn, IsSpot}
 use Rattle.tsb_node.specs.Views.{PageRepresents, keys_between}
-use Rattle.tsb_node.proofs.Leaves.{begins_page}
-use Rattle.tsb_node.proofs.OneNode.{page_one}
+use Rattle.tsb_node.proofs.OneNode.{page_one, leaf_page, column_page, key_page}
 use Rattle.tsb_node.proofs.ViewLaws.{child_is_of, spot_part}
 
 -- a page represents one thing at most
@@ -21,13 +20,13 @@ pub one_decoded : (octets : List ℕ) (a b : PageNode) → PageRepresents octets
 one_decoded octets a b p q = page_one octets a b p q
 
 pub leaf_begins : (leaf : LeafNode) (octets : List ℕ) → IsLeafPage leaf octets → BeginsAsLeaf leaf octets
-leaf_begins leaf octets is = begins_page leaf octets is
+leaf_begins leaf octets is = leaf_page leaf octets is
 
 pub column_begins : (column : ColumnInPage) (octets : List ℕ) → IsColumnPage column octets → BeginsAsColumn column octets
-column_begins column octets is = record { valid = is.valid; last = replicate 32 0; encoded = is.page.encoded }
+column_begins column octets is = column_page column octets is
 
 pub key_node_begins : (node : KeyNodeInPage) (octets : List ℕ) → IsKeyNodePage node octets → BeginsAsKeyNode node octets
-key_node_begins node octets is = record { valid = is.valid; last = replicate 32 0; encoded = is.page.encoded }
+key_node_begins node octets is = key_page node octets is
 
 -- the child under which a key lies is one of the key node's, of its own keys
 pub child_under : (node : KeyNodeInPage) (key : ℕ) (under : Under) → IsUnder node key under

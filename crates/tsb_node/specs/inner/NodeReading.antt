@@ -12,7 +12,7 @@ pub record IsNode (h : Header) (entries : List ℕ) : Type 0 where
 
 -- a node but for its last 32 octets
 abbrev pub node_body : Header → List ℕ → List ℕ
-node_body h entries = body h.kind h.level h.count h.bounds entries
+node_body h entries = body h.unit h.kind h.level h.count h.bounds entries
 
 -- the octets begin as a page or a block of the node does
 pub record BeginsAsNode (h : Header) (entries octets : List ℕ) : Type 0 where

@@ -1,8 +1,10 @@
-use Rattle.std.proofs.Common.{arith, sym, subst}
+use Rattle.std.proofs.Common.{◌≡◌, arith, sym, subst}
 use Rattle.std.proofs.lemmas.List.Elements.{All-from_recursion, recursion_from_All}
-use Rattle.tsb_node.specs.Decoded.{decoded_old_column}
+use Rattle.tsb_node.specs.declared.leaf_part.ReadFault.TheVariants.{NotANode}
+use Rattle.tsb_node.specs.Columns.{ColumnInBlock, IsColumnBlock}
+use Rattle.tsb_node.specs.Decoded.{IsRefusal, decoded_old_column}
 use Rattle.tsb_check.specs.Counted.{AreLower}
-use Rattle.tsb_check.proofs.Reporting.{column_reported, column_sound}
+use Rattle.tsb_check.proofs.Reporting.{some_column, column_reported, column_sound}
 use Rattle.tsb_check.proofs.block.parts_reported.Goals as goal
 
 pub returns-then-not-is_wider-clause-sound : goal.returns-then-not-is_wider-clause-sound
@@ -27,3 +29,9 @@ returns-clause-lower c = (
   subst (AreLower c.args.place.now.part.block) c.deref.ensures.value (recursion_from_All _ c.deref.result.now (c.are_lower.ensures.0 (cc c.if-not-are_lower.false))),
   omega (arith, c.in-Ok.ensures.column.valid.follow.fits),
 )
+
+pub returns-in-Err-clause-sound : goal.returns-in-Err-clause-sound
+returns-in-Err-clause-sound c = λ sound e.
+    let some = some_column c.args.place.now c.args.block.now c.requires.kind sound in
+    let same : c.in-Err.fault ≡ NotANode = cc in
+    subst (IsRefusal (λ (column : ColumnInBlock). IsColumnBlock column c.args.block.now)) same c.in-Err.ensures.column some.0 some.1

@@ -1,49 +1,40 @@
-use Rattle.std.proofs.Common.{arith, ◌≡◌, ◌∙◌, ◌+◌, ℕ, List, drop, ap, sym, subst}
-use Rattle.version_model.specs.declared.part.Part.{Part}
-use Rattle.tsb_node.specs.inner.Fields.{number_in}
-use Rattle.tsb_node.specs.inner.PartReading.{IsPlaceBefore}
+use Rattle.std.proofs.Common.{◌∙◌, ◌≤◌, ◌<◌, ◌^◌, ℕ, ap, sym, subst}
+use Rattle.tsb_node.specs.Scaling.{scaled}
+use Rattle.tsb_node.specs.Columns.{ColumnInBlock, IsOldColumn, scaled_old_column}
 use Rattle.tsb_node.specs.Parts.{IsPartAt}
-use Rattle.tsb_node.specs.inner.Reading.{area}
-use Rattle.tsb_node.proofs.ColumnLaws.{ok_is, old_count, old_there, old_last, old_next}
+use Rattle.tsb_node.specs.inner.Spots.{scaled_part_at}
+use Rattle.tsb_node.proofs.MomentLaws.{known_at, as_scaled, part_up, part_fits}
+use Rattle.tsb_node.proofs.MomentColumns.{asked_in_unit, end_fits}
+use Rattle.tsb_node.proofs.OneNode.{old_column_unit}
 use Rattle.tsb_node.proofs.column.part_for.Goals as goal
 
-pub returns-then-count-eq0 : goal.returns-then-count-eq0
-returns-then-count-eq0 c = record { part = λ column is ends from. absurd (omega (arith, (old_count column c.args.octets.now c.number2-count.result is c.number2-count.ensures.number).0, c.if-count-eq0.true)) }
+pub returns-in-Ok : goal.returns-in-Ok
+returns-in-Ok c = record {
+  part = λ column is ends from.
+      (let k = c.moments_of-k.result in
+      let w = is.as_written in
+      let found = c.in-Ok.found in
+      let one = c.moments_of-k.ensures.some in
+      let unit = c.moments_of-k.ensures.moments (known_at _ _ (sym (old_column_unit w c.args.octets.now is.begins)) is.moments.known) in
+      let whole = as_scaled scaled_old_column is.begins.unit k w column is.moments unit in
+      let asked = asked_in_unit w k c.args.end c.args.stamp c.floor_stamp.result c.floor_stamp-2.result one (sym (ap (λ (x : ColumnInBlock). x.bounds.end) whole) ∙ ends)
+      (subst (λ (x : ColumnInBlock). x.bounds.start ≤ c.args.stamp) whole from) c.requires.before c.floor_stamp.ensures c.floor_stamp-2.ensures in
+      let up = part_up k c.floor_stamp.result c.args.stamp c.floor_stamp-2.result w.parts found one c.floor_stamp-2.ensures (c.in-Ok.ensures.part w is.begins asked.ends asked.from asked.before) in
+      let valid = subst IsOldColumn whole is.valid in
+      let last : scaled k c.floor_stamp.result < 256 ^ 16 = subst (λ (n : ℕ). n < 256 ^ 16) asked.end_is (end_fits column.bounds c.args.end is.valid.bounds ends) in
+      let fits = part_fits k c.floor_stamp.result w.parts c.args.stamp found valid.each last up in
+      let there = subst (λ (n : ℕ). IsPartAt (scaled_old_column k w).parts n c.args.stamp (scaled_part_at k found)) (sym asked.end_is) up in
+      subst (IsPartAt column.parts c.args.end c.args.stamp) (sym (c.found_in_moments.ensures fits)) (subst (λ (x : ColumnInBlock). IsPartAt x.parts c.args.end c.args.stamp (scaled_part_at k found)) (sym whole) there));
+}
 
-pub returns-then-count-gt-PLACES : goal.returns-then-count-gt-PLACES
-returns-then-count-gt-PLACES c = record { part = λ column is ends from. absurd (omega (arith, (old_count column c.args.octets.now c.number2-count.result is c.number2-count.ensures.number).1, c.if-count-gt-PLACES.true)) }
-
-pub returns-in_default : goal.returns-in_default
-returns-in_default c =
-    let there : c.split_at-2.result.1.now ≡ area c.args.octets.now = c.split_at-2.ensures.back ∙ ap (drop 120) c.split_at.ensures.front in
-    let before = subst (λ (t : List ℕ). IsPlaceBefore c.number2-count.result t c.args.stamp c.place_before-at.result) there c.place_before-at.ensures.place in
-    record {
-      part = λ column is ends from.
-          let p = old_there column c.args.octets.now c.number2-count.result c.args.stamp c.place_before-at.result is c.number2-count.ensures.number before in
-          absurd (c.in_default.not-Ok p.0 (c.part_in.ensures.part p.0 p.1 p.2 (ap (drop c.place_before-at.result) there ∙ p.4)));
-    }
-
-pub returns-then-at-count : goal.returns-then-at-count
-returns-then-at-count c =
-    let there : c.split_at-2.result.1.now ≡ area c.args.octets.now = c.split_at-2.ensures.back ∙ ap (drop 120) c.split_at.ensures.front in
-    let before = subst (λ (t : List ℕ). IsPlaceBefore c.number2-count.result t c.args.stamp c.place_before-at.result) there c.place_before-at.ensures.place in
-    record {
-      part = λ column is ends from.
-          let p = old_there column c.args.octets.now c.number2-count.result c.args.stamp c.place_before-at.result is c.number2-count.ensures.number before in
-          let same : c.in-Ok.part ≡ p.0 = ok_is c.in-Ok.part p.0 (sym c.in-Ok.is ∙ c.part_in.ensures.part p.0 p.1 p.2 (ap (drop c.place_before-at.result) there ∙ p.4)) in
-          subst (λ (q : Part). IsPartAt column.parts c.args.end c.args.stamp (record { part = q; end = c.args.end })) (sym same)
-          (old_last column c.args.octets.now c.number2-count.result c.args.stamp c.place_before-at.result c.args.end p.0 is c.number2-count.ensures.number before c.if-at-count.true from c.requires.before p.3);
-    }
-
-pub returns : goal.returns
-returns c =
-    let there : c.split_at-2.result.1.now ≡ area c.args.octets.now = c.split_at-2.ensures.back ∙ ap (drop 120) c.split_at.ensures.front in
-    let before = subst (λ (t : List ℕ). IsPlaceBefore c.number2-count.result t c.args.stamp c.place_before-at.result) there c.place_before-at.ensures.place in
-    record {
-      part = λ column is ends from.
-          let p = old_there column c.args.octets.now c.number2-count.result c.args.stamp c.place_before-at.result is c.number2-count.ensures.number before in
-          let same : c.in-Ok.part ≡ p.0 = ok_is c.in-Ok.part p.0 (sym c.in-Ok.is ∙ c.part_in.ensures.part p.0 p.1 p.2 (ap (drop c.place_before-at.result) there ∙ p.4)) in
-          subst (λ (q : Part). IsPartAt column.parts c.args.end c.args.stamp (record { part = q; end = c.stamp_at.result })) (sym same)
-          (old_next column c.args.octets.now c.number2-count.result c.args.stamp c.place_before-at.result c.args.end c.stamp_at.result p.0 is c.number2-count.ensures.number before c.if-at-count.false from
-          (c.stamp_at.ensures.number ∙ ap (number_in 16 (c.place_before-at.result + 25)) there) p.3);
-    }
+pub returns-in-Err : goal.returns-in-Err
+returns-in-Err c = record {
+  part = λ column is ends from.
+      (let k = c.moments_of-k.result in
+      let w = is.as_written in
+      let unit = c.moments_of-k.ensures.moments (known_at _ _ (sym (old_column_unit w c.args.octets.now is.begins)) is.moments.known) in
+      let whole = as_scaled scaled_old_column is.begins.unit k w column is.moments unit in
+      let asked = asked_in_unit w k c.args.end c.args.stamp c.floor_stamp.result c.floor_stamp-2.result c.moments_of-k.ensures.some (sym (ap (λ (x : ColumnInBlock). x.bounds.end) whole) ∙ ends)
+      (subst (λ (x : ColumnInBlock). x.bounds.start ≤ c.args.stamp) whole from) c.requires.before c.floor_stamp.ensures c.floor_stamp-2.ensures in
+      c.in-Err.ensures.part w is.begins asked.ends asked.from asked.before);
+}

@@ -1,7 +1,7 @@
 use Rattle.std.proofs.Common.{arith, ◌≡◌, ◌∙◌, ◌*◌, ◌+◌, ℕ, List, Some, length, slice_get, ap, refl}
 use Rattle.std.proofs.lemmas.Option.{slice_get_read}
 use Rattle.disk_models.specs.Octets.{zeros}
-use Rattle.tsb_node.specs.Nodes.{header, seconds}
+use Rattle.tsb_node.specs.Nodes.{header, unit_now}
 use Rattle.tsb_node.specs.inner.Laying.{laid}
 use Rattle.tsb_node.proofs.NumberLaws.{octets_of-size}
 use Rattle.tsb_node.proofs.Laying.{laid_is}
@@ -12,8 +12,8 @@ pub loop-child-init : goal.loop-child-init
 unfolding zeros
 loop-child-init c =
     let n = length c.args.children.now in
-    let h = header 3 seconds c.args.level n (48 * n) c.args.bounds.now in
-    written_start h c.args.children.now c.put_header.new.page (filling_start 3 c.args.level n (48 * n) c.args.bounds.now c.put_header.new.page (c.put_header.ensures ∙ ap (laid 0 h) c.clear.ensures))
+    let h = header 3 unit_now c.args.level n (48 * n) c.args.bounds.now in
+    written_start h c.args.children.now c.put_header.new.page (filling_start unit_now 3 c.args.level n (48 * n) c.args.bounds.now c.put_header.new.page (c.put_header.ensures ∙ ap (laid 0 h) c.clear.ensures))
 
 pub put-requires : goal.put-requires
 put-requires c = omega (arith, c.loop-child.invariant.at_is, c.loop-child-test.true, c.requires.valid.fits, ap length c.key_octets.ensures, octets_of-size 40 c.child-item.result.low)
@@ -30,7 +30,7 @@ overflow_add-at-in-loop-child c = omega (arith, c.loop-child.invariant.at_is, c.
 pub loop-child-preserved : goal.loop-child-preserved
 loop-child-preserved c =
     let n = length c.args.children.now in
-    let h = header 3 seconds c.args.level n (48 * n) c.args.bounds.now in
+    let h = header 3 unit_now c.args.level n (48 * n) c.args.bounds.now in
     let child = c.child-item.result in
     let is : slice_get c.args.children.now c.loop-child.child-index ≡ Some child = slice_get_read c.args.children.now n c.loop-child.child-index child refl c.loop-child-test.true c.child-item.is in
     let one = laid_is c.loop-child.at c.key_octets.result c.loop-child.page c.put.new.self c.put.ensures ∙ ap (λ (t : List ℕ). laid c.loop-child.at t c.loop-child.page) c.key_octets.ensures in

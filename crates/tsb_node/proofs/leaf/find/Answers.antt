@@ -1,35 +1,29 @@
-use Rattle.std.proofs.Common.{◌≡◌, ◌∙◌, ℕ, List, Some, None, ap, subst, drop}
-use Rattle.tsb_node.specs.inner.Fields.{number_in}
-use Rattle.tsb_node.specs.inner.Reading.{area, versions_in}
-use Rattle.tsb_node.specs.inner.Scanning.{IsLast, IsBroken}
-use Rattle.tsb_node.proofs.Scanning.{scanned, scanned_none, broken_none, found_is}
+use Rattle.std.proofs.Common.{ℕ, sym, subst}
+use Rattle.version_model.specs.Versions.{AsOf}
+use Rattle.tsb_node.specs.Scaling.{scaled_version}
+use Rattle.tsb_node.specs.Finding.{version_found}
+use Rattle.tsb_node.specs.Leaves.{LeafNode, IsVersionOf}
+use Rattle.tsb_node.proofs.MomentLaws.{known_at, known_leaf, leaf_is, all_get, asof_up, asof_down}
 use Rattle.tsb_node.proofs.leaf.find.Goals as goal
 
-pub returns-in_err-rest : goal.returns-in_err-rest
-returns-in_err-rest c =
-    let there : c.split_at-2.result.1.now ≡ area c.args.octets.now = c.split_at-2.ensures.back ∙ ap (drop 120) c.split_at.ensures.front in
-    record {
-      found = λ leaf is. absurd (broken_none leaf c.args.octets.now
-          (subst (λ (t : List ℕ). IsBroken t (number_in 2 4 c.args.octets.now)) there
-          (subst (λ (n : ℕ). IsBroken c.split_at-2.result.1.now n) c.number2-count.ensures.number c.in_err-rest.ensures.broken)) is);
-    }
+pub returns-in_default : goal.returns-in_default
+returns-in_default c = record {
+  found = λ leaf is v holds.
+      (let unit = c.moments_of-k.ensures.moments (known_at _ _ (known_leaf leaf c.args.octets.now is) is.moments.known) in
+      let there = subst (λ (l : LeafNode). AsOf l.versions c.args.key c.args.stamp v) (leaf_is leaf c.args.octets.now c.moments_of-k.result is unit) holds in
+      let d = asof_down c.moments_of-k.result c.args.key c.args.stamp c.floor_stamp.result is.as_written.versions v c.moments_of-k.ensures.some c.floor_stamp.ensures there in
+      let none = rw c.in_default.is at (c.in_ok-found.ensures.found is.as_written is.begins) in
+      none d.0 d.2);
+}
 
-pub returns-in-Some : goal.returns-in-Some
-returns-in-Some c =
-    let there : c.split_at-2.result.1.now ≡ area c.args.octets.now = c.split_at-2.ensures.back ∙ ap (drop 120) c.split_at.ensures.front in
-    let last = rw c.in-Some.is at c.in_ok-rest.ensures.last in
-    let key = c.args.key in
-    let moved = subst (λ (t : List ℕ). IsLast (versions_in (number_in 2 4 c.args.octets.now) t) t key c.args.stamp (number_in 2 4 c.args.octets.now) (Some c.in-Some.rest)) there
-    (subst (λ (n : ℕ). IsLast (versions_in n c.split_at-2.result.1.now) c.split_at-2.result.1.now key c.args.stamp n (Some c.in-Some.rest)) c.number2-count.ensures.number last) in
-    record {
-      found = λ leaf is. found_is leaf.versions key c.args.stamp c.in-Some.rest c.found_at.result
-          c.as_slice.result.now c.as_slice.ensures.octets c.found_at.ensures.stamp c.found_at.ensures.value (scanned leaf c.args.octets.now key c.args.stamp c.in-Some.rest is moved);
-    }
-
-pub returns-in-None : goal.returns-in-None
-returns-in-None c =
-    let there : c.split_at-2.result.1.now ≡ area c.args.octets.now = c.split_at-2.ensures.back ∙ ap (drop 120) c.split_at.ensures.front in
-    let last = rw c.in-None.is at c.in_ok-rest.ensures.last in
-    let moved = subst (λ (t : List ℕ). IsLast (versions_in (number_in 2 4 c.args.octets.now) t) t c.args.key c.args.stamp (number_in 2 4 c.args.octets.now) None) there
-    (subst (λ (n : ℕ). IsLast (versions_in n c.split_at-2.result.1.now) c.split_at-2.result.1.now c.args.key c.args.stamp n None) c.number2-count.ensures.number last) in
-    record { found = λ leaf is v holds. scanned_none leaf c.args.octets.now c.args.key c.args.stamp is moved v holds }
+pub returns : goal.returns
+returns c = record {
+  found = λ leaf is.
+      (let k = c.moments_of-k.result in
+      let unit = c.moments_of-k.ensures.moments (known_at _ _ (known_leaf leaf c.args.octets.now is) is.moments.known) in
+      let holds = rw c.in-Some.is at (c.in_ok-found.ensures.found is.as_written is.begins) in
+      let up = asof_up k c.args.key c.args.stamp c.floor_stamp.result is.as_written.versions (version_found c.args.key c.in-Some.found) c.moments_of-k.ensures.some c.floor_stamp.ensures holds in
+      let there = subst (λ (l : LeafNode). AsOf l.versions c.args.key c.args.stamp (scaled_version k (version_found c.args.key c.in-Some.found))) (sym (leaf_is leaf c.args.octets.now k is unit)) up in
+      let fits = (all_get (IsVersionOf leaf.bounds) leaf.versions there.has.place (scaled_version k (version_found c.args.key c.in-Some.found)) is.valid.each there.has.is).stamp in
+      subst (λ (n : ℕ). AsOf leaf.versions c.args.key c.args.stamp (record { key = c.args.key; stamp = n; value = c.in-Some.found.value })) (sym (c.stamp_in_moments.ensures fits)) there);
+}

@@ -1,7 +1,7 @@
 use Rattle.std.proofs.Common.{arith, ◌≡◌, ◌∙◌, ◌<◌, ◌+◌, ℕ, Some, length, drop, ap, sym, subst}
 use Rattle.std.proofs.lemmas.Bool.{both_ways}
 use Rattle.version_model.specs.inner.Lower.{IsLower}
-use Rattle.tsb_node.specs.Leaves.{LeafNode, BeginsAsLeaf}
+use Rattle.tsb_node.specs.Leaves.{LeafNode, BeginsAsWrittenLeaf}
 use Rattle.tsb_node.specs.inner.Reading.{area}
 use Rattle.tsb_node.specs.inner.Scanning.{IsWholeVersion}
 use Rattle.tsb_node.proofs.Leaves.{leaf_represents}
@@ -41,7 +41,7 @@ loop-preserved c =
     let octets = c.args.octets.now in
     let s = c.args.stamp in
     let from = c.args.from in
-    let few : (leaf : LeafNode) → BeginsAsLeaf leaf octets → c.loop.counter < length leaf.versions = λ leaf is. (let represents_node = leaf_represents leaf octets is in omega (arith, represents_node.count_is, c.loop-test.true, c.number2-count.ensures.number)) in
+    let few : (leaf : LeafNode) → BeginsAsWrittenLeaf leaf octets → c.loop.counter < length leaf.versions = λ leaf is. (let represents_node = leaf_represents leaf octets is in omega (arith, represents_node.count_is, c.loop-test.true, c.number2-count.ensures.number)) in
     record {
       there = c.split_at-in-loop.ensures.back ∙ ap (λ (n : ℕ). drop n rest) found.0 ∙ scan_on c.loop.counter rest (area octets) c.loop.invariant.there;
       least = λ leaf is.

@@ -1,17 +1,40 @@
-use Rattle.tsb_node.specs.Leaves.{entries}
-use Rattle.tsb_node.proofs.LeafReading.{leaf_header, leaf_block, block_of, of_block, some_leaf, none_leaf}
+use Rattle.std.proofs.Common.{◌∙◌, ℕ, List, slice_index, ap, sym, subst}
+use Rattle.route_model.specs.Units.{moments_in}
+use Rattle.tsb_node.specs.Nodes.{IsBounds}
+use Rattle.tsb_node.specs.Scaling.{IsKnownUnit}
+use Rattle.tsb_node.specs.Leaves.{BeginsAsWrittenLeaf, IsLeafBlock, scaled_leaf}
+use Rattle.tsb_node.proofs.Leaves.{begins_block}
+use Rattle.tsb_node.proofs.MomentLaws.{leaf_unit, known_at}
+use Rattle.tsb_node.proofs.MomentLeaves.{found_leaf, none_leaf, block_in_moments, block_is}
 use Rattle.tsb_node.proofs.leaf_reading.read_leaf_block.Goals as goal
 
-pub returns-in_default-clause-none : goal.returns-in_default-clause-none
-returns-in_default-clause-none c = λ leaf is. absurd (c.in_default.ensures.none (leaf_header leaf) (entries leaf.versions) (leaf_block leaf c.args.block.now is))
+pub returns-then-not-is_known-clause-none : goal.returns-then-not-is_known-clause-none
+returns-then-not-is_known-clause-none c = λ leaf is.
+    let e = sym (leaf_unit is.as_written c.args.block.now (begins_block is.as_written c.args.block.now is.block)) ∙ ap (λ (t : List ℕ). slice_index t 1) (sym c.octets-octets.ensures.value) in
+    absurd (cc (c.is_known.ensures.1 (known_at _ _ e is.moments.known), c.if-not-is_known.true))
 
-pub leaf_bounds-requires : goal.leaf_bounds-requires
-leaf_bounds-requires c = record { node = c.in-Some.ensures.found.valid }
+pub returns-in_default-clause-none : goal.returns-in_default-clause-none
+returns-in_default-clause-none c = λ leaf is. absurd (c.in_default.ensures.none is.as_written is.block)
+
+pub leaf_in_moments-requires : goal.leaf_in_moments-requires
+leaf_in_moments-requires c = record { size = c.octets-octets.ensures.size; valid = subst IsBounds c.in-Some.ensures.found.2 c.in-Some.ensures.found.1.valid.bounds }
 
 pub returns-clause-found : goal.returns-clause-found
 returns-clause-found c =
-    some_leaf c.leaf_bounds.result _ _ (λ leaf of. block_of c.in-Some.header c.in-Some.entries.now c.args.block.now leaf c.in-Some.ensures.found of) c.leaf_bounds.ensures.found
+    let octets = c.octets-octets.result.now in
+    let found = c.in-Some.ensures.found in
+    let known : IsKnownUnit (slice_index octets 1) = c.is_known.ensures.0 (cc c.if-not-is_known.false) in
+    let known' = known_at _ _ (ap (λ (t : List ℕ). slice_index t 1) c.octets-octets.ensures.value) known in
+    let begins = subst (BeginsAsWrittenLeaf found.0) (sym c.octets-octets.ensures.value) (begins_block found.0 c.args.block.now found.1) in
+    found_leaf c.leaf_in_moments.result (scaled_leaf (moments_in known.unit) found.0) (λ l. IsLeafBlock l c.args.block.now) (λ valid. block_in_moments found.0 c.args.block.now known' found.1 valid)
+    (c.leaf_in_moments.ensures.leaf known found.0 begins found.2)
 
 pub returns-clause-none : goal.returns-clause-none
 returns-clause-none c =
-    none_leaf c.leaf_bounds.result _ _ (λ leaf is. of_block c.in-Some.header c.in-Some.entries.now c.args.block.now leaf c.in-Some.ensures.found is) c.leaf_bounds.ensures.none
+    let octets = c.octets-octets.result.now in
+    let found = c.in-Some.ensures.found in
+    let known : IsKnownUnit (slice_index octets 1) = c.is_known.ensures.0 (cc c.if-not-is_known.false) in
+    let known' = known_at _ _ (ap (λ (t : List ℕ). slice_index t 1) c.octets-octets.ensures.value) known in
+    let begins = subst (BeginsAsWrittenLeaf found.0) (sym c.octets-octets.ensures.value) (begins_block found.0 c.args.block.now found.1) in
+    none_leaf c.leaf_in_moments.result (scaled_leaf (moments_in known.unit) found.0) (λ l. IsLeafBlock l c.args.block.now) (λ leaf is. block_is found.0 leaf c.args.block.now known' found.1 is)
+    (c.leaf_in_moments.ensures.leaf known found.0 begins found.2)

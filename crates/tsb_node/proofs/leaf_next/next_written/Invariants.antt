@@ -1,11 +1,11 @@
 use Rattle.std.proofs.Common.{◌^◌, ◌-◌, ◌≤◌}
 use Rattle.version_model.specs.Looks.{NoneWithin}
-use Rattle.tsb_node.specs.Leaves.{LeafNode, BeginsAsLeaf}
-use Rattle.tsb_node.proofs.leaf_next.next.Given as goal
+use Rattle.tsb_node.specs.Leaves.{LeafNode, BeginsAsWrittenLeaf}
+use Rattle.tsb_node.proofs.leaf_next.next_written.Given as goal
 
 abbrev pub invariant-loop-least : goal.invariant-loop-least
 invariant-loop-least l = record {
-  dead : (leaf : LeafNode) → BeginsAsLeaf leaf l.octets → NoneWithin leaf.versions l.stamp l.initial.from l.from;
+  dead : (leaf : LeafNode) → BeginsAsWrittenLeaf leaf l.octets → NoneWithin leaf.versions l.stamp l.initial.from l.from;
   onward : l.initial.from ≤ l.from;
 }
 
