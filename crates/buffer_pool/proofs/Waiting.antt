@@ -9,7 +9,7 @@ use Rattle.std.proofs.Props.{props}
 use Rattle.std.proofs.lemmas.Bool.{cases_eq, cond-true, cond-false, eq-eqb, ne_eqb}
 use Rattle.disk_models.specs.declared.erase.EraseDisk.{Ghosts}
 use Rattle.page_journal.specs.Bookkeeping.{is_among, without}
-use Rattle.page_journal.specs.Calls.{IsDown, TakesSlot}
+use Rattle.page_journal.specs.Calls.{IsDown}
 use Rattle.page_journal.specs.Journal.{unhomed_pages}
 use Rattle.page_journal.specs.Layout.{Image, pages_of}
 use Rattle.page_journal.specs.Recovers.{IsListed}
@@ -128,13 +128,13 @@ homed_or_not m n old new (Ok x) home same ne is = ap (is_among m) home ∙ homed
 homed_or_not m n old new (Err e) home same ne is = ap (is_among m) same ∙ is
 
 -- a page that wasn't home before a post, or is one of its pages
-pub posted_among : {D : Type 0} {device : Ghosts D} (images : List Image) (old new : Journal D device) (m : ℕ) → (length images ≡ 0 → new ≡ old) → (0 < length images → TakesSlot device images old new)
+pub posted_among : {D : Type 0} {device : Ghosts D} (images : List Image) (old new : Journal D device) (m : ℕ) → (length images ≡ 0 → new ≡ old) → (0 < length images → unhomed_pages new ≡ unhomed_pages old ++ without (unhomed_pages old) (pages_of images))
     → IsListed m (pages_of images) ⊎ (is_among m (unhomed_pages old) ≡ true) → is_among m (unhomed_pages new) ≡ true
 posted_among [] old new m same takes is = ⊎_elim (λ none. absurd none) (λ was. ap (λ j. is_among m (unhomed_pages j)) (same refl) ∙ was) is
 posted_among (image ∷ images) old new m same takes is =
     let now = takes (omega arith) in
     let all = unhomed_pages old in
-    ap (is_among m) now.unhomed ∙ ⊎_elim
+    ap (is_among m) now ∙ ⊎_elim
     (λ listed. among_joined m all (pages_of (image ∷ images)) listed)
     (λ was. among_first m all (without all (pages_of (image ∷ images))) was)
     is
@@ -143,7 +143,8 @@ kept_listed : (n m : ℕ) (b : Bool) (ns kept : List ℕ) → (IsListed n kept �
 kept_listed n m true ns kept rest is = ⊎_elim (λ here. inl here) (λ later. inr (rest later)) is
 kept_listed n m false ns kept rest is = inr (rest is)
 
-filter_listed : (n : ℕ) (test : ℕ → Bool) (ns : List ℕ) → IsListed n (filter test ns) → IsListed n ns
+-- a number that is left was there
+pub filter_listed : (n : ℕ) (test : ℕ → Bool) (ns : List ℕ) → IsListed n (filter test ns) → IsListed n ns
 filter_listed n test [] listed = listed
 filter_listed n test (m ∷ ns) listed = kept_listed n m (test m) ns (filter test ns) (filter_listed n test ns) listed
 
@@ -158,3 +159,8 @@ flushed_listed n old new (Ok more) oldest none same listed = first_gone n (unhom
     first_gone : (n : ℕ) (before after : List ℕ) → IfSome (slice_get before 0) (λ k. after ≡ filter (λ m. not (m == k)) before) → (length before ≡ 0 → after ≡ before) → IsListed n after → IsListed n before
     first_gone n [] after gone same listed = subst (IsListed n) (same refl) listed
     first_gone n (k ∷ ns) after gone same listed = filter_listed n (λ m. not (m == k)) (k ∷ ns) (subst (IsListed n) gone listed)
+
+-- no first number, no number
+pub none_first : (ns : List ℕ) → None ≡ slice_get ns 0 → ns ≡ []
+none_first [] is = refl
+none_first (n ∷ ns) is = absurd (cc)

@@ -1,12 +1,12 @@
 //! The pool.
-ghost use Rattle.std.specs.Prelude.{◌≡◌, ◌≢◌, ◌≤◌, ◌<◌, ◌-◌, ◌↔◌, ◌⊎◌, ℕ, List, length, OnOk, OnErr, IfOk, IfErr, IsOk, IsErrOf, IfSome, IsSome, ◌==◌, not, filter, true, false, Some, slice_get};
+ghost use Rattle.std.specs.Prelude.{◌≡◌, ◌≢◌, ◌≤◌, ◌<◌, ◌-◌, ◌↔◌, ◌⊎◌, ℕ, List, [], length, OnOk, OnErr, IfOk, IfErr, IsOk, IsErrOf, IfSome, IsSome, ◌==◌, not, filter, true, false, Some, slice_get};
 ghost use Rattle.std.specs.Ordering.{nat_cmp};
 ghost use Rattle.std.specs.BTreeMap.{get};
 ghost use Rattle.disk_models.specs.Erase.{Leaves, Stays};
 ghost use Rattle.disk_models.specs.Serves.{Serves};
 ghost use Rattle.page_journal.specs.Bookkeeping.{is_among};
-ghost use Rattle.page_journal.specs.Calls.{IsDown, IsIdle, SameButDisk, SameJournal, TakesSlot};
-ghost use Rattle.page_journal.specs.Journal.{Keeps, closed_slots, disk_of, home_pages, needs_recovery, note_of, opened_slots, unhomed_pages};
+ghost use Rattle.page_journal.specs.Calls.{IsDown, IsIdle, SameButDisk, SameJournal, TakesSlot, TakesTurn};
+ghost use Rattle.page_journal.specs.Journal.{GivesBack, Keeps, closed_slots, disk_of, home_pages, needs_recovery, note_of, oldest_slot_pages, opened_slots, unhomed_pages};
 ghost use Rattle.page_journal.specs.Layout.{pages_of};
 ghost use Rattle.page_journal.specs.Recovers.{laid, AreBelow, AreDistinct, IsListed, Recovers, RecoversEither};
 ghost use Rattle.page_journal.specs.Refusals.{PostRefusal, PostsAt, UseRefusal};
@@ -54,6 +54,31 @@ fn read_page<D: EraseDisk + Drop>(
     let mut page = Page::new(alloc)?;
     journal.read(n, &mut page)?;
     Ok(page)
+}
+
+// Posts pages. A post of the last closed slot closes the oldest one, if that isn't needed any more.
+fn post<D: EraseDisk + Drop>(
+    journal: &mut Journal<D>,
+    images: &[(u64, Page)],
+) -> Result<(), PostError>
+    requires below { AreBelow (home_pages journal.old) (pages_of images.now) }
+    requires distinct { AreDistinct (pages_of images.now) }
+    ensures crash { D.honest (disk_of journal.old) → (pages : List (List ℕ)) → Keeps D.EraseDisk journal.old pages
+        → Leaves (D.model (disk_of journal.old)) (D.model (disk_of journal.new)) (RecoversEither (home_pages journal.old) (note_of journal.old) pages (laid images.now pages)) }
+    ensures posted { D.honest (disk_of journal.old) → (pages : List (List ℕ)) → Keeps D.EraseDisk journal.old pages → OnOk result (Keeps D.EraseDisk journal.new (laid images.now pages)) }
+    ensures accepted { OnOk result (PostsAt (needs_recovery journal.old) (length images.now) (closed_slots journal.old)) }
+    ensures refused { IfErr result (PostRefusal (needs_recovery journal.old) (length images.now) (closed_slots journal.old)) }
+    ensures unchanged { IfErr result (λ e. e ≢ PostError.Fault → journal.new ≡ journal.old) }
+    ensures failed { IsErrOf result PostError.Fault → IsDown D.EraseDisk journal.old journal.new }
+    ensures empty { length images.now ≡ 0 → journal.new ≡ journal.old }
+    ensures taken { 0 < length images.now → ¬ GivesBack D.EraseDisk journal.old → OnOk result (TakesSlot D.EraseDisk images.now journal.old journal.new) }
+    ensures turned { 0 < length images.now → GivesBack D.EraseDisk journal.old → OnOk result (TakesTurn D.EraseDisk images.now journal.old journal.new) }
+    ensures journal { SameJournal D.EraseDisk journal.old journal.new (IsErrOf result PostError.Fault) }
+{
+    if journal.gives_back() {
+        return journal.post_closing(images);
+    }
+    journal.post(images)
 }
 
 impl<D: EraseDisk + Drop> Pool<D> {
@@ -106,7 +131,7 @@ impl<D: EraseDisk + Drop> Pool<D> {
         self.journal.is_usable()
     }
 
-    /// How many of the journal's eight slots are closed. A commit takes one.
+    /// How many of the journal's eight slots are closed. A commit takes one, and that of the last may give one back.
     pub fn closed(&self) -> usize
         ensures closed { result ≡ closed_slots (journal_of self.now) }
     {
@@ -204,14 +229,17 @@ impl<D: EraseDisk + Drop> Pool<D> {
         ensures unchanged { IfErr result (λ e. e ≢ PostError.Fault → self.new ≡ self.old) }
         ensures failed { IsErrOf result PostError.Fault → IsDown D.EraseDisk (journal_of self.old) (journal_of self.new) }
         ensures empty { length images.items ≡ 0 → journal_of self.new ≡ journal_of self.old }
-        ensures taken { 0 < length images.items → OnOk result (TakesSlot D.EraseDisk images.items (journal_of self.old) (journal_of self.new)) }
+
+        // It takes a slot, and gives the oldest one back if it takes the last and that is needed no more.
+        ensures taken { 0 < length images.items → ¬ GivesBack D.EraseDisk (journal_of self.old) → OnOk result (TakesSlot D.EraseDisk images.items (journal_of self.old) (journal_of self.new)) }
+        ensures turned { 0 < length images.items → GivesBack D.EraseDisk (journal_of self.old) → OnOk result (TakesTurn D.EraseDisk images.items (journal_of self.old) (journal_of self.new)) }
 
         // Pages that wait in memory to be written home go on waiting there.
         ensures waiting { (m : ℕ) → IsWaiting self.old m → IsWaiting self.new m }
         ensures capacity { most_clean self.new ≡ most_clean self.old }
         ensures journal { SameJournal D.EraseDisk (journal_of self.old) (journal_of self.new) (IsErrOf result PostError.Fault) }
     {
-        self.journal.post(&images)?;
+        post(&mut self.journal, &images)?;
         held::take_all(&mut self.committed, &mut self.cached, images);
         Ok(())
     }
@@ -248,6 +276,29 @@ impl<D: EraseDisk + Drop> Pool<D> {
         let Some(n) = self.journal.oldest_unhomed() else {
             return Ok(false);
         };
+        self.flush(n)?;
+        Ok(true)
+    }
+
+    // Writes a dirty page home.
+    fn flush(&mut self, n: u64) -> Result<(), UseError>
+        requires usable { needs_recovery (journal_of self.old) ≡ false }
+        requires listed { IsListed n (unhomed_pages (journal_of self.old)) }
+        requires below { n < home_pages (journal_of self.old) }
+        ensures crash { D.honest (disk_of (journal_of self.old)) → (pages : List (List ℕ)) → Maps D.EraseDisk self.old pages
+            → Leaves (D.model (disk_of (journal_of self.old))) (D.model (disk_of (journal_of self.new))) (λ c. Recovers (home_pages (journal_of self.old)) (note_of (journal_of self.old)) c pages) }
+        ensures maps { D.honest (disk_of (journal_of self.old)) → (pages : List (List ℕ)) → Maps D.EraseDisk self.old pages
+            → needs_recovery (journal_of self.new) ≡ false → Maps D.EraseDisk self.new pages }
+        ensures homed { OnOk result (unhomed_pages (journal_of self.new) ≡ filter (λ m. not (m == n)) (unhomed_pages (journal_of self.old))) }
+        ensures as_dirty { OnErr result (unhomed_pages (journal_of self.new) ≡ unhomed_pages (journal_of self.old)) }
+        ensures opened { opened_slots (journal_of self.new) ≡ opened_slots (journal_of self.old) }
+        ensures waiting { (m : ℕ) → m ≢ n → IsWaiting self.old m → IsWaiting self.new m }
+        ensures ok { OnOk result (needs_recovery (journal_of self.new) ≡ false) }
+        ensures refused { IfErr result (λ e. e ≡ UseError.Fault) }
+        ensures failed { OnErr result (IsDown D.EraseDisk (journal_of self.old) (journal_of self.new) ⊎ WasOnlyRead D.EraseDisk (journal_of self.old) (journal_of self.new)) }
+        ensures journal { SameJournal D.EraseDisk (journal_of self.old) (journal_of self.new) (IsErrOf result UseError.Fault) }
+        ensures capacity { most_clean self.new ≡ most_clean self.old }
+    {
         match self.committed.remove(&n) {
             Some(page) => {
                 self.journal.home(n, &page)?;
@@ -258,7 +309,57 @@ impl<D: EraseDisk + Drop> Pool<D> {
                 self.journal.home(n, &self.spare)?;
             }
         }
-        Ok(true)
+        Ok(())
+    }
+
+    // Writes the pages home of which the oldest open slot has the newest images.
+    fn flush_oldest_slot(&mut self) -> Result<(), UseError>
+        requires usable { needs_recovery (journal_of self.old) ≡ false }
+        ensures crash { D.honest (disk_of (journal_of self.old)) → (pages : List (List ℕ)) → Maps D.EraseDisk self.old pages
+            → Leaves (D.model (disk_of (journal_of self.old))) (D.model (disk_of (journal_of self.new))) (λ c. Recovers (home_pages (journal_of self.old)) (note_of (journal_of self.old)) c pages) }
+        ensures maps { D.honest (disk_of (journal_of self.old)) → (pages : List (List ℕ)) → Maps D.EraseDisk self.old pages
+            → needs_recovery (journal_of self.new) ≡ false → Maps D.EraseDisk self.new pages }
+        ensures opened { opened_slots (journal_of self.new) ≡ opened_slots (journal_of self.old) }
+        ensures none { OnOk result (oldest_slot_pages (journal_of self.new) ≡ []) }
+        ensures as_dirty { (n : ℕ) → IsListed n (unhomed_pages (journal_of self.new)) → IsListed n (unhomed_pages (journal_of self.old)) }
+        ensures ok { OnOk result (needs_recovery (journal_of self.new) ≡ false) }
+        ensures refused { IfErr result (λ e. e ≡ UseError.Fault) }
+        ensures journal { SameJournal D.EraseDisk (journal_of self.old) (journal_of self.new) (IsErrOf result UseError.Fault) }
+        ensures capacity { most_clean self.new ≡ most_clean self.old }
+    {
+        while let Some(n) = self.journal.oldest_slot_page() {
+            self.flush(n)?;
+        }
+        Ok(())
+    }
+
+    /// Makes room for a commit, and for one that leaves a slot closed: if one is left, the pages go home that only the
+    /// oldest open slot has; if none is left, a checkpoint is made.
+    pub fn make_room(&mut self) -> Result<(), UseError>
+        ensures crash { D.honest (disk_of (journal_of self.old)) → (pages : List (List ℕ)) → Maps D.EraseDisk self.old pages
+            → Leaves (D.model (disk_of (journal_of self.old))) (D.model (disk_of (journal_of self.new))) (λ c. Recovers (home_pages (journal_of self.old)) (note_of (journal_of self.old)) c pages) }
+        ensures maps { D.honest (disk_of (journal_of self.old)) → (pages : List (List ℕ)) → Maps D.EraseDisk self.old pages
+            → needs_recovery (journal_of self.new) ≡ false → Maps D.EraseDisk self.new pages }
+
+        ensures room { OnOk result (0 < closed_slots (journal_of self.new)) }
+        ensures last { OnOk result (closed_slots (journal_of self.new) ≡ 1 → oldest_slot_pages (journal_of self.new) ≡ []) }
+        ensures idle { 1 < closed_slots (journal_of self.old) → self.new ≡ self.old }
+        ensures opened { 0 < closed_slots (journal_of self.old) → opened_slots (journal_of self.new) ≡ opened_slots (journal_of self.old) }
+        ensures as_dirty { (n : ℕ) → IsListed n (unhomed_pages (journal_of self.new)) → IsListed n (unhomed_pages (journal_of self.old)) }
+        ensures ok { OnOk result ((needs_recovery (journal_of self.old) ≡ false) × (needs_recovery (journal_of self.new) ≡ false)) }
+        ensures refused { IfErr result (UseRefusal (needs_recovery (journal_of self.old))) }
+        ensures unchanged { IsErrOf result UseError.NeedsRecovery → self.new ≡ self.old }
+        ensures journal { SameJournal D.EraseDisk (journal_of self.old) (journal_of self.new) (IsErrOf result UseError.Fault) }
+        ensures capacity { most_clean self.new ≡ most_clean self.old }
+    {
+        if !self.journal.is_usable() {
+            return Err(UseError::NeedsRecovery);
+        }
+        match self.journal.closed() {
+            0 => self.checkpoint(),
+            1 => self.flush_oldest_slot(),
+            _ => Ok(()),
+        }
     }
 
     /// Writes all pages home, and closes the journal's slots.

@@ -120,8 +120,9 @@ impl FileDisks {
         }
     }
 
-    /// Checks that each open slot of the journal has the number of its place, counted from 1. An opening lays the slots over the home pages
-    /// by these numbers, so another one would let an old page come back. Nothing is written.
+    /// Checks that each open slot of the journal has a number of its place, counted round after round from 1, and that these numbers
+    /// follow one another. An opening lays the slots over the home pages by them, so another one would let an old page come back.
+    /// Nothing is written.
     ///
     /// # Errors
     ///

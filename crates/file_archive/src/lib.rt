@@ -6,8 +6,8 @@
 //!
 //! Both disks are opened apart from the archive ([`FileDisks`]), since a load opens its own file between: a folder
 //! that is missing or locked is reported before a missing file, and that before a damaged archive. The
-//! journal's slots are read before the opening by a check alone: an archive's journal numbers them in order from 1
-//! on, so another number is damage, which the opening would turn into old pages.
+//! journal's slots are read before the opening by a check alone: an archive's journal numbers them round after round,
+//! from 1 on, so another number is damage, which the opening would turn into old pages.
 #![tactic(auto)]
 
 mod creating;

@@ -1,10 +1,10 @@
 //! The numbers of the journal's open slots, before an opening lays them over the home pages.
 
-ghost use Rattle.std.specs.Prelude.{◌≡◌, ◌<◌, ◌≤◌, ◌+◌, ◌*◌, ℕ, OnOk, IfOk, IfSome, IfNone, IsErr, IfErr, Err, ◌↔◌};
+ghost use Rattle.std.specs.Prelude.{◌≡◌, ◌<◌, ◌≤◌, ◌+◌, ◌-◌, ◌*◌, ◌%◌, IsTrue, ℕ, OnOk, IfOk, IfSome, IfNone, IsErr, IfErr, Err, ◌↔◌};
 ghost use Rattle.disk_models.specs.Erase.{Stays};
 ghost use Rattle.disk_models.specs.Serves.{Serves};
 ghost use Rattle.page_journal.specs.Layout.{IsOpen, slots_end, transaction};
-ghost use Rattle.file_archive.specs.Slots.{AreInOrder, IsOutOfOrder, IsSlotRefusal};
+ghost use Rattle.file_archive.specs.Slots.{AreInOrder, IsOutOfOrder, IsSlotRefusal, open_count};
 
 use crate::disks::{JOURNAL_PAGES, PAGE};
 use disk_archive::OpenError;
@@ -47,8 +47,48 @@ fn number_of<E: EraseDisk>(disk: &mut E, slot: u64) -> Result<Option<u64>, Fault
     Ok(Some(u64::from_be_bytes(number)))
 }
 
-/// Checks that each open slot of an archive's journal has the number of its place, counted from 1: transactions take the slots in their
-/// order. An opening lays them over the home pages by these numbers, so another one would let an old page come back.
+// The newest of the open slots.
+#[derive(Clone, Copy)]
+struct Newest {
+    // How many slots are open.
+    open: u64,
+    // The highest number of an open slot's transaction, or 0.
+    number: u64,
+}
+
+// How many slots are open, and the highest of their numbers.
+#[tactic(auto, using(crate::proofs::OpenCount::none_open))]
+fn find_newest<E: EraseDisk>(disk: &mut E) -> Result<Newest, Fault>
+    requires { slots_end ≤ E.octet_count disk.old }
+    ensures most { E.honest disk.old → IfOk result (λ newest. (slot : ℕ) → slot < 8 → IsOpen (E.model disk.old).octet slot → transaction (E.model disk.old).octet slot ≤ newest.number) }
+    ensures one { E.honest disk.old → IfOk result (λ newest. 0 < newest.number → (slot : ℕ) × (slot < 8) × IsOpen (E.model disk.old).octet slot × (newest.number ≡ transaction (E.model disk.old).octet slot)) }
+    ensures count { E.honest disk.old → IfOk result (λ newest. newest.open ≡ open_count (E.model disk.old).octet 8) }
+    ensures serves { Serves E.EraseDisk disk.old disk.new (IsErr result) }
+    ensures stays { E.honest disk.old → Stays (E.model disk.old) (E.model disk.new) }
+{
+    let mut newest = Newest { open: 0, number: 0 };
+    for slot in 0..SLOTS {
+        let number = number_of(disk, slot)?;
+        newest.number = newest.number.max(number.unwrap_or(0));
+        newest.open += u64::from(number.is_some());
+    }
+    Ok(newest)
+}
+
+// Whether a number, counted from 1, is one of a slot, which are those of its place in each round, and the newest isn't ahead of it by
+// as many as are open.
+fn is_in_place(slot: u64, number: u64, newest: Newest) -> bool
+    requires { slot < 8 }
+    ensures { IsTrue result ↔ ((0 < number) × (number % 8 ≡ (slot + 1) % 8) × (newest.number - number < newest.open)) }
+{
+    number > 0
+        && number % SLOTS == (slot + 1) % SLOTS
+        && newest.number.saturating_sub(number) < newest.open
+}
+
+/// Checks that each open slot of an archive's journal has a number of its place, and that these numbers follow one another:
+/// transactions, counted from 1, take the slots in their order, round after round, and the oldest slot is closed first. An opening
+/// lays them over the home pages by these numbers, so another one would let an old page come back.
 ///
 /// Nothing is written. The error has the page of the header with another number, counted from the disk's first page.
 pub(crate) fn check_slots<E: EraseDisk>(disk: &mut E) -> Result<(), OpenError>
@@ -62,9 +102,12 @@ pub(crate) fn check_slots<E: EraseDisk>(disk: &mut E) -> Result<(), OpenError>
     if disk.size() < PAGE * JOURNAL_PAGES {
         return Err(OpenError::NotAJournal);
     }
+    let Ok(newest) = find_newest(disk) else {
+        return Err(OpenError::Fault);
+    };
     for slot in 0..SLOTS {
         match number_of(disk, slot) {
-            Ok(Some(number)) if number != slot + 1 => {
+            Ok(Some(number)) if !is_in_place(slot, number, newest) => {
                 return Err(OpenError::BadSlot(header_of(slot)));
             }
             Ok(_) => {}

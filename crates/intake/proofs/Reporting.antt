@@ -1,5 +1,6 @@
 -- Entries in a ring's own octets, gone through by their lengths.
-use Rattle.std.proofs.Common.{◌≡◌, ◌<◌, ◌≤◌, ◌^◌, ℕ, ◌+◌, ◌-◌, List, [], ◌∷◌, ◌++◌, length, take, drop, get_or, map, refl, sym, ◌∙◌, ap, subst, inl, inr, arith, append_assoc, append-nil, length-append}
+use Rattle.std.proofs.Common.{◌≡◌, ◌<◌, ◌≤◌, ℕ, ◌+◌, ◌-◌, List, [], ◌∷◌, ◌++◌, length, take, drop, get_or, map, refl, sym, ◌∙◌, ap, subst, inl, inr, arith, append_assoc, append-nil, length-append}
+use Rattle.route_model.specs.Moments.{IsMoment}
 use Rattle.std.specs.List.{flat_map, AllByRecursion}
 use Rattle.std.specs.Int.{w32, w64, to_be_bytes, from_be_bytes}
 use Rattle.std.proofs.Math.Seq.{take-add}
@@ -101,7 +102,7 @@ reports_none pages ring = record { entries = []; valid = tt; reported = refl; pl
 
 -- the entry at the place is gone through
 pub reports_more : (pages : List (List ℕ)) (ring : Ring) (at len time : ℕ) (times stood front : List ℕ) → length stood ≡ ring.used → HasOctets pages ring stood → front ≡ take 12 (drop at stood)
-    → take 4 front ≡ to_be_bytes w32 len → drop 4 front ≡ to_be_bytes w64 time → time < 2 ^ 32 → 8 ≤ len → len ≤ 131072 → at + 4 + len ≤ ring.used
+    → take 4 front ≡ to_be_bytes w32 len → drop 4 front ≡ to_be_bytes w64 time → IsMoment time → 8 ≤ len → len ≤ 131072 → at + 4 + len ≤ ring.used
     → ReportsTimes pages ring at times → ReportsTimes pages ring (at + 4 + len) (times ++ time ∷ [])
 reports_more pages ring at len time times stood front used stand is size reported low long small fits t =
     let more = take (len - 8) (drop 12 (drop at stood)) in

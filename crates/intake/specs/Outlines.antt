@@ -1,8 +1,9 @@
 -- What stands in a ring's own octets, whether these are a list of admissions or not.
-use Rattle.std.specs.Prelude.{◌≡◌, ◌<◌, ◌≤◌, ℕ, ◌+◌, ◌/◌, ◌^◌, List, [], ◌∷◌, ◌++◌, length, map, flat_map}
+use Rattle.std.specs.Prelude.{◌≡◌, ◌<◌, ◌≤◌, ℕ, ◌+◌, ◌/◌, List, [], ◌∷◌, ◌++◌, length, map, flat_map}
 use Rattle.std.specs.List.{AllByRecursion}
 use Rattle.std.specs.Int.{w64, to_be_bytes}
 use Rattle.route_model.specs.Admission.{Admitted, IsAdmission}
+use Rattle.route_model.specs.Moments.{IsMoment}
 use Rattle.intake.specs.declared.ring.Ring.{Ring}
 use Rattle.intake.specs.Ring.{sized, entry, octets_for, wrapped, size_of, HasOctets}
 
@@ -29,9 +30,9 @@ outlined o = sized (to_be_bytes w64 o.time ++ o.more)
 abbrev pub time_in : Outline → ℕ
 time_in o = o.time
 
--- the time is in whole seconds, and the octets are no more than those of an admission's encoding may be
+-- the time is a moment, and the octets are no more than those of an admission's encoding may be
 pub record IsOutline (o : Outline) : Type 0 where
-  pub time : o.time < 2 ^ 32
+  pub time : IsMoment o.time
   pub small : 8 + length o.more ≤ 131072
 
 -- The octets from the first used one up to a place are entries, one after another, with these times.

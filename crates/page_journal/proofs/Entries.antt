@@ -9,9 +9,10 @@ use Rattle.page_journal.specs.Layout.{Image, pages_of}
 use Rattle.page_journal.specs.inner.Writing.{HasImages}
 use Rattle.page_journal.specs.inner.Entering.{unhomed_after, with_entry}
 use Rattle.page_journal.specs.Recovers.{laid, AreDistinct, IsListed}
-use Rattle.page_journal.specs.Bookkeeping.{IsImage, is_among, place_of, unhomed_numbers, without}
+use Rattle.page_journal.specs.Bookkeeping.{IsImage, IsOf, is_among, place_of, unhomed_numbers, without}
 use Rattle.page_journal.specs.declared.unhomed.Unhomed.{Unhomed}
-use Rattle.page_journal.proofs.Placing.{images_more, place_here, place_there}
+use Rattle.page_journal.proofs.RingLemmas.{listed_among}
+use Rattle.page_journal.proofs.Placing.{of_more, place_here, place_there}
 
 -- ---- one entry
 
@@ -140,14 +141,21 @@ listed_after slot j (image ∷ rest) old n h =
 
 -- ---- what the entries say
 
-after_images : (slot j : ℕ) (named : List Image) (old : List Unhomed) → j + length named ≤ 31 → AllByRecursion (IsImage (slot + 1)) old → AllByRecursion (IsImage (slot + 1)) (unhomed_after slot j named old)
-after_images slot j [] old few all = all
-after_images slot j (image ∷ rest) old few all =
+-- each has P, if those of the post and the older ones have it
+pub all_after : (P : Unhomed → Type 0) (slot j : ℕ) (named : List Image) (old : List Unhomed) → ((k : ℕ) (image : Image) → k < j + length named → IsListed image.0 (pages_of named) → P (record { page = image.0; slot = slot; image = k }))
+    → AllByRecursion P old → AllByRecursion P (unhomed_after slot j named old)
+all_after P slot j [] old new all = all
+all_after P slot j (image ∷ rest) old new all =
     let v : Unhomed = record { page = image.0; slot = slot; image = j } in
-    after_images slot (suc j) rest (with_entry v old) (omega (arith, few)) (all_with (IsImage (slot + 1)) v old (record { slot = omega arith; image = omega (arith, few) }) all)
+    all_after P slot (suc j) rest (with_entry v old) (λ k i lt listed. new k i (omega (arith, lt)) (inr listed)) (all_with P v old (new j image (omega arith) (inl refl)) all)
 
-pub images_after : (slot : ℕ) (named : List Image) (old : List Unhomed) → length named ≤ 31 → AllByRecursion (IsImage slot) old → AllByRecursion (IsImage (slot + 1)) (unhomed_after slot 0 named old)
-images_after slot named old few all = after_images slot 0 named old (omega (arith, few)) (images_more slot (slot + 1) old (omega arith) all)
+pub images_after : (slot : ℕ) (named : List Image) (old : List Unhomed) → slot < 8 → length named ≤ 31 → AllByRecursion IsImage old → AllByRecursion IsImage (unhomed_after slot 0 named old)
+images_after slot named old low few all = all_after IsImage slot 0 named old (λ k image lt listed. record { slot = low; image = omega (arith, few, lt) }) all
+
+-- they are of the slots that were open and the new one
+pub opens_after : (slot : ℕ) (order more : List ℕ) (named : List Image) (old : List Unhomed) → IsListed slot more → ((t : ℕ) → IsListed t order → IsListed t more)
+    → AllByRecursion (IsOf order) old → AllByRecursion (IsOf more) (unhomed_after slot 0 named old)
+opens_after slot order more named old here goes of = all_after (IsOf more) slot 0 named old (λ k image lt listed. listed_among slot more here) (of_more order more old goes of)
 
 -- each page is shown at its place after a post: at the post's image, or where it stood
 pub posted_shown : (f : ℕ → ℕ) (slot : ℕ) (named : List Image) (j : ℕ) (old : List Unhomed) (pages : List (List ℕ)) (n : ℕ) → HasImages f slot j named → n < length pages

@@ -1,12 +1,15 @@
 -- Where the pages of the map stand.
-use Rattle.std.proofs.Common.{◌≡◌, ◌≢◌, ◌<◌, ◌≤◌, ◌⊎◌, inl, inr, ⊎_elim, ℕ, zero, suc, ◌+◌, ◌-◌, ◌==◌, ◌++◌, not, true, false, List, [], ◌∷◌, length, refl, sym, ◌∙◌, ap, subst, arith}
+use Rattle.std.proofs.Common.{◌≡◌, ◌≢◌, ◌<◌, ◌≤◌, ◌⊎◌, inl, inr, ⊎_elim, ℕ, suc, ◌+◌, ◌==◌, ◌++◌, not, true, false, List, [], ◌∷◌, length, flat_map, refl, sym, ◌∙◌, ap, subst, arith}
 use Rattle.std.specs.List.{AllByRecursion, filter}
 use Rattle.std.proofs.lemmas.Bool.{cases_eq, cond-true, cond-false}
 use Rattle.std.proofs.lemmas.Bool.Decides.{nat_tests}
-use Rattle.page_journal.specs.Layout.{gate_place, image_place, home_place}
+use Rattle.disk_models.specs.Octets.{octets}
+use Rattle.disk_models.proofs.api.OctetLemmas.{octets_agree}
+use Rattle.page_journal.specs.Layout.{Image, image_place, home_place, images, pages_of}
 use Rattle.page_journal.specs.Recovers.{AreBelow, IsListed}
-use Rattle.page_journal.specs.Bookkeeping.{IsImage, place_of, unhomed_numbers, open_slots, slots_from}
+use Rattle.page_journal.specs.Bookkeeping.{HasImage, IsImage, IsOf, place_of, unhomed_numbers}
 use Rattle.page_journal.specs.declared.unhomed.Unhomed.{Unhomed}
+use Rattle.page_journal.proofs.RingLemmas.{among_listed, listed_among}
 
 pub test_same : (m n : ℕ) → m ≡ n → (m == n) ≡ true
 test_same m n is = grind (arith, nat_tests)
@@ -20,27 +23,85 @@ place_here u rest n is = cond-true (u.page == n) (image_place u.slot u.image) (p
 pub place_there : (u : Unhomed) (rest : List Unhomed) (n : ℕ) → u.page ≢ n → place_of (u ∷ rest) n ≡ place_of rest n
 place_there u rest n ne = cond-false (u.page == n) (image_place u.slot u.image) (place_of rest n) (test_other u.page n ne)
 
--- home, or in an open slot
-pub place_cases : (l : List Unhomed) (n opened : ℕ) → AllByRecursion (IsImage opened) l → (place_of l n ≡ home_place n) ⊎ (place_of l n + 16384 ≤ gate_place opened)
-place_cases [] n opened all = inl refl
-place_cases (u ∷ rest) n opened all = ⊎_elim
-    (λ (is : u.page ≡ n). inr (omega (arith, place_here u rest n is, all.0.slot, all.0.image)))
-    (λ (ne : u.page ≡ n → ⊥). ⊎_elim (λ h. inl (place_there u rest n ne ∙ h)) (λ low. inr (omega (arith, place_there u rest n ne, low))) (place_cases rest n opened all.1))
+pub listed_left : (ks ls : List ℕ) (n : ℕ) → IsListed n ks → IsListed n (ks ++ ls)
+listed_left [] ls n h = absurd h
+listed_left (k ∷ ks) ls n h = ⊎_elim (λ e. inl e) (λ there. inr (listed_left ks ls n there)) h
+
+pub listed_right : (ks ls : List ℕ) (n : ℕ) → IsListed n ls → IsListed n (ks ++ ls)
+listed_right [] ls n h = h
+listed_right (k ∷ ks) ls n h = inr (listed_right ks ls n h)
+
+pub pages-append : (first then : List Image) → pages_of (first ++ then) ≡ pages_of first ++ pages_of then
+pages-append [] then = refl
+pages-append (image ∷ first) then = ap (λ (l : List ℕ). image.0 ∷ l) (pages-append first then)
+
+-- home, or an image in one of these slots
+pub place_cases : (l : List Unhomed) (n : ℕ) (order : List ℕ) → AllByRecursion IsImage l → AllByRecursion (IsOf order) l
+    → (place_of l n ≡ home_place n) ⊎ ((t : ℕ) × IsListed t order × (t < 8) × (image_place t 0 ≤ place_of l n) × (place_of l n + 16384 ≤ image_place t 31))
+place_cases [] n order all of = inl refl
+place_cases (u ∷ rest) n order all of = ⊎_elim
+    (λ (is : u.page ≡ n).
+    let place = place_here u rest n is in
+    inr (u.slot, among_listed u.slot order of.0, all.0.slot, omega (arith, place, all.0.image), omega (arith, place, all.0.image)))
+    (λ (ne : u.page ≡ n → ⊥).
+    let place = place_there u rest n ne in
+    ⊎_elim (λ h. inl (place ∙ h)) (λ there. inr (there.0, there.1, there.2, omega (arith, place, there.3), omega (arith, place, there.4))) (place_cases rest n order all.1 of.1))
     (cases_eq u.page n)
 
--- with more open slots too
-pub images_more : (opened more : ℕ) (l : List Unhomed) → opened ≤ more → AllByRecursion (IsImage opened) l → AllByRecursion (IsImage more) l
-images_more opened more [] le all = tt
-images_more opened more (u ∷ l) le all = (record { slot = omega (arith, all.0.slot, le); image = all.0.image }, images_more opened more l le all.1)
+-- what is read at its place hangs on the home pages and on the images of these slots alone
+pub place_same : (l : List Unhomed) (order : List ℕ) (f g : ℕ → ℕ) → AllByRecursion IsImage l → AllByRecursion (IsOf order) l → ((i : ℕ) → home_place 0 ≤ i → g i ≡ f i)
+    → ((t : ℕ) → IsListed t order → (i : ℕ) → image_place t 0 ≤ i → i < image_place t 31 → g i ≡ f i) → (n : ℕ) → octets g (place_of l n) 16384 ≡ octets f (place_of l n) 16384
+place_same l order f g all of home there n =
+    let at = place_of l n in
+    octets_agree g f at 16384 (λ i w. ⊎_elim
+    (λ (is : at ≡ home_place n). home i (omega (arith, is, w.0)))
+    (λ low. there low.0 low.1 i (omega (arith, low.3, w.0)) (omega (arith, low.4, w.1)))
+    (place_cases l n order all of))
+
+-- in more slots too
+pub of_more : (order more : List ℕ) (l : List Unhomed) → ((t : ℕ) → IsListed t order → IsListed t more) → AllByRecursion (IsOf order) l → AllByRecursion (IsOf more) l
+of_more order more [] goes all = tt
+of_more order more (u ∷ l) goes all = (listed_among u.slot more (goes u.slot (among_listed u.slot order all.0)), of_more order more l goes all.1)
+
+-- an image of each page that isn't home, among those of these slots
+pub images_listed : (f : ℕ → ℕ) (order : List ℕ) (t n : ℕ) → IsListed t order → IsListed n (pages_of (images f t)) → IsListed n (pages_of (flat_map (images f) order))
+images_listed f [] t n listed has = absurd listed
+images_listed f (u ∷ order) t n listed has = subst (IsListed n) (sym (pages-append (images f u) (flat_map (images f) order))) (⊎_elim
+    (λ (e : t ≡ u). listed_left (pages_of (images f u)) (pages_of (flat_map (images f) order)) n (subst (λ v. IsListed n (pages_of (images f v))) e has))
+    (λ there. listed_right (pages_of (images f u)) (pages_of (flat_map (images f) order)) n (images_listed f order t n there has))
+    listed)
+
+pub covered_listed : (f : ℕ → ℕ) (order : List ℕ) (l : List Unhomed) → AllByRecursion (IsOf order) l → AllByRecursion (HasImage f) l → (n : ℕ) → IsListed n (unhomed_numbers l) → IsListed n (pages_of (flat_map (images f) order))
+covered_listed f order [] of all n listed = absurd listed
+covered_listed f order (u ∷ l) of all n listed = ⊎_elim
+    (λ (e : n ≡ u.page). images_listed f order u.slot n (among_listed u.slot order of.0) (subst (λ m. IsListed m (pages_of (images f u.slot))) (sym e) all.0))
+    (λ there. covered_listed f order l of.1 all.1 n there)
+    listed
+
+-- where those slots have the same images
+pub has_same : (f g : ℕ → ℕ) (order : List ℕ) (l : List Unhomed) → ((t : ℕ) → IsListed t order → images g t ≡ images f t) → AllByRecursion (IsOf order) l → AllByRecursion (HasImage f) l → AllByRecursion (HasImage g) l
+has_same f g order [] same of all = tt
+has_same f g order (u ∷ l) same of all = (
+  subst (λ (is : List Image). IsListed u.page (pages_of is)) (sym (same u.slot (among_listed u.slot order of.0))) all.0,
+  has_same f g order l same of.1 all.1,
+)
+
+-- home, or among the images of these slots
+pub home_or_image : (f : ℕ → ℕ) (order : List ℕ) (l : List Unhomed) (n : ℕ) → AllByRecursion (IsOf order) l → AllByRecursion (HasImage f) l → ¬ IsListed n (pages_of (flat_map (images f) order)) → place_of l n ≡ home_place n
+home_or_image f order [] n of all out = refl
+home_or_image f order (u ∷ l) n of all out = ⊎_elim
+    (λ (is : u.page ≡ n). absurd (out (covered_listed f order (u ∷ l) of all n (inl (sym is)))))
+    (λ (ne : u.page ≡ n → ⊥). place_there u l n ne ∙ home_or_image f order l n of.1 all.1 out)
+    (cases_eq u.page n)
 
 -- the other entries, without those of one page
 abbrev pub others : ℕ → List Unhomed → List Unhomed
 others n l = filter (λ (u : Unhomed). not (u.page == n)) l
 
-others_here : (n : ℕ) (u : Unhomed) (l : List Unhomed) → u.page ≡ n → others n (u ∷ l) ≡ others n l
+pub others_here : (n : ℕ) (u : Unhomed) (l : List Unhomed) → u.page ≡ n → others n (u ∷ l) ≡ others n l
 others_here n u l is = cond-false (not (u.page == n)) (u ∷ others n l) (others n l) (ap not (test_same u.page n is))
 
-others_there : (n : ℕ) (u : Unhomed) (l : List Unhomed) → u.page ≢ n → others n (u ∷ l) ≡ u ∷ others n l
+pub others_there : (n : ℕ) (u : Unhomed) (l : List Unhomed) → u.page ≢ n → others n (u ∷ l) ≡ u ∷ others n l
 others_there n u l ne = cond-true (not (u.page == n)) (u ∷ others n l) (others n l) (ap not (test_other u.page n ne))
 
 -- that page is home then
@@ -96,51 +157,9 @@ pub none_unhomed : (l : List Unhomed) → unhomed_numbers l ≡ [] → l ≡ []
 none_unhomed [] none = refl
 none_unhomed (u ∷ l) none = absurd (omega (arith, ap (length {A = ℕ}) none))
 
-pub listed_left : (ks ls : List ℕ) (n : ℕ) → IsListed n ks → IsListed n (ks ++ ls)
-listed_left [] ls n h = absurd h
-listed_left (k ∷ ks) ls n h = ⊎_elim (λ e. inl e) (λ there. inr (listed_left ks ls n there)) h
-
-pub listed_right : (ks ls : List ℕ) (n : ℕ) → IsListed n ls → IsListed n (ks ++ ls)
-listed_right [] ls n h = h
-listed_right (k ∷ ks) ls n h = inr (listed_right ks ls n h)
-
 pub not_among : (n : ℕ) (ns : List ℕ) → AllByRecursion (λ m. n ≢ m) ns → ¬ IsListed n ns
 not_among n [] all listed = listed
 not_among n (m ∷ ns) all listed = ⊎_elim (λ e. all.0 e) (λ there. not_among n ns all.1 there) listed
-
--- the slots that are open
-pub slots_within : (k n t : ℕ) → IsListed t (slots_from k n) → (k ≤ t) × (t < k + n)
-slots_within k zero t h = absurd h
-slots_within k (suc n) t h = ⊎_elim
-    (λ (e : t ≡ k). (omega (arith, e), omega (arith, e)))
-    (λ there. let w = slots_within (suc k) n t there in (omega (arith, w.0), omega (arith, w.1))) h
-
-pub all_slots : (P : ℕ → Type 0) (k n : ℕ) → ((t : ℕ) → t < k + n → P t) → AllByRecursion P (slots_from k n)
-all_slots P k zero h = tt
-all_slots P k (suc n) h = (h k (omega arith), all_slots P (suc k) n (λ t lt. h t (omega (arith, lt))))
-
--- one more is open
-slots_push : (k n : ℕ) → slots_from k n ++ (k + n) ∷ [] ≡ slots_from k (suc n)
-slots_push k zero = let e : k + 0 ≡ k = omega arith in ap (λ t. t ∷ []) e
-slots_push k (suc n) =
-    let e : k + suc n ≡ suc k + n = omega arith in
-    ap (λ t. k ∷ slots_from (suc k) n ++ t ∷ []) e ∙ ap (λ (l : List ℕ). k ∷ l) (slots_push (suc k) n)
-
-pub open_push : (opened : ℕ) → open_slots opened ++ opened ∷ [] ≡ open_slots (opened + 1)
-open_push opened =
-    let here : 0 + opened ≡ opened = omega arith in
-    let next : suc opened ≡ opened + 1 = omega arith in
-    ap (λ t. open_slots opened ++ t ∷ []) (sym here) ∙ slots_push 0 opened ∙ ap open_slots next
-
--- the oldest of those that are left, and the others
-pub slots_first : (k n : ℕ) → k < n → slots_from k (n - k) ≡ k ∷ slots_from (k + 1) (n - (k + 1))
-slots_first k n lt =
-    let e : n - k ≡ suc (n - (k + 1)) = omega (arith, lt) in
-    let next : suc k ≡ k + 1 = omega arith in
-    ap (slots_from k) e ∙ ap (λ j. k ∷ slots_from j (n - (k + 1))) next
-
-pub slots_none : (k n : ℕ) → n ≤ k → slots_from k (n - k) ≡ []
-slots_none k n le = let e : n - k ≡ 0 = omega (arith, le) in ap (slots_from k) e
 
 -- a number that isn't among them isn't dropped
 pub none_listed : (ns : List ℕ) (n : ℕ) → ¬ IsListed n ns → ns ≡ filter (λ m. not (m == n)) ns

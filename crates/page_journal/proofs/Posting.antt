@@ -1,6 +1,5 @@
 -- The two steps of a post: a closed slot is filled, and then its gate is opened.
-use Rattle.std.proofs.Common.{◌≡◌, ◌<◌, ◌≤◌, ◌^◌, inl, inr, ⊎_elim, ℕ, suc, ◌+◌, ◌*◌, List, [], ◌∷◌, ◌++◌, length, flat_map, refl, sym, ◌∙◌, ap, subst, arith, append-nil}
-use Rattle.std.proofs.lemmas.Grind.{flat_map-append}
+use Rattle.std.proofs.Common.{◌≡◌, ◌<◌, ◌≤◌, ◌^◌, inl, inr, ⊎_elim, ℕ, suc, ◌+◌, ◌*◌, List, [], ◌∷◌, ◌++◌, length, length-append, refl, sym, ◌∙◌, ap, subst, arith}
 use Rattle.std.proofs.lemmas.Bool.{cases_eq}
 use Rattle.std.specs.List.{AllByRecursion}
 use Rattle.disk_models.specs.Octets.{octets, Within}
@@ -9,19 +8,21 @@ use Rattle.disk_models.proofs.api.Overlay.{overlay, overlay_out, before_crash}
 use Rattle.disk_models.proofs.api.Moments.{leaves_then, leaves_weaker, synced_leave}
 use Rattle.page_journal.specs.Layout.{Image, gate_place, header_place, image_place, number_from, IsOpen, transaction, images, pages_of}
 use Rattle.page_journal.specs.inner.Writing.{header_octets, Fills, OpensGate, HasImages}
-use Rattle.page_journal.specs.Bookkeeping.{AreNumbered, open_slots}
-use Rattle.page_journal.specs.Recovers.{laid, AreDistinct, AreBelow, IsWhole, RecoversBy, RecoversEither, RepresentsPages}
+use Rattle.page_journal.specs.Bookkeeping.{AreNumbered, open_slots, ring_slot}
+use Rattle.page_journal.specs.Recovers.{laid, AreDistinct, AreBelow, IsListed, IsWhole, RecoversBy, RecoversEither, RepresentsPages}
 use Rattle.page_journal.proofs.Staging.{ReadsAs, staged, length-header_octets}
-use Rattle.page_journal.proofs.Frame.{InBody, InSlot, SameSlot, same_open, same_reading, closed_same, each_same, contents_each}
+use Rattle.page_journal.proofs.Frame.{InBody, InSlot, SameSlot, same_open, same_reading, closed_same, whole_of}
 use Rattle.page_journal.proofs.Opening.{opened}
-use Rattle.page_journal.proofs.Placing.{slots_within, all_slots, open_push}
+use Rattle.page_journal.proofs.RingLemmas.{next_unlisted, ring_below}
 use Rattle.disk_models.proofs.api.OctetLemmas.{octets_agree}
 
 -- images that stand where nothing was written since
-stand_same : (f g : ℕ → ℕ) (slot : ℕ) → ((i : ℕ) → image_place slot 0 ≤ i → g i ≡ f i) → (named : List Image) (j : ℕ) → HasImages f slot j named → HasImages g slot j named
-stand_same f g slot agree [] j stand = tt
-stand_same f g slot agree (image ∷ rest) j stand =
-    (octets_agree g f (image_place slot j) 16384 (λ i w. agree i (omega (arith, w.0))) ∙ stand.0, stand_same f g slot agree rest (suc j) stand.1)
+pub stand_same : (f g : ℕ → ℕ) (slot : ℕ) → ((i : ℕ) → InBody slot i → g i ≡ f i) → (named : List Image) (j : ℕ) → j + length named ≤ 31 → HasImages f slot j named → HasImages g slot j named
+stand_same f g slot agree [] j few stand = tt
+stand_same f g slot agree (image ∷ rest) j few stand = (
+  octets_agree g f (image_place slot j) 16384 (λ i w. agree i (omega (arith, w.0), omega (arith, w.1, few))) ∙ stand.0,
+  stand_same f g slot agree rest (suc j) (omega (arith, few)) stand.1,
+)
 
 -- the slot is closed, and the open ones have lower numbers
 pub record IsFree (slot next : ℕ) (order : List ℕ) (f : ℕ → ℕ) : Type 0 where
@@ -101,77 +102,95 @@ module _ (homes : ℕ) (note order : List ℕ) (slot next : ℕ) (below : slot <
 
 -- what is posted has the number of its header
 pub posted_number : (homes slot next : ℕ) (named : List Image) (header : List ℕ) (s0 s1 s2 : DiskState) → length named ≤ 31 → next < 2 ^ 64 → 265 + homes < 2 ^ 50 → AreBelow homes (pages_of named)
-    → header ≡ header_octets next named → Fills slot header named s0 s1 → OpensGate slot s1 s2 → transaction s2.octet slot ≡ next
-posted_number homes slot next named header s0 s1 s2 few low small inside is_header fills opens =
+    → header ≡ header_octets next named → Fills slot header named s0 s1 → ((i : ℕ) → InBody slot i → s2.octet i ≡ s1.octet i) → transaction s2.octet slot ≡ next
+posted_number homes slot next named header s0 s1 s2 few low small inside is_header fills body =
     let long : length header ≡ 9 + 8 * length named = ap length is_header ∙ length-header_octets next named in
     let reads : ReadsAs s1.octet slot next named = staged s1.octet slot next homes named low (omega (arith, small)) inside (record {
       header = ap (λ n. octets s1.octet (header_place slot) n) (sym long) ∙ fills.header_stands ∙ is_header;
       stand = fills.images_stand;
     }) in
-    (same_reading s2.octet s1.octet slot (λ i w. opens.outside i (λ v. absurd (omega (arith, w.0, v.1)))) next named few reads).transaction_is
+    (same_reading s2.octet s1.octet slot body next named few reads).transaction_is
 
--- the first closed slot is free
-pub first_free : (homes : ℕ) (note : List ℕ) (opened : ℕ) (f : ℕ → ℕ) (pages : List (List ℕ)) → opened < 8 → RecoversBy homes note (open_slots opened) f pages → AreNumbered opened f → IsFree opened (opened + 1) (open_slots opened) f
-first_free homes note opened f pages room r numbered = record {
-  closed = λ is. let w = slots_within 0 opened opened (r.slots.all_open opened room is) in absurd (omega (arith, w.1));
-  lower = all_slots (λ t. transaction f t < opened + 1) 0 opened (λ t lt. omega (arith, lt, numbered t (omega (arith, lt))));
-}
+-- opening a gate writes no header and no image
+pub opens_body : (slot : ℕ) (s1 s2 : DiskState) → OpensGate slot s1 s2 → (i : ℕ) → InBody slot i → s2.octet i ≡ s1.octet i
+opens_body slot s1 s2 opens i w = opens.outside i (λ v. absurd (omega (arith, w.0, v.1)))
+
+-- so each is lower than the next
+numbers_below : (next : ℕ) (order : List ℕ) (f : ℕ → ℕ) → AreNumbered next order f → AllByRecursion (λ t. transaction f t < next) order
+numbers_below next [] f numbered = tt
+numbers_below next (t ∷ order) f numbered = (omega (arith, numbered.0), numbers_below next order f numbered.1)
+
+-- the slot that follows the open ones is free
+pub next_free : (homes : ℕ) (note : List ℕ) (first opened slot next : ℕ) (f : ℕ → ℕ) (pages : List (List ℕ)) → first < 8 → opened < 8 → slot ≡ ring_slot (first + opened) → RecoversBy homes note (open_slots first opened) f pages
+    → AreNumbered next (open_slots first opened) f → IsFree slot next (open_slots first opened) f
+next_free homes note first opened slot next f pages ring room is r numbered =
+    let low : slot < 8 = omega (arith, is, ring_below (first + opened) (omega (arith, ring, room))) in
+    record {
+      closed = λ open_now. next_unlisted first opened ring room (subst (λ k. IsListed k (open_slots first opened)) is (r.slots.all_open slot low open_now));
+      lower = numbers_below next (open_slots first opened) f numbered;
+    }
 
 -- the number of a slot hangs on its header alone
 pub number_same : (c d : ℕ → ℕ) (slot : ℕ) → ((i : ℕ) → Within (header_place slot) 8 i → c i ≡ d i) → transaction c slot ≡ transaction d slot
 number_same c d slot agree = ap number_from (octets_agree c d (header_place slot) 8 agree)
 
--- A whole post into the first closed slot.
-module _ (homes : ℕ) (note : List ℕ) (opened : ℕ) (room : opened < 8) (s0 s1 : DiskState) (pages : List (List ℕ)) (represents : RepresentsPages homes note (open_slots opened) s0 pages)
-    (numbered : (c : ℕ → ℕ) → MayLeave s0 c → AreNumbered opened c) (named : List Image) (header : List ℕ) where
-  free : (c : ℕ → ℕ) → MayLeave s0 c → IsFree opened (opened + 1) (open_slots opened) c
-  free c may = first_free homes note opened c pages room (represents c may) (numbered c may)
+-- the same numbers
+pub numbers_same : (next : ℕ) (order : List ℕ) (c d : ℕ → ℕ) → ((t : ℕ) → IsListed t order → transaction c t ≡ transaction d t) → AreNumbered next order d → AreNumbered next order c
+numbers_same next [] c d same numbered = tt
+numbers_same next (t ∷ order) c d same numbered = (omega (arith, same t (inl refl), numbered.0), numbers_same next order c d (λ u listed. same u (inr listed)) numbered.1)
 
-  pub fill_crash : Leaves s0 s1 (MayLeaveBut (header_place opened) 524288 s0) → Leaves s0 s1 (RecoversEither homes note pages (laid named pages))
-  fill_crash l = leaves_weaker s0 s1 (MayLeaveBut (header_place opened) 524288 s0) (RecoversEither homes note pages (laid named pages))
-      (λ d may. inl (open_slots opened, (torn_fill homes note (open_slots opened) opened (opened + 1) room s0 pages represents free d may).0)) l
+pub lower_still : (next : ℕ) (order : List ℕ) (c d : ℕ → ℕ) → ((t : ℕ) → IsListed t order → transaction c t ≡ transaction d t)
+    → AllByRecursion (λ t. transaction d t < next) order → AllByRecursion (λ t. transaction c t < next) order
+lower_still next [] c d same lower = tt
+lower_still next (t ∷ order) c d same lower = (omega (arith, same t (inl refl), lower.0), lower_still next order c d (λ u listed. same u (inr listed)) lower.1)
 
-  module _ (s2 : DiskState) (some : ¬ (length named ≡ 0)) (few : length named ≤ 31) (small : 265 + homes < 2 ^ 50) (below : AreBelow homes (pages_of named)) (distinct : AreDistinct (pages_of named))
-      (is_header : header ≡ header_octets (opened + 1) named) (fills : Fills opened header named s0 s1) where
-    pub gate_crash : Leaves s0 s1 (MayLeaveBut (header_place opened) 524288 s0) → Leaves s1 s2 (MayLeaveBut (gate_place opened) 1 s1) → Leaves s0 s2 (RecoversEither homes note pages (laid named pages))
+-- with the next number
+numbers_push : (next slot : ℕ) (order : List ℕ) (f : ℕ → ℕ) → transaction f slot ≡ next → AreNumbered next order f → AreNumbered (next + 1) (order ++ slot ∷ []) f
+numbers_push next slot [] f is numbered = (omega (arith, is), tt)
+numbers_push next slot (t ∷ order) f is numbered = (omega (arith, numbered.0, length-append order (slot ∷ [])), numbers_push next slot order f is numbered.1)
+
+-- A whole post into a free slot.
+module _ (homes : ℕ) (note order : List ℕ) (slot next : ℕ) (room : slot < 8) (s0 s1 : DiskState) (pages : List (List ℕ)) (represents : RepresentsPages homes note order s0 pages)
+    (free : (c : ℕ → ℕ) → MayLeave s0 c → IsFree slot next order c) (named : List Image) (header : List ℕ) where
+  pub fill_crash : Leaves s0 s1 (MayLeaveBut (header_place slot) 524288 s0) → Leaves s0 s1 (RecoversEither homes note pages (laid named pages))
+  fill_crash l = leaves_weaker s0 s1 (MayLeaveBut (header_place slot) 524288 s0) (RecoversEither homes note pages (laid named pages))
+      (λ d may. inl (order, (torn_fill homes note order slot next room s0 pages represents free d may).0)) l
+
+  module _ (s2 : DiskState) (some : ¬ (length named ≡ 0)) (few : length named ≤ 31) (low : next < 2 ^ 64) (small : 265 + homes < 2 ^ 50) (below : AreBelow homes (pages_of named)) (distinct : AreDistinct (pages_of named))
+      (is_header : header ≡ header_octets next named) (fills : Fills slot header named s0 s1) where
+    pub gate_crash : Leaves s0 s1 (MayLeaveBut (header_place slot) 524288 s0) → Leaves s1 s2 (MayLeaveBut (gate_place slot) 1 s1) → Leaves s0 s2 (RecoversEither homes note pages (laid named pages))
     gate_crash one two = leaves_then s0 s1 s2 (RecoversEither homes note pages (laid named pages)) (fill_crash one)
-        (leaves_weaker s1 s2 (MayLeaveBut (gate_place opened) 1 s1) (RecoversEither homes note pages (laid named pages))
-        (torn_gate homes note (open_slots opened) opened (opened + 1) room s0 pages represents free named header s1 (omega (arith, some)) few (omega (arith, room)) (omega (arith, small)) below distinct is_header fills) two)
+        (leaves_weaker s1 s2 (MayLeaveBut (gate_place slot) 1 s1) (RecoversEither homes note pages (laid named pages))
+        (torn_gate homes note order slot next room s0 pages represents free named header s1 (omega (arith, some)) few low (omega (arith, small)) below distinct is_header fills) two)
 
-    pub post_represents : OpensGate opened s1 s2 → RepresentsPages homes note (open_slots (opened + 1)) s2 (laid named pages)
-    post_represents opens = subst (λ (o : List ℕ). RepresentsPages homes note o s2 (laid named pages)) (open_push opened)
-        (posted homes note (open_slots opened) opened (opened + 1) room s0 pages represents free named header s1 (omega (arith, some)) few (omega (arith, room)) (omega (arith, small)) below distinct is_header fills s2 opens)
+    module _ (opens : OpensGate slot s1 s2) where
+      pub post_represents : RepresentsPages homes note (order ++ slot ∷ []) s2 (laid named pages)
+      post_represents = posted homes note order slot next room s0 pages represents free named header s1 (omega (arith, some)) few low (omega (arith, small)) below distinct is_header fills s2 opens
 
-    post_reads : OpensGate opened s1 s2 → ReadsAs s2.octet opened (opened + 1) named
-    post_reads opens = posted_images homes note (open_slots opened) opened (opened + 1) room s0 pages represents free named header s1 (omega (arith, some)) few (omega (arith, room)) (omega (arith, small)) below distinct is_header fills s2 opens
+      post_reads : ReadsAs s2.octet slot next named
+      post_reads = posted_images homes note order slot next room s0 pages represents free named header s1 (omega (arith, some)) few low (omega (arith, small)) below distinct is_header fills s2 opens
 
-    -- the images are read where they were written
-    pub post_stand : OpensGate opened s1 s2 → HasImages s2.octet opened 0 named
-    post_stand opens = stand_same s1.octet s2.octet opened (λ i high. opens.outside i (λ v. absurd (omega (arith, high, v.1)))) named 0 fills.images_stand
+      -- the images are read where they were written
+      pub post_stand : HasImages s2.octet slot 0 named
+      post_stand = stand_same s1.octet s2.octet slot (λ i w. opens.outside i (λ v. absurd (omega (arith, w.0, v.1)))) named 0 (omega (arith, few)) fills.images_stand
 
-    -- outside its slot nothing was written
-    pub post_outside : OpensGate opened s1 s2 → (i : ℕ) → ¬ InSlot opened i → s2.octet i ≡ s0.octet i
-    post_outside opens i out = opens.outside i (λ v. out (omega (arith, v.0), omega (arith, v.1))) ∙ fills.outside i (λ v. out (omega (arith, v.0), omega (arith, v.1)))
+      pub post_images : images s2.octet slot ≡ named
+      post_images = post_reads.images_are
 
-    -- the next number
-    pub post_numbered : OpensGate opened s1 s2 → (c : ℕ → ℕ) → MayLeave s2 c → AreNumbered (opened + 1) c
-    post_numbered opens c may t lt =
-        ap (λ (f : ℕ → ℕ). transaction f t) (synced_leave s2 c opens.settled may) ∙ ⊎_elim
-        (λ (e : t ≡ opened). ap (transaction s2.octet) e ∙ (post_reads opens).transaction_is ∙ ap (λ n. n + 1) (sym e))
-        (λ (ne : t ≡ opened → ⊥).
-        number_same s2.octet s0.octet t (λ i w. post_outside opens i (λ v. absurd (omega (arith, ne, w.0, w.1, v.0, v.1))))
-        ∙ numbered s0.octet (λ i settled. refl) t (omega (arith, ne, lt)))
-        (cases_eq t opened)
+      -- outside its slot nothing was written
+      pub post_outside : (i : ℕ) → ¬ InSlot slot i → s2.octet i ≡ s0.octet i
+      post_outside i out = opens.outside i (λ v. out (omega (arith, v.0), omega (arith, v.1))) ∙ fills.outside i (λ v. out (omega (arith, v.0), omega (arith, v.1)))
 
-    -- the images of all open slots
-    pub post_all_images : OpensGate opened s1 s2 → flat_map (images s2.octet) (open_slots (opened + 1)) ≡ flat_map (images s0.octet) (open_slots opened) ++ named
-    post_all_images opens =
-        let r : RecoversBy homes note (open_slots opened) s0.octet pages = represents s0.octet (λ i settled. refl) in
-        let shut : ¬ IsOpen s0.octet opened = (free s0.octet (λ i settled. refl)).closed in
-        let same : flat_map (images s2.octet) (open_slots opened) ≡ flat_map (images s0.octet) (open_slots opened) =
-        contents_each homes s2.octet s0.octet (open_slots opened) (each_same homes s2.octet s0.octet (open_slots opened)
-        (λ t h w. same_open homes s2.octet s0.octet opened room (post_outside opens) shut t w) r.slots.whole) in
-        ap (flat_map (images s2.octet)) (sym (open_push opened))
-        ∙ flat_map-append (images s2.octet) (open_slots opened) (opened ∷ [])
-        ∙ ap (λ (l : List Image). flat_map (images s2.octet) (open_slots opened) ++ l) (append-nil (images s2.octet opened) ∙ (post_reads opens).images_are)
-        ∙ ap (λ (l : List Image). l ++ named) same
+      -- the open slots are the same
+      post_slots : (t : ℕ) → IsListed t order → SameSlot s2.octet s0.octet t
+      post_slots t listed =
+          let here : MayLeave s0 s0.octet = λ i settled. refl in
+          same_open homes s2.octet s0.octet slot room post_outside (free s0.octet here).closed t (whole_of homes s0.octet t order listed (represents s0.octet here).slots.whole)
+
+      pub post_others : (t : ℕ) → IsListed t order → images s2.octet t ≡ images s0.octet t
+      post_others t listed = (post_slots t listed).contents
+
+      pub post_numbered : AreNumbered next order s0.octet → (c : ℕ → ℕ) → MayLeave s2 c → AreNumbered (next + 1) (order ++ slot ∷ []) c
+      post_numbered numbered c may = subst (AreNumbered (next + 1) (order ++ slot ∷ [])) (sym (synced_leave s2 c opens.settled may))
+          (numbers_push next slot order s2.octet post_reads.transaction_is
+          (numbers_same next order s2.octet s0.octet (λ t listed. (post_slots t listed).number) numbered))

@@ -1,16 +1,17 @@
 //! The journal.
-ghost use Rattle.std.specs.Prelude.{◌≡◌, ◌≢◌, ◌≤◌, ◌<◌, ◌^◌, ◌+◌, ◌-◌, ◌*◌, ◌↔◌, ◌==◌, [], ℕ, List, length, OnOk, OnErr, IfOk, IfErr, IsOk, IsErr, IsErrOf, IfSome, IsNone, true, false, not, filter, Some, slice_get, replicate, ◌++◌};
+ghost use Rattle.std.specs.Prelude.{◌≡◌, ◌≢◌, ◌≤◌, ◌<◌, ◌^◌, ◌+◌, ◌-◌, ◌*◌, ◌%◌, ◌↔◌, ◌==◌, [], ℕ, List, length, OnOk, OnErr, IfOk, IfErr, IsOk, IsErr, IsErrOf, IfSome, IsNone, IsTrue, true, false, not, filter, Some, slice_get, replicate, ◌++◌};
 ghost use Rattle.disk_models.specs.Erase.{Leaves, Stays};
 ghost use Rattle.disk_models.specs.Serves.{Serves};
 ghost use Rattle.std.specs.List.{AllByRecursion, AllByRecursion-prop};
 ghost use Rattle.std.proofs.Props.{props};
-ghost use Rattle.page_journal.specs.Bookkeeping.{IsImage, unhomed_numbers, without};
-ghost use Rattle.page_journal.specs.Layout.{homes_from, pages_of, transaction, home_place};
+ghost use Rattle.page_journal.specs.Bookkeeping.{IsImage, IsOf, open_slots, unhomed_numbers, waiting_in};
+ghost use Rattle.page_journal.specs.Layout.{homes_from, pages_of, home_place};
 ghost use Rattle.page_journal.specs.Recovers.{laid, AreBelow, AreDistinct, IsListed, NoneOrJournal, Recovers, RecoversEither};
 
 use crate::error::{CreateError, OpenError, PostError, UseError};
-use crate::layout::{FIRST_HOME, IMAGES, PAGE, SLOTS, UNHOMED};
+use crate::layout::{FIRST_HOME, IMAGES, MOST_NUMBER, PAGE, SLOTS, UNHOMED};
 use crate::refused::Refused;
+use crate::ring::ring_slot;
 use crate::unhomed::Unhomed;
 use crate::{create, examine, gate, slot, unhomed};
 use arrayvec::ArrayVec;
@@ -19,7 +20,7 @@ use std::alloc::Global;
 
 /// Home pages on an erasable disk, some of which are replaced at once by a post, whatever a crash tears.
 ///
-/// Each post takes one of eight slots, and a checkpoint gives all back. After a write or a sync failed, each call,
+/// Each post takes one of eight slots. A checkpoint gives all back, and a post that closes the oldest one gives that back. After a write or a sync failed, each call,
 /// except those that only report something or return the disk, is refused as needing recovery, until the journal is opened
 /// again.
 #[derive(Drop)]
@@ -27,21 +28,28 @@ pub struct Journal<D: EraseDisk + Drop> {
     disk: D,
     homes: u64,
     note: [u8; 11],
+    first: u64,
     opened: u64,
+    next: u64,
     unhomed: ArrayVec<Unhomed, UNHOMED>,
     needs_recovery: bool,
     ghost room: { home_place homes ≤ D.octet_count disk },
     ghost small: { 265 + homes < 2 ^ 50 },
+    ghost ring: { first < 8 },
     ghost eight: { opened ≤ 8 },
-    ghost few: { length unhomed.items ≤ 31 * opened },
-    ghost images: { AllByRecursion (IsImage opened) unhomed.items } by { AllByRecursion-prop (IsImage opened) (λ u. Prim.hlevel props) unhomed.items },
+    ghost numbers: { next ≤ 2 ^ 63 + opened },
+    ghost placed: { next % 8 ≡ (first + opened + 1) % 8 },
+    ghost begins: { opened ≡ 0 → (first ≡ 0) × (next ≡ 1) },
+    ghost few: { (slot : ℕ) → length (waiting_in slot unhomed.items) ≤ 31 },
+    ghost images: { AllByRecursion IsImage unhomed.items } by { AllByRecursion-prop IsImage (λ u. Prim.hlevel props) unhomed.items },
+    ghost opens: { AllByRecursion (IsOf (open_slots first opened)) unhomed.items } by { AllByRecursion-prop (IsOf (open_slots first opened)) (λ u. Prim.hlevel props) unhomed.items },
     ghost below: { AreBelow homes (unhomed_numbers unhomed.items) } by { AllByRecursion-prop (λ n. n < homes) (λ n. Prim.hlevel props) (unhomed_numbers unhomed.items) },
 }
 
 impl<D: EraseDisk + Drop> Journal<D> {
-    ghost use Rattle.page_journal.specs.Journal.{Keeps, closed_slots, opened_slots, disk_of, home_pages, needs_recovery, note_of, unhomed_pages};
+    ghost use Rattle.page_journal.specs.Journal.{Keeps, GivesBack, closed_slots, opened_slots, oldest_slot_pages, disk_of, home_pages, needs_recovery, note_of, unhomed_pages};
     ghost use Rattle.page_journal.specs.Refusals.{CreateRefusal, PostRefusal, PostsAt, UseRefusal, IsOpening, IsFaultOrMemory, OpenRefusal};
-    ghost use Rattle.page_journal.specs.Calls.{IsDown, IsIdle, SameButDisk, SameJournal, TakesSlot};
+    ghost use Rattle.page_journal.specs.Calls.{IsDown, IsIdle, SameButDisk, SameJournal, TakesSlot, TakesTurn};
     ghost use Rattle.page_journal.specs.Outcome.{disk_after, outcome};
 
     /// Makes a journal with `homes` home pages on a disk. The pages keep the disk's octets.
@@ -93,7 +101,9 @@ impl<D: EraseDisk + Drop> Journal<D> {
                 disk,
                 homes,
                 note,
+                first: 0,
                 opened: 0,
+                next: 1,
                 unhomed: ArrayVec::new(),
                 needs_recovery: false,
             }),
@@ -133,7 +143,9 @@ impl<D: EraseDisk + Drop> Journal<D> {
                     disk,
                     homes: identity.homes,
                     note,
+                    first: 0,
                     opened: 0,
+                    next: 1,
                     unhomed: ArrayVec::new(),
                     needs_recovery: false,
                 })
@@ -163,7 +175,7 @@ impl<D: EraseDisk + Drop> Journal<D> {
         self.unhomed.len()
     }
 
-    /// How many of its eight slots are closed. A post takes one.
+    /// How many of its eight slots are closed. A post takes one, and that of the last may give one back.
     pub fn closed(&self) -> usize
         ensures closed { result ≡ closed_slots self.now }
     {
@@ -259,14 +271,82 @@ impl<D: EraseDisk + Drop> Journal<D> {
         if self.opened == SLOTS {
             return Err(PostError::JournalFull);
         }
-        let slot = self.opened;
-        let header = slot::header(slot + 1, images);
+        let slot = ring_slot(self.first + self.opened);
+        let header = slot::header(self.next, images);
         self.needs_recovery = true;
         slot::fill(&mut self.disk, slot, &header, images)?;
         slot::open_gate(&mut self.disk, slot)?;
         self.needs_recovery = false;
-        self.opened = slot + 1;
+        self.opened += 1;
+        self.next += 1;
         unhomed::enter_all(&mut self.unhomed, slot, images);
+        Ok(())
+    }
+
+    /// A page that keeps the oldest open slot from being given back: its newest image is there, and it isn't home.
+    pub fn oldest_slot_page(&self) -> Option<u64>
+        ensures page { result ≡ slice_get (oldest_slot_pages self.now) 0 }
+        ensures listed { IfSome result (λ n. IsListed n (unhomed_pages self.now)) }
+        ensures below { IfSome result (λ n. n < home_pages self.now) }
+    {
+        unhomed::first_in(&self.unhomed, self.first)
+    }
+
+    /// Whether the next post can close the oldest slot as it takes the last closed one: each page of the oldest slot is
+    /// home, or has a newer image. Transactions are numbered until a checkpoint, so it needs a number that is small enough, too.
+    pub fn gives_back(&self) -> bool
+        ensures { IsTrue result ↔ GivesBack D.EraseDisk self.now }
+    {
+        self.opened + 1 == SLOTS && self.next < MOST_NUMBER && self.oldest_slot_page().is_none()
+    }
+
+    /// Replaces pages, all of them or none, and closes the oldest slot. A post of no page does nothing.
+    ///
+    /// It is a post in two syncs, which also settle what was written home, and no checkpoint: of the other slots, each
+    /// stays open. One gate is opened as the other is closed. A crash may leave either of both: all pages of the oldest slot
+    /// are home or in later slots, so that recovery gives the same pages with it and without it.
+    pub fn post_closing(&mut self, images: &[(u64, Page)]) -> Result<(), PostError>
+        requires below { AreBelow (home_pages self.old) (pages_of images.now) }
+        requires distinct { AreDistinct (pages_of images.now) }
+        requires gives { GivesBack D.EraseDisk self.old }
+
+        // Each crash from the call's start on leaves the pages from before it or those with all the images.
+        ensures crash { D.honest (disk_of self.old) → (pages : List (List ℕ)) → Keeps D.EraseDisk self.old pages
+            → Leaves (D.model (disk_of self.old)) (D.model (disk_of self.new))
+            (RecoversEither (home_pages self.old) (note_of self.old) pages (laid images.now pages)) }
+        ensures posted { D.honest (disk_of self.old) → (pages : List (List ℕ)) → Keeps D.EraseDisk self.old pages
+            → OnOk result (Keeps D.EraseDisk self.new (laid images.now pages)) }
+
+        ensures accepted { OnOk result (PostsAt (needs_recovery self.old) (length images.now) (closed_slots self.old)) }
+        ensures refused { IfErr result (PostRefusal (needs_recovery self.old) (length images.now) (closed_slots self.old)) }
+
+        // A refusal before the first write leaves all as it was. After another the disk must be opened again.
+        ensures unchanged { IfErr result (λ e. e ≢ PostError.Fault → self.new ≡ self.old) }
+        ensures failed { IsErrOf result PostError.Fault → IsDown D.EraseDisk self.old self.new }
+
+        ensures empty { length images.now ≡ 0 → self.new ≡ self.old }
+        ensures taken { 0 < length images.now → OnOk result (TakesTurn D.EraseDisk images.now self.old self.new) }
+        ensures journal { SameJournal D.EraseDisk self.old self.new (IsErrOf result PostError.Fault) }
+    {
+        if self.needs_recovery {
+            return Err(PostError::NeedsRecovery);
+        }
+        if images.is_empty() {
+            return Ok(());
+        }
+        if IMAGES < images.len() {
+            return Err(PostError::TooManyImages);
+        }
+        let free = ring_slot(self.first + self.opened);
+        let number = self.next;
+        let header = slot::header(number, images);
+        self.needs_recovery = true;
+        slot::fill(&mut self.disk, free, &header, images)?;
+        gate::turn(&mut self.disk, free, self.first)?;
+        self.needs_recovery = false;
+        self.first = ring_slot(self.first + 1);
+        self.next = number + 1;
+        unhomed::enter_all(&mut self.unhomed, free, images);
         Ok(())
     }
 
@@ -322,6 +402,7 @@ impl<D: EraseDisk + Drop> Journal<D> {
 
         ensures idle { closed_slots self.old ≡ 8 → self.new ≡ self.old }
         ensures closed { OnOk result (closed_slots self.new ≡ 8) }
+        ensures begins { OnOk result (IsIdle D.EraseDisk self.new) }
         ensures unhomed { unhomed_pages self.new ≡ unhomed_pages self.old }
         ensures usable { OnOk result (needs_recovery self.new ≡ false) }
         ensures journal { SameJournal D.EraseDisk self.old self.new (IsErrOf result UseError.Fault) }
@@ -334,9 +415,11 @@ impl<D: EraseDisk + Drop> Journal<D> {
         }
         self.needs_recovery = true;
         self.disk.sync()?;
-        gate::close_first(&mut self.disk, self.opened)?;
+        gate::close_open(&mut self.disk, self.first, self.opened)?;
         self.needs_recovery = false;
+        self.first = 0;
         self.opened = 0;
+        self.next = 1;
         Ok(())
     }
 }

@@ -39,3 +39,7 @@ pub const OPEN: u8 = 0xa5;
 
 /// The octet of a closed gate, as it is written.
 pub const CLOSED: u8 = 0;
+
+/// No transaction of this number or a higher one closes the oldest slot. A journal that came to it would make a checkpoint, and begin with 1
+/// again.
+pub const MOST_NUMBER: u64 = 1 << 63;

@@ -4,7 +4,7 @@ ghost use Rattle.std.specs.List.{AllByRecursion-prop};
 ghost use Rattle.std.proofs.Props.{props};
 ghost use Rattle.disk_models.specs.Erase.{Leaves};
 ghost use Rattle.page_journal.specs.Calls.{IsDown, IsIdle, SameJournal};
-ghost use Rattle.page_journal.specs.Journal.{closed_slots, disk_of, home_pages, needs_recovery, note_of, opened_slots, unhomed_pages};
+ghost use Rattle.page_journal.specs.Journal.{GivesBack, closed_slots, disk_of, home_pages, needs_recovery, note_of, oldest_slot_pages, opened_slots, unhomed_pages};
 ghost use Rattle.page_journal.specs.Layout.{pages_of};
 ghost use Rattle.page_journal.specs.Recovers.{AreBelow, AreDistinct, IsListed, Recovers, RecoversEither};
 ghost use Rattle.page_journal.specs.Refusals.{PostRefusal, PostsAt, UseRefusal};
@@ -83,9 +83,11 @@ impl<D: EraseDisk + Drop> Tx<D> {
         ensures refused { IfErr result (PostRefusal (needs_recovery (journal_of (pool_of self.old))) (length (named_pages self.old)) (closed_slots (journal_of (pool_of self.old)))) }
         ensures few { IsErrOf result PostError.TooManyImages → ⊥ }
 
-        // One slot is taken if an image was held, and otherwise none.
+        // One slot is taken if an image was held, and otherwise none. If that is the last and the oldest one is needed no
+        // more, the oldest is closed.
         ensures empty { length (named_pages self.old) ≡ 0 → journal_of (pool_of self.new) ≡ journal_of (pool_of self.old) }
-        ensures taken { 0 < length (named_pages self.old) → OnOk result (opened_slots (journal_of (pool_of self.new)) ≡ opened_slots (journal_of (pool_of self.old)) + 1) }
+        ensures taken { 0 < length (named_pages self.old) → ¬ GivesBack D.EraseDisk (journal_of (pool_of self.old)) → OnOk result (opened_slots (journal_of (pool_of self.new)) ≡ opened_slots (journal_of (pool_of self.old)) + 1) }
+        ensures turned { 0 < length (named_pages self.old) → GivesBack D.EraseDisk (journal_of (pool_of self.old)) → OnOk result (opened_slots (journal_of (pool_of self.new)) ≡ opened_slots (journal_of (pool_of self.old))) }
 
         // The pages of the images are dirty then, after those that were.
         ensures dirty { 0 < length (named_pages self.old) → OnOk result (unhomed_pages (journal_of (pool_of self.new)) ≡ joined (unhomed_pages (journal_of (pool_of self.old))) (named_pages self.old)) }
@@ -122,6 +124,30 @@ impl<D: EraseDisk + Drop> Tx<D> {
         ensures journal { SameJournal D.EraseDisk (journal_of (pool_of self.old)) (journal_of (pool_of self.new)) (IsErrOf result UseError.Fault) }
     {
         self.pool.checkpoint()
+    }
+
+    /// Makes room for a commit, and for one that leaves a slot closed: if one is left, the pages go home that only the
+    /// oldest open slot has; if none is left, a checkpoint is made. The images stay as they are.
+    pub fn make_room(&mut self) -> Result<(), UseError>
+        ensures crash { (start : Start) (shown : List (List ℕ)) → Shows D.EraseDisk self.old start shown
+            → Leaves (D.model (disk_of (journal_of (pool_of self.old)))) (D.model (disk_of (journal_of (pool_of self.new))))
+            (λ c. Recovers (home_pages (journal_of (pool_of self.old))) start.note c start.pages) }
+        ensures shown { (start : Start) (shown : List (List ℕ)) → Shows D.EraseDisk self.old start shown → needs_recovery (journal_of (pool_of self.new)) ≡ false
+            → Shows D.EraseDisk self.new (record { note = start.note; pages = start.pages; clock = (D.model (disk_of (journal_of (pool_of self.new)))).clock }) shown }
+
+        ensures room { OnOk result (0 < closed_slots (journal_of (pool_of self.new))) }
+        ensures last { OnOk result (closed_slots (journal_of (pool_of self.new)) ≡ 1 → oldest_slot_pages (journal_of (pool_of self.new)) ≡ []) }
+        ensures idle { 1 < closed_slots (journal_of (pool_of self.old)) → pool_of self.new ≡ pool_of self.old }
+        ensures opened { 0 < closed_slots (journal_of (pool_of self.old)) → opened_slots (journal_of (pool_of self.new)) ≡ opened_slots (journal_of (pool_of self.old)) }
+        ensures as_dirty { (n : ℕ) → IsListed n (unhomed_pages (journal_of (pool_of self.new))) → IsListed n (unhomed_pages (journal_of (pool_of self.old))) }
+        ensures ok { OnOk result ((needs_recovery (journal_of (pool_of self.old)) ≡ false) × (needs_recovery (journal_of (pool_of self.new)) ≡ false)) }
+        ensures refused { IfErr result (UseRefusal (needs_recovery (journal_of (pool_of self.old)))) }
+        ensures unchanged { IsErrOf result UseError.NeedsRecovery → pool_of self.new ≡ pool_of self.old }
+        ensures named { named_pages self.new ≡ named_pages self.old }
+        ensures next { next_page self.new ≡ next_page self.old }
+        ensures journal { SameJournal D.EraseDisk (journal_of (pool_of self.old)) (journal_of (pool_of self.new)) (IsErrOf result UseError.Fault) }
+    {
+        self.pool.make_room()
     }
 
     /// Writes the page home that was dirty longest. Returns whether there was one. The images stay as they are.

@@ -1,4 +1,5 @@
 use Rattle.std.proofs.Common.{◌≡◌, ◌≤◌, ◌+◌, ◌++◌, ◌∷◌, [], ℕ, Option, None, Some, SomeIff, arith, refl, sym, ◌∙◌, ap, subst}
+use Rattle.route_model.specs.Moments.{latest_moment}
 use Rattle.std.specs.Int.{w64, to_be_bytes}
 use Rattle.intake.specs.Outlines.{ReportsTimes}
 use Rattle.intake.proofs.Representing.{used_octets, used_length, used_stand}
@@ -38,7 +39,7 @@ returns-in_default-clause-breaks g c page is start shown times are reported =
           let f = follows shown ring c.args.at next time times stood long stand le reported more in
           let same = follows_time ring c.args.at c.length_and_time-len.result.1 stood c.deref.result.now f front c.length_and_time-len.ensures.time in
           let low = f.valid.time in
-          absurd (not_none c.new.result (c.length_and_time-len.result.1 ≤ 4294967295) c.length_and_time-len.result.1 c.new.ensures.moment c.in_default.not-Some (omega (arith, same)));
+          absurd (not_none c.new.result (c.length_and_time-len.result.1 ≤ latest_moment) c.length_and_time-len.result.1 c.new.ensures.moment c.in_default.not-Some (omega (arith, same)));
     }
 
 pub returns-then-len-lt8-clause-breaks : goal.returns-then-len-lt8-clause-breaks

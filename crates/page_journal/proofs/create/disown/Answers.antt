@@ -2,7 +2,7 @@ use Rattle.std.proofs.Common.{◌∙◌, ap, sym}
 use Rattle.std.proofs.lemmas.Result.{on_ok_weaker}
 use Rattle.page_journal.specs.Identity.{HasNoJournal}
 use Rattle.page_journal.proofs.Staging.{one}
-use Rattle.page_journal.proofs.Creating.{first_sync, read_crash, other_disowned, spoilt_crash, disowned_crash, disowned_done}
+use Rattle.page_journal.proofs.Creating.{first_sync, read_crash, spoilt_crash, disowned_crash, disowned_done}
 use Rattle.page_journal.proofs.create.disown.Goals as goal
 
 pub returns-in_err-sync-clause-crash : goal.returns-in_err-sync-clause-crash

@@ -1,7 +1,8 @@
-use Rattle.std.proofs.Common.{arith, List, refl, sym, subst}
-use Rattle.page_journal.specs.Bookkeeping.{unhomed_numbers}
+use Rattle.std.proofs.Common.{List, refl, sym, subst}
+use Rattle.std.specs.List.{AllByRecursion}
+use Rattle.page_journal.specs.Bookkeeping.{HasImage}
 use Rattle.page_journal.specs.Layout.{homes_from}
-use Rattle.page_journal.specs.Recovers.{laid, IsListed}
+use Rattle.page_journal.specs.Recovers.{laid}
 use Rattle.page_journal.specs.declared.unhomed.Unhomed.{Unhomed}
 use Rattle.page_journal.proofs.Keeping.{ShownAt, stands_represents, stands_shown}
 use Rattle.page_journal.proofs.journal.Journal.create_with.Goals as goal
@@ -16,6 +17,6 @@ returns-in-Ok-clause-created g c h =
       usable = refl;
       represents = stands_represents c.args.homes c.args.note s pages stands;
       shown = subst (λ (l : List Unhomed). ShownAt c.args.homes l s.octet pages) (sym none) (stands_shown c.args.homes c.args.note s pages stands);
-      covered = λ n listed d may. absurd (subst (λ (l : List Unhomed). IsListed n (unhomed_numbers l)) none listed);
-      numbered = λ d may t lt. absurd (omega (arith, lt));
+      covered = λ d may. subst (AllByRecursion (HasImage d)) (sym none) tt;
+      numbered = λ d may. tt;
     }

@@ -1,19 +1,9 @@
-use Rattle.std.proofs.Common.{◌≡◌, ◌<◌, ◌∙◌, ℕ, List, Option, Some, None, IfSome, ap, sym}
+use Rattle.std.proofs.Common.{◌∙◌, List, ap}
 use Rattle.std.specs.List.{slice_get}
-use Rattle.page_journal.specs.Recovers.{IsListed, AreBelow}
 use Rattle.page_journal.specs.Bookkeeping.{unhomed_numbers}
 use Rattle.page_journal.specs.declared.unhomed.Unhomed.{Unhomed}
-use Rattle.page_journal.proofs.Listing.{listed_there}
-use Rattle.page_journal.proofs.Placing.{listed_below}
+use Rattle.page_journal.proofs.Listing.{if_at, if_below}
 use Rattle.page_journal.proofs.journal.Journal.oldest_unhomed.Goals as goal
-
-if_at : (ns : List ℕ) (k : ℕ) (o : Option ℕ) → o ≡ slice_get ns k → IfSome o (λ n. IsListed n ns)
-if_at ns k None is = tt
-if_at ns k (Some n) is = listed_there ns k n (sym is)
-
-if_below : (ns : List ℕ) (homes : ℕ) (o : Option ℕ) → AreBelow homes ns → IfSome o (λ n. IsListed n ns) → IfSome o (λ n. n < homes)
-if_below ns homes None below listed = tt
-if_below ns homes (Some n) below listed = listed_below homes ns n below listed
 
 pub returns-clause-oldest : goal.returns-clause-oldest
 returns-clause-oldest g c =

@@ -1,6 +1,6 @@
-use Rattle.std.proofs.Common.{arith, List, refl, sym, subst}
-use Rattle.page_journal.specs.Bookkeeping.{unhomed_numbers}
-use Rattle.page_journal.specs.Recovers.{IsListed}
+use Rattle.std.proofs.Common.{List, refl, sym, subst}
+use Rattle.std.specs.List.{AllByRecursion}
+use Rattle.page_journal.specs.Bookkeeping.{HasImage}
 use Rattle.page_journal.specs.declared.unhomed.Unhomed.{Unhomed}
 use Rattle.page_journal.proofs.Keeping.{ShownAt, stands_represents, stands_shown}
 use Rattle.page_journal.proofs.journal.Journal.open.Goals as goal
@@ -15,6 +15,6 @@ returns-in-Ok-clause-opened g c h pages r =
       usable = refl;
       represents = stands_represents id.homes id.note s pages stands;
       shown = subst (λ (l : List Unhomed). ShownAt id.homes l s.octet pages) (sym none) (stands_shown id.homes id.note s pages stands);
-      covered = λ n listed d may. absurd (subst (λ (l : List Unhomed). IsListed n (unhomed_numbers l)) none listed);
-      numbered = λ d may t lt. absurd (omega (arith, lt));
+      covered = λ d may. subst (AllByRecursion (HasImage d)) (sym none) tt;
+      numbered = λ d may. tt;
     }

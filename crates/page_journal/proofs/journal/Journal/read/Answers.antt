@@ -13,7 +13,7 @@ returns-in_err-read_from-clause-keeps g c h pages keeps =
       usable = keeps.usable;
       represents = λ d may. keeps.represents d (stays_may_leave s0 s1 d stays may);
       shown = λ n lt. keeps.shown n lt ∙ ap (λ (f : ℕ → ℕ). Some (octets f (place_of c.args.self.now.unhomed.items n) 16384)) (sym stays.same);
-      covered = λ n listed d may. keeps.covered n listed d (stays_may_leave s0 s1 d stays may);
+      covered = λ d may. keeps.covered d (stays_may_leave s0 s1 d stays may);
       numbered = λ d may. keeps.numbered d (stays_may_leave s0 s1 d stays may);
     }
 
@@ -26,6 +26,6 @@ returns-clause-keeps g c h pages keeps =
       usable = keeps.usable;
       represents = λ d may. keeps.represents d (stays_may_leave s0 s1 d stays may);
       shown = λ n lt. keeps.shown n lt ∙ ap (λ (f : ℕ → ℕ). Some (octets f (place_of c.args.self.now.unhomed.items n) 16384)) (sym stays.same);
-      covered = λ n listed d may. keeps.covered n listed d (stays_may_leave s0 s1 d stays may);
+      covered = λ d may. keeps.covered d (stays_may_leave s0 s1 d stays may);
       numbered = λ d may. keeps.numbered d (stays_may_leave s0 s1 d stays may);
     }
