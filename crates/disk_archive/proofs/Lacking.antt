@@ -1,5 +1,5 @@
 -- Where a change is refused since there are too few pages, levels or blocks, and where there are enough.
-use Rattle.std.proofs.Common.{◌≡◌, ◌≢◌, ◌<◌, ◌≤◌, ◌⊎◌, inl, inr, ℕ, suc, Bool, List, [], ◌∷◌, refl, sym, ◌∙◌, subst, arith, Result, Ok, Err}
+use Rattle.std.proofs.Common.{◌≡◌, ◌≢◌, ◌≤◌, inl, inr, ℕ, suc, Bool, List, [], ◌∷◌, refl, sym, ◌∙◌, subst, arith, Result, Ok, Err}
 use Rattle.std.specs.Prelude.{IfErr}
 use Rattle.page_tx.specs.declared.error.PageError.{PageError}
 use Rattle.page_tx.specs.declared.error.PageError.TheVariants as pages

@@ -17,6 +17,7 @@ mod Keeping
 mod Taking
 mod Stepping
 mod Reaching
+mod Running
 mod Burning
 mod Applied
 mod Looking

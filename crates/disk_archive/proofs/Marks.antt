@@ -1,5 +1,6 @@
 -- A mark is raised: in the pages that are shown, in what is kept in memory, and in the history.
 use Rattle.std.proofs.Common.{◌≡◌, ◌≢◌, ◌⊎◌, inl, inr, ⊎_elim, ◌<◌, ◌≤◌, ◌↔◌, ℕ, zero, suc, Bool, true, false, List, [], ◌∷◌, length, set, refl, sym, ◌∙◌, ap, subst, arith, Some, Result, Ok, Err, true≢false, length-set, get_or-set_same, get_or-set_other}
+use Rattle.route_model.specs.Moments.{last_mark}
 use Rattle.std.specs.Prelude.{IsErrAnd}
 use Rattle.std.specs.List.{slice_get, slice_set}
 use Rattle.std.proofs.lemmas.Bool.{cases_lt}
@@ -63,7 +64,7 @@ represents_present a h c mark i here m k = subst (λ (g : History). Represents a
 
 -- The head with the mark is laid over page 0, and the pages represent the history with the mark.
 pub mark_planned : (count : ℕ) (s : Settings) (o : OnceState) (old new : List (List ℕ) → Type 0) (head next : Contents) (shown : List (List ℕ)) (h : History) (c mark : ℕ) (lane : Lane)
-    → HeadRepresents (TreeLocated count) s (settled_in o) head shown h → HasLane head c lane → (IsMarkAbove h c mark → ⊥) → mark ≤ 4294967296
+    → HeadRepresents (TreeLocated count) s (settled_in o) head shown h → HasLane head c lane → (IsMarkAbove h c mark → ⊥) → mark ≤ last_mark
     → next ≡ with_lane head c (record lane { mark = mark }) → IsHead next → 0 < length shown → new (slice_set shown 0 (head_octets next))
     → Planned count s (settled_in o) new next (marked h c mark)
 mark_planned count s o old new head next shown h c mark lane b at below low same is_head some written =

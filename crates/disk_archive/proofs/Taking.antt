@@ -80,7 +80,7 @@ pub shown_below : (shown : List (List ℕ)) (nodes : ℕ → Option PageNode) �
 shown_below shown nodes represents_node page node at = let s = represents_node page node at in slice_get_within shown page s.octets s.at
 
 -- a page by what is at its place
-page_of : (old new : List (List ℕ)) (n : ℕ) → slice_get new n ≡ slice_get old n → page_at new n ≡ page_at old n
+pub page_of : (old new : List (List ℕ)) (n : ℕ) → slice_get new n ≡ slice_get old n → page_at new n ≡ page_at old n
 page_of [] [] n e = refl
 page_of [] (y ∷ new) zero e = cc
 page_of [] (y ∷ new) (suc n) e = page_of [] new n e

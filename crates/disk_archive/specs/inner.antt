@@ -4,6 +4,7 @@ pub mod Idle
 pub mod Marked
 pub mod Flushed
 pub mod Applications
+pub mod Runs
 pub mod Outcomes
 pub mod Looking
 pub mod Looked

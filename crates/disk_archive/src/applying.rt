@@ -104,10 +104,11 @@ impl<E: EraseDisk + Drop, O: OnceDisk + Drop> Archive<E, O> {
     }
 
     /// Applies the next changes, of the first pending admission and of those after it, of any collector: as many as surely fit one
-    /// transaction, up to 1,000, and none that isn't below every mark. An admission without changes counts as a change, and is applied at
-    /// once. With its last change an admission is wholly applied, and leaves its ring.
+    /// transaction, and none that isn't below every mark, in up to 1,000 runs: changes of one admission, one after another, into one leaf.
+    /// An admission without changes counts as a run, and is applied at once. With its last change an admission is wholly applied, and leaves
+    /// its ring.
     ///
-    /// Blocks that are burnt for it, at most two a change, are settled before a page is written. If a change after the first one is
+    /// Blocks that are burnt for it, at most two a run, are settled before a page is written. If a change after the first one is
     /// refused, the changes before it are applied, and the refusal is left to the next call. A failure of a device is returned by the call
     /// in which it occurs, at whichever change: then none is applied, and the next call plans them anew, in further blocks.
     ///

@@ -1,11 +1,11 @@
 //! Commits a transaction: the one place where a call that changes the history writes to the erasable disk. It is given no
 //! shelf, so that whatever a call burns is settled before.
 
-ghost use Rattle.std.specs.Prelude.{◌≡◌, ◌≢◌, ◌<◌, ◌⊎◌, ℕ, List, [], OnOk, OnErr, IfOk, IfErr, IsErrOf, Err, true, false};
+ghost use Rattle.std.specs.Prelude.{◌≡◌, ◌≢◌, ◌⊎◌, ℕ, List, [], OnOk, OnErr, IfOk, IfErr, IsErrOf, Err, true, false};
 ghost use Rattle.disk_models.specs.Erase.{Leaves};
 ghost use Rattle.page_journal.specs.Calls.{SameJournal};
-ghost use Rattle.page_journal.specs.Journal.{closed_slots, disk_of, home_pages, needs_recovery, note_of};
-ghost use Rattle.page_journal.specs.Recovers.{Recovers, RecoversEither};
+ghost use Rattle.page_journal.specs.Journal.{disk_of, home_pages, needs_recovery, note_of};
+ghost use Rattle.page_journal.specs.Recovers.{RecoversEither};
 ghost use Rattle.page_journal.specs.Refusals.{UseRefusal};
 ghost use Rattle.buffer_pool.specs.Pool.{Maps, journal_of};
 ghost use Rattle.page_tx.specs.Start.{Start};
@@ -30,29 +30,9 @@ fn refusal(error: PostError) -> UseError
     }
 }
 
-// Ensures that a slot of the journal is closed.
-fn make_room<E: EraseDisk + Drop>(tx: &mut Tx<E>) -> Result<(), UseError>
-    ensures crash { (start : Start) (shown : List (List ℕ)) → Shows E.EraseDisk tx.old start shown
-        → Leaves (E.model (disk_of (journal_of (pool_of tx.old)))) (E.model (disk_of (journal_of (pool_of tx.new)))) (λ c. Recovers (home_pages (journal_of (pool_of tx.old))) start.note c start.pages) }
-    ensures shown { (start : Start) (shown : List (List ℕ)) → Shows E.EraseDisk tx.old start shown → needs_recovery (journal_of (pool_of tx.new)) ≡ false
-        → (clock : ℕ) × Shows E.EraseDisk tx.new (record { note = start.note; pages = start.pages; clock = clock }) shown }
-    ensures kept { (start : Start) (shown : List (List ℕ)) → Shows E.EraseDisk tx.old start shown
-        → OnOk result ((clock : ℕ) × Shows E.EraseDisk tx.new (record { note = start.note; pages = start.pages; clock = clock }) shown) }
-    ensures down { OnOk result (needs_recovery (journal_of (pool_of tx.new)) ≡ needs_recovery (journal_of (pool_of tx.old))) }
-    ensures room { OnOk result (0 < closed_slots (journal_of (pool_of tx.new))) }
-    ensures refused { IfErr result (UseRefusal (needs_recovery (journal_of (pool_of tx.old)))) }
-    ensures unchanged { IsErrOf result UseError.NeedsRecovery → pool_of tx.new ≡ pool_of tx.old }
-    ensures named { named_pages tx.new ≡ named_pages tx.old }
-    ensures journal { SameJournal E.EraseDisk (journal_of (pool_of tx.old)) (journal_of (pool_of tx.new)) (IsErrOf result UseError.Fault) }
-{
-    if tx.pool().closed() > 0 {
-        return Ok(());
-    }
-    tx.checkpoint()
-}
-
-/// Makes the pages that are shown those of the pool, all of them or none. If no slot of the journal is closed, a checkpoint
-/// comes first. After a refusal the pages are those of the start, or the archive must be opened again.
+/// Makes the pages that are shown those of the pool, all of them or none. If one slot of the journal is left, the pages go
+/// home first that only the oldest open slot has, and the commit closes that slot. If none is left, a checkpoint comes first.
+/// After a refusal the pages are those of the start, or the archive must be opened again.
 pub(crate) fn commit<E: EraseDisk + Drop>(tx: &mut Tx<E>) -> Result<(), UseError>
     ensures crash { (start : Start) (shown : List (List ℕ)) → Shows E.EraseDisk tx.old start shown
         → Leaves (E.model (disk_of (journal_of (pool_of tx.old)))) (E.model (disk_of (journal_of (pool_of tx.new)))) (RecoversEither (home_pages (journal_of (pool_of tx.old))) start.note start.pages shown) }
@@ -63,7 +43,7 @@ pub(crate) fn commit<E: EraseDisk + Drop>(tx: &mut Tx<E>) -> Result<(), UseError
     ensures falls { needs_recovery (journal_of (pool_of tx.old)) ≡ false → needs_recovery (journal_of (pool_of tx.new)) ≡ true → result ≡ Err UseError.Fault }
     ensures journal { SameJournal E.EraseDisk (journal_of (pool_of tx.old)) (journal_of (pool_of tx.new)) (IsErrOf result UseError.Fault) }
 {
-    make_room(tx)?;
+    tx.make_room()?;
     match tx.commit() {
         Ok(()) => Ok(()),
         Err(error) => Err(refusal(error)),

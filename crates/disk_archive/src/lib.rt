@@ -3,16 +3,17 @@
 //!     a call                              write-once disk   erasable disk             a crash then leaves
 //!     begin, read pages, plan in memory                     reads                     the history of before
 //!     the tree takes versions             burn, settle      reads                     that, and blocks to which nothing refers
-//!     if no slot is closed: checkpoint                      pages home, sync, gates   that
+//!     if one slot is left: pages of the oldest              pages home                that
 //!     header and images                                     a slot's pages, sync      that
-//!     the gate                                              one octet, sync           that of before, or that of after
+//!     the gate, and if so 0 for the oldest                  one or two octets, sync   that of before, or that of after
 //!     the head in memory is replaced                                                  that of after
 //!
 //! Nothing is burnt after the first erasable write: `commit`, by which a call changes the history, is given a transaction and no shelf.
 //! So what a crash inside a call leaves is stated with the write-once disk as it is after the call (`Crashes`). `RepresentsIfHonest` is an
 //! implication, from disks that follow their models, so the same program serves disks of which nothing is promised, as files.
 //!
-//! A step of applying goes on with the next change while one image has room beside the head's: most changes set one page, or none. If
+//! A step of applying goes on with the next change while one image has room beside the head's: most changes set one page, or none.
+//! Changes of an admission that follow one another into one leaf are a run: one descent, one copy of its page, one image. If
 //! a leaf is full, the tree asks for room for a split, 2 l + 3 pages at level l, before a block is burnt; without it the step ends before
 //! that change, which is the first of the next step and has room there. A step commits nothing if a
 //! device failed: `Applied` would hide the failure, and with `Fault` a refused call would have changed the history. The
@@ -66,6 +67,7 @@ mod opening;
 mod planning;
 mod planning_application;
 mod planning_changes;
+mod planning_run;
 mod reading;
 mod recalling;
 mod refused;

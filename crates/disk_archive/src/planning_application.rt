@@ -80,8 +80,8 @@ pub(crate) fn front_of<P: Pages>(
     }
 }
 
-// The version of the next change of the admission, where it has one.
-fn next_version(
+/// The version of the next change of the admission, where it has one.
+pub(crate) fn next_version(
     alloc: Global,
     head: &Head,
     admission: &Admission,

@@ -17,11 +17,12 @@ ghost use Rattle.disk_archive.specs.Failures.{ReportsOne};
 ghost use Rattle.disk_archive.specs.Lacks.{HasRoom, IsNextVersion};
 ghost use Rattle.disk_archive.specs.Mirrors.{Mirrors};
 ghost use Rattle.disk_archive.specs.Trees.{TreeLocated};
-ghost use Rattle.disk_archive.specs.inner.Applications.{Advances, ApplyRefusal, FrontRefusal, IsPlan, KeepsBlocks, LackRefusal, LimitRefusal, OfApply, PlansMove, Reached, Reaches};
+ghost use Rattle.disk_archive.specs.inner.Applications.{Advances, ApplyRefusal, FrontRefusal, IsAtHand, IsPlan, KeepsBlocks, LackRefusal, LimitRefusal, OfApply, PlansMove, Reached, Reaches};
 
 use crate::apply_error::{ApplyError, of_pages};
 use crate::change_error::ChangeError;
 use crate::planning_application::{front_of, plan_change};
+use crate::planning_run::plan_run;
 use crate::stop::Stop;
 use archive_head::Head;
 use archive_pages::{Settings, copy_head, put_head};
@@ -35,8 +36,8 @@ use std::alloc::Global;
 // Of how many pages, without the head's, a transaction may hold images.
 const MOST_IMAGES: usize = 30;
 
-// How many changes are applied at most after the first one of a transaction.
-const MORE_CHANGES: u32 = 999;
+// How many runs of changes, each into one leaf, are applied at most after the first change of a transaction.
+const MORE_RUNS: u32 = 999;
 
 /// An admission that waits, and its collector.
 #[derive(Drop)]
@@ -257,7 +258,46 @@ fn find_front<P: Pages>(
     Ok(())
 }
 
-// Applies one more change, where an image has room, one may be, and it isn't refused.
+// Applies those next changes of the admission at hand that fall into one leaf which has room for them, and returns whether there are such.
+// If there are none, and after a refusal, the plan is as it was.
+fn plan_leaf<P: Pages>(
+    alloc: Global,
+    pages: &mut P,
+    settings: Settings,
+    sequencer: &Sequencer,
+    plan: &mut Plan,
+) -> Result<bool, ChangeError>
+    requires lanes { length plan.old.head.lanes ≡ length sequencer.now }
+    requires count { length plan.old.ahead ≡ length sequencer.now }
+    requires at_hand { IsAtHand settings plan.old.head (beyond plan.old.ahead sequencer.now) plan.old.front }
+    requires hand { plan.old.whole ≡ false }
+    requires few { length (P.named pages.old) < 30 }
+    ensures reaches { (count : ℕ) (o : OnceState) (start : Start) (h : History) → Reached count settings (settled_in o) (P.shows pages.old start) sequencer.now plan.old h → Reaches count settings (settled_in o) (P.shows pages.new start) sequencer.now plan.new h }
+    ensures fits { (block : ℕ) → IsPlan settings (P.homes pages.old) (P.next pages.old) block sequencer.now plan.old → IsPlan settings (P.homes pages.new) (P.next pages.new) block sequencer.now plan.new }
+    ensures as_before { result ≡ Ok false → plan.new ≡ plan.old }
+    ensures refused { OnErr result (plan.new ≡ plan.old) }
+    ensures as_shown { result ≡ Ok false → (start : Start) (shown : List (List ℕ)) → P.shows pages.old start shown → P.shows pages.new start shown }
+    ensures as_named { result ≡ Ok false → P.named pages.new ≡ P.named pages.old }
+    ensures few { length (P.named pages.new) ≤ 30 }
+    ensures shows { (start : Start) (shown : List (List ℕ)) → P.shows pages.old start shown → (after : List (List ℕ)) × P.shows pages.new start after }
+    ensures homes { P.homes pages.new ≡ P.homes pages.old }
+    ensures down { P.down pages.new ≡ P.down pages.old }
+    ensures device { KeepsDevice (P.honest pages.old) (P.honest pages.new) (P.faults pages.old) (P.faults pages.new) (result ≡ Err (ChangeError.Apply ApplyError.Fault)) }
+{
+    let mut head = copy_head(alloc, &plan.head)?;
+    let collector = plan.front.collector;
+    let admission = plan.front.admission.admission();
+    let Some(all) = plan_run(alloc, pages, settings, &mut head, collector, admission)? else {
+        return Ok(false);
+    };
+    plan.head = head;
+    pass_whole(sequencer, &mut plan.ahead, collector, all);
+    plan.whole = all;
+    Ok(true)
+}
+
+// Applies further changes, where an image has room, one may be, and it isn't refused: those that fall into one leaf with room for them,
+// or the next one alone.
 fn plan_another<P: Pages, O: OnceDisk + Drop>(
     alloc: Global,
     pages: &mut P,
@@ -285,6 +325,9 @@ fn plan_another<P: Pages, O: OnceDisk + Drop>(
         return Err(Stop::Enough);
     }
     find_front(alloc, pages, settings, sequencer, plan)?;
+    if plan_leaf(alloc, pages, settings, sequencer, plan)? {
+        return Ok(());
+    }
     plan_step(alloc, pages, shelf, settings, sequencer, plan)?;
     Ok(())
 }
@@ -314,7 +357,7 @@ fn plan_more<P: Pages, O: OnceDisk + Drop>(
     ensures honest { P.honest pages.old ↔ P.honest pages.new }
     ensures failed { ReportsOne (P.faults pages.old) (P.faults pages.new) (O.pen_fault_count (pen_of shelf.old)) (O.pen_fault_count (pen_of shelf.new)) (IsErr result) }
 {
-    for _ in 0..MORE_CHANGES {
+    for _ in 0..MORE_RUNS {
         match plan_another(alloc, pages, shelf, settings, sequencer, plan) {
             Ok(()) => {}
             Err(Stop::Enough) => return Ok(()),

@@ -91,7 +91,7 @@ whole_read w decoded image column parts start leaf = record {
 -- the leaf of a page is current
 pub leaf_at : (b : Bounds) (versions : List Version) (image : List ℕ) → IsLeafPage (record { bounds = b; versions = versions }) image → IsLeafPage (record { bounds = bounds_from b.low b.high b.start; versions = versions }) image
 leaf_at b versions image leaf =
-    let same : b ≡ bounds_from b.low b.high b.start = λ i. record { low = b.low; high = b.high; start = b.start; end = leaf.page.current i } in
+    let same : b ≡ bounds_from b.low b.high b.start = λ i. record { low = b.low; high = b.high; start = b.start; end = leaf.current i } in
     subst (λ (x : Bounds). IsLeafPage (record { bounds = x; versions = versions }) image) same leaf
 
 pub decoded_at : (shown : List (List ℕ)) (page : ℕ) (octets : List ℕ) (node : PageNode) → slice_get shown page ≡ Some octets → RepresentsNode shown page node → PageRepresents octets node

@@ -110,6 +110,7 @@ module _ {O Pen Seen : Type 0} (device : Ghosts O Pen Seen) (shelf : Shelf O Pen
 pub record IsFound (s : Store) (all : List Version) (place next : PagePlace) (children : List Child) : Type 0 where
   pub at : s.nodes place.page ≡ Some (KeyNode (suc next.level) (keys_at place) children)
   pub represents_all : NodeRepresentsIn s all next.level (keys_at next) next.page
+  pub low : place.low ≤ next.low
   pub high : high_or next.high ≤ high_or place.high
 
 pub found_lower : (shown : List (List ℕ)) (s : Store) (all : List Version) (key : ℕ) (place next : PagePlace) → RepresentNodes shown s.nodes → (lower : IsLower shown key place next) → 1 < place.level → NodeRepresentsIn s all place.level (keys_at place) place.page → IsFound s all place next lower.children
@@ -125,6 +126,7 @@ found_lower shown s all key place next are lower above represents_all =
     record {
       at = k.at ∙ ap (λ (m : ℕ). Some (KeyNode (suc m) (keys_at place) k.children)) level ∙ ap (λ (cs : List Child). Some (KeyNode (suc next.level) (keys_at place) cs)) children;
       represents_all = subst (λ (m : ℕ). NodeRepresentsIn s all m (keys_at next) next.page) level (k.stand (keys_at next) (record { low = next.low; page = next.page }) child);
+      low = (k.are.inside (keys_at next) (record { low = next.low; page = next.page }) child).0;
       high = (k.are.inside (keys_at next) (record { low = next.low; page = next.page }) child).2;
     }
 

@@ -24,6 +24,7 @@ pub mod Raising
 pub mod Insertion
 pub mod Roots
 pub mod Looks
+pub mod Unread
 pub mod Beginning
 pub mod LackingRoom
 pub mod Crowding
@@ -31,3 +32,4 @@ pub mod Needing
 pub mod Outliving
 pub mod Excluding
 pub mod OneWay
+pub mod OpenLeaves

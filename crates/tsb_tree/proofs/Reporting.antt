@@ -7,7 +7,7 @@ use Rattle.tsb_node.specs.Views.{PageRepresents}
 use Rattle.tsb_walk.specs.Shown.{RepresentNodes}
 use Rattle.tsb_tree.proofs.Laying.{put, put_same, put_other}
 
-get-set_same : {X : Type 0} (xs : List X) (n : ℕ) (x : X) → n < length xs → slice_get (set xs n x) n ≡ Some x
+pub get-set_same : {X : Type 0} (xs : List X) (n : ℕ) (x : X) → n < length xs → slice_get (set xs n x) n ≡ Some x
 get-set_same [] n x lt = absurd (omega arith)
 get-set_same (y ∷ xs) zero x lt = refl
 get-set_same (y ∷ xs) (suc n) x lt = get-set_same xs n x (omega arith)

@@ -1,5 +1,5 @@
 -- What pages represent is what is read from them.
-use Rattle.std.proofs.Common.{◌≡◌, ℕ, zero, suc, ◌+◌, List, [], ◌∷◌, Some, Result, Err, min, slice_get, replicate, refl, sym, ◌∙◌, ap, subst}
+use Rattle.std.proofs.Common.{◌≡◌, ℕ, zero, suc, ◌+◌, List, [], ◌∷◌, Some, Result, Err, min, slice_get, refl, sym, ◌∙◌, ap, subst}
 use Rattle.std.specs.List.{AllByRecursion}
 use Rattle.std.proofs.lemmas.Option.{same_Some, none-some}
 use Rattle.version_model.specs.declared.part.Part.{Part}
@@ -12,6 +12,7 @@ use Rattle.tsb_node.specs.Columns.{ColumnInPage, IsColumnPage}
 use Rattle.tsb_node.specs.KeyNodes.{KeyNodeInPage, IsKeyNodePage}
 use Rattle.tsb_node.specs.Parts.{BeginsAsColumn}
 use Rattle.tsb_node.specs.Children.{BeginsAsKeyNode}
+use Rattle.tsb_node.proofs.api.Pages.{column_begins, key_node_begins}
 use Rattle.page_tx.specs.declared.pages.Pages.{Ghosts}
 use Rattle.page_tx.specs.declared.error.PageError.TheVariants as refusals
 use Rattle.tsb_walk.specs.Refusals.{OnlyReads}
@@ -29,7 +30,7 @@ pub record ColumnOf (octets : List ℕ) (k : Keys) (parts : List Part) (start cu
 
 pub column_of : (octets : List ℕ) (node : PageNode) (k : Keys) (parts : List Part) (start current : ℕ) → node ≡ ColumnNode k parts start current → PageRepresents octets node → ColumnOf octets k parts start current
 column_of octets _ k parts start current e (represents_leaf leaf p) = absurd (cc)
-column_of octets _ k parts start current e (represents_column column p) = record { column = column; page = p; begins = record { valid = p.valid; last = replicate 32 0; encoded = p.page.encoded }; is = e }
+column_of octets _ k parts start current e (represents_column column p) = record { column = column; page = p; begins = column_begins column octets p; is = e }
 column_of octets _ k parts start current e (represents_key_node node p) = absurd (cc)
 
 pub record LeafOf (octets : List ℕ) (k : Keys) (start : ℕ) (versions : List Version) : Type 0 where
@@ -51,7 +52,7 @@ pub record KeyNodeOf (octets : List ℕ) (level : ℕ) (k : Keys) (children : Li
 pub key_node_of_page : (octets : List ℕ) (node : PageNode) (level : ℕ) (k : Keys) (children : List Child) → node ≡ KeyNode level k children → PageRepresents octets node → KeyNodeOf octets level k children
 key_node_of_page octets _ level k children e (represents_leaf leaf p) = absurd (cc)
 key_node_of_page octets _ level k children e (represents_column column p) = absurd (cc)
-key_node_of_page octets _ level k children e (represents_key_node node p) = record { node = node; page = p; begins = record { valid = p.valid; last = replicate 32 0; encoded = p.page.encoded }; is = e }
+key_node_of_page octets _ level k children e (represents_key_node node p) = record { node = node; page = p; begins = key_node_begins node octets p; is = e }
 
 pub each_get : {X : Type 0} (P : X → Type 0) (xs : List X) (i : ℕ) (x : X) → AllByRecursion P xs → slice_get xs i ≡ Some x → P x
 each_get P [] i x all at = absurd (none-some x at)

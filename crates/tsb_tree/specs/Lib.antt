@@ -16,5 +16,6 @@ pub mod Opened
 pub mod NoRoom
 pub mod Needs
 pub mod InPlace
+pub mod OpenLeaves
 pub mod Outlived
 pub mod inner

@@ -10,6 +10,8 @@
 //!     the column's page has no room for one part more       its past moves into one block first (`pack`)
 //!     a key node gets one child too many                    it is split, up to a new root; at most six levels of key nodes
 //!
+//! Further versions of one leaf need no new descent: [`open_leaf`] copies its page, [`push_version`] adds to the copy, the caller lays it.
+//!
 //! A column's page before and after a split by time, with a version at stamp u:
 //!
 //!     [block 7, from 0] [block 9, from s] [current leaf: page 12, from t]
@@ -35,6 +37,7 @@ mod growing_whole;
 mod inserting;
 mod key_nodes;
 mod layout;
+mod leaf_opening;
 mod looking;
 mod new_root;
 mod opening;
@@ -50,6 +53,7 @@ mod whole;
 
 pub use error::TreeError;
 pub use inserting::insert;
+pub use leaf_opening::{OpenLeaf, open_leaf, push_version};
 pub use looking::Tree;
 pub use opening::open;
 pub use tree::{TreePlace, create, first_images};

@@ -1,4 +1,4 @@
-use Rattle.std.proofs.Common.{◌≡◌, ◌⊎◌, inl, inr, ◌+◌, ◌∷◌, ◌++◌, [], ℕ, length, min, refl, sym, ◌∙◌, ap, subst, arith, Err}
+use Rattle.std.proofs.Common.{◌≡◌, inl, inr, ◌+◌, ◌∷◌, ◌++◌, [], ℕ, length, min, refl, sym, ◌∙◌, ap, subst, arith, Err}
 use Rattle.std.proofs.lemmas.Bool.{false≢true}
 use Rattle.disk_models.specs.Once.{settled_in}
 use Rattle.once_store.specs.Shelves.{disk_of, next_of, pen_of}
@@ -17,7 +17,7 @@ use Rattle.tsb_tree.specs.Needs.{NeedsLevel, NeedsPages}
 use Rattle.tsb_tree.specs.Shelves.{HasNoneBlank}
 use Rattle.tsb_tree.specs.Refusals.{BlamesNone, InsertRefusal, ReadRefusal}
 use Rattle.disk_archive.specs.inner.Applications.{TreeTakes}
-use Rattle.disk_archive.proofs.Failing.{reports_both, reports_first, reports_none, reports_then, reports_as, tree_apart}
+use Rattle.disk_archive.proofs.Failing.{reports_both, reports_first, reports_then, reports_as, tree_apart}
 use Rattle.disk_archive.proofs.Faults.{done_not_reported, one_reported}
 use Rattle.tsb_tree.specs.Outlived.{LeadsToOutdated}
 use Rattle.tsb_tree.proofs.Roots.{tree_root}

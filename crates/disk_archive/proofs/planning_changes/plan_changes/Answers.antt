@@ -1,4 +1,4 @@
-use Rattle.std.proofs.Common.{rules, ◌≡◌, [], ◌∷◌, ℕ, List, length, true, refl, sym, ◌∙◌, ap, subst, arith, Ok, Err}
+use Rattle.std.proofs.Common.{rules, ◌≡◌, [], ◌∷◌, ℕ, length, true, refl, sym, ◌∙◌, ap, subst, arith, Ok, Err}
 use Rattle.std.specs.Prelude.{IsErr}
 use Rattle.std.specs.List.{slice_set}
 use Rattle.disk_models.specs.Once.{settled_in}
