@@ -3,3 +3,4 @@ mod Serving
 mod Asking
 mod Reporting
 mod Renewing
+mod Lanes

@@ -1,5 +1,5 @@
 -- Which trouble a call returns, by the refusal of the archive.
-use Rattle.std.proofs.Common.{◌≡◌, ◌∙◌, ◌⊎◌, ◌↔◌, ◌<◌, ◌+◌, ℕ, Bool, true, false, List, length, sum_by, Err, Result, inl, inr, refl, sym, min, ⊎_elim}
+use Rattle.std.proofs.Common.{◌≡◌, ◌∙◌, ◌⊎◌, ◌↔◌, ◌<◌, ◌+◌, ℕ, Bool, true, false, List, length, sum_by, Err, Result, inl, inr, refl, sym, min}
 use Rattle.disk_models.specs.declared.erase.EraseDisk.{Ghosts as EraseGhosts}
 use Rattle.disk_models.specs.declared.once.OnceDisk.{Ghosts as OnceGhosts}
 use Rattle.route_meaning.specs.History.{History, applied}
@@ -40,6 +40,11 @@ up true down' isnt falls = absurd (isnt refl)
 up false true isnt falls = absurd (falls refl refl)
 up false false isnt falls = (refl, refl)
 
+-- an archive that goes on with a history is on disks that follow their models
+pub honest_of : {E O Pen Seen : Type 0} {erase : EraseGhosts E} {once : OnceGhosts O Pen Seen} (a : Archive E O Pen Seen erase once) (h : History) → GoesOn a h → IsHonest a
+honest_of a h (inl represents) = represents.honest
+honest_of a h (inr waits) = waits.honest
+
 module _ {E O Pen Seen : Type 0} {erase : EraseGhosts E} {once : OnceGhosts O Pen Seen} (a b : Archive E O Pen Seen erase once) where
   -- it needn't be opened again where this refusal is returned, which is neither that one must recover nor a failure
   stays_up : {R X : Type 0} (e need fault : X) → ((◌≡◌ {A = Result R X} (Err e) (Err need)) ↔ (is_down a ≡ true)) → (is_down a ≡ false → is_down b ≡ true → ◌≡◌ {A = Result R X} (Err e) (Err fault)) → (e ≡ need → ⊥) → (e ≡ fault → ⊥) → StaysUp a b
@@ -47,10 +52,6 @@ module _ {E O Pen Seen : Type 0} {erase : EraseGhosts E} {once : OnceGhosts O Pe
 
   turned : is_down a ≡ false → is_down b ≡ true → is_down b ≡ is_down a → ⊥
   turned l r same = let both : true ≡ false = sym r ∙ (same ∙ l) in absurd cc
-
-  -- an archive that goes on with a history is on disks that follow their models
-  honest_going : (h : History) → GoesOn a h → IsHonest a
-  honest_going h = ⊎_elim (λ represents. represents.honest) (λ waits. waits.honest)
 
   pub admit_reports : {R : Type 0} (e : AdmitError)
       → ((◌≡◌ {A = Result R AdmitError} (Err e) (Err admits.NeedsRecovery)) ↔ (is_down a ≡ true))
@@ -63,7 +64,7 @@ module _ {E O Pen Seen : Type 0} {erase : EraseGhosts E} {once : OnceGhosts O Pe
   admit_reports admits.BatchTooLarge down counted falls sound = tt
   admit_reports admits.CounterFull down counted falls sound = tt
   admit_reports admits.IntakeFull down counted falls sound = tt
-  admit_reports (admits.BadNode page) down counted falls sound = (stays_up (admits.BadNode page) admits.NeedsRecovery admits.Fault down falls (λ i. cc) (λ i. cc), λ h on. sound (honest_going h on) h (λ _. on) page refl)
+  admit_reports (admits.BadNode page) down counted falls sound = (stays_up (admits.BadNode page) admits.NeedsRecovery admits.Fault down falls (λ i. cc) (λ i. cc), λ h on. sound (honest_of a h on) h (λ _. on) page refl)
   admit_reports admits.Fault down counted falls sound = inl (counted refl)
   admit_reports admits.OutOfMemory down counted falls sound = stays_up admits.OutOfMemory admits.NeedsRecovery admits.Fault down falls (λ i. cc) (λ i. cc)
 
@@ -89,11 +90,11 @@ module _ {E O Pen Seen : Type 0} {erase : EraseGhosts E} {once : OnceGhosts O Pe
       → (IsHonest a → (h : History) → RepresentsIfHonest a h → (page : ℕ) → e ≡ applies.BadNode page → ⊥)
       → Reports a (of_apply e) b
   apply_reports applies.NeedsRecovery down counted falls counter few high full sound = down.0 refl
-  apply_reports applies.CounterFull down counted falls counter few high full sound = (stays_up applies.CounterFull applies.NeedsRecovery applies.Fault down falls (λ i. cc) (λ i. cc), λ h on. counter (honest_going h on) h (λ _. on) refl)
+  apply_reports applies.CounterFull down counted falls counter few high full sound = (stays_up applies.CounterFull applies.NeedsRecovery applies.Fault down falls (λ i. cc) (λ i. cc), λ h on. counter (honest_of a h on) h (λ _. on) refl)
   apply_reports applies.TooHigh down counted falls counter few high full sound = (stays_up applies.TooHigh applies.NeedsRecovery applies.Fault down falls (λ i. cc) (λ i. cc), λ honest pages has. high honest pages has refl)
   apply_reports applies.PagesFull down counted falls counter few high full sound = (stays_up applies.PagesFull applies.NeedsRecovery applies.Fault down falls (λ i. cc) (λ i. cc), few refl)
   apply_reports applies.OnceFull down counted falls counter few high full sound = (stays_up applies.OnceFull applies.NeedsRecovery applies.Fault down falls (λ i. cc) (λ i. cc), λ honest. full honest refl)
-  apply_reports (applies.BadNode page) down counted falls counter few high full sound = (stays_up (applies.BadNode page) applies.NeedsRecovery applies.Fault down falls (λ i. cc) (λ i. cc), λ h on. sound (honest_going h on) h (λ _. on) page refl)
+  apply_reports (applies.BadNode page) down counted falls counter few high full sound = (stays_up (applies.BadNode page) applies.NeedsRecovery applies.Fault down falls (λ i. cc) (λ i. cc), λ h on. sound (honest_of a h on) h (λ _. on) page refl)
   apply_reports applies.Fault down counted falls counter few high full sound = counts_one _ _ _ _ (counted.counted refl)
   apply_reports applies.OutOfMemory down counted falls counter few high full sound = stays_up applies.OutOfMemory applies.NeedsRecovery applies.Fault down falls (λ i. cc) (λ i. cc)
 
@@ -113,7 +114,7 @@ module _ {E O Pen Seen : Type 0} {erase : EraseGhosts E} {once : OnceGhosts O Pe
       → OnAskTrouble (λ t. Reports a t b) (of_ask e)
   ask_reports asks.NeedsRecovery down counted same sound undamaged = down.0 refl
   ask_reports (asks.AboveWatermark mark) down counted same sound undamaged = tt
-  ask_reports (asks.BadNode page) down counted same sound undamaged = (stays_up (asks.BadNode page) asks.NeedsRecovery asks.Fault down (λ l r. absurd (turned l r same)) (λ i. cc) (λ i. cc), λ h on. sound (honest_going h on) h (λ _. on) page refl)
+  ask_reports (asks.BadNode page) down counted same sound undamaged = (stays_up (asks.BadNode page) asks.NeedsRecovery asks.Fault down (λ l r. absurd (turned l r same)) (λ i. cc) (λ i. cc), λ h on. sound (honest_of a h on) h (λ _. on) page refl)
   ask_reports (asks.Damaged block) down counted same sound undamaged = undamaged block refl
   ask_reports asks.Fault down counted same sound undamaged = inl (counted refl)
   ask_reports asks.OutOfMemory down counted same sound undamaged = stays_up asks.OutOfMemory asks.NeedsRecovery asks.Fault down (λ l r. absurd (turned l r same)) (λ i. cc) (λ i. cc)
