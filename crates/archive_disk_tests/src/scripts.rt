@@ -247,7 +247,7 @@ pub(crate) const SCRIPTS: [Script; 15] = [
         acts: &THOUSAND,
     },
     Script {
-        name: "a step applies no more than a thousand",
+        name: "a step takes no more than a thousand records without changes",
         collectors: 1,
         ring: 9,
         acts: &ONE_MORE,

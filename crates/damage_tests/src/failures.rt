@@ -90,8 +90,8 @@ const CALLS: [Deal; 6] = [
     Deal {
         call: Device::Sync,
         from: 0,
-        to: 58,
-        failures: 57,
+        to: 48,
+        failures: 47,
     },
     Deal {
         call: Device::Blank,
@@ -114,8 +114,8 @@ const CALLS: [Deal; 6] = [
     Deal {
         call: Device::Look,
         from: 0,
-        to: 33,
-        failures: 32,
+        to: 41,
+        failures: 40,
     },
 ];
 
@@ -131,8 +131,8 @@ const WRITES: [Deal; 1] = [Deal {
 const LATER_WRITES: [Deal; 1] = [Deal {
     call: Device::Write,
     from: 320,
-    to: 512,
-    failures: 188,
+    to: 480,
+    failures: 156,
 }];
 
 /// Of a life in which the root rises.
@@ -146,14 +146,14 @@ const RISE: [Deal; 7] = [
     Deal {
         call: Device::Write,
         from: 0,
-        to: 260,
-        failures: 256,
+        to: 224,
+        failures: 220,
     },
     Deal {
         call: Device::Sync,
         from: 0,
-        to: 34,
-        failures: 33,
+        to: 25,
+        failures: 24,
     },
     Deal {
         call: Device::Blank,

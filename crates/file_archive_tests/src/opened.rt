@@ -170,6 +170,12 @@ fn an_open_slot_with_another_number_is_found(rt: HostRuntime) {
     be(&rt, slots_are(&rt, &folder, Ok(())), "closed slots");
     be(&rt, open_slot(&rt, &folder, 1) == Some(true), "a slot");
     be(&rt, slots_are(&rt, &folder, Ok(())), "its own number");
+    be(&rt, open_slot(&rt, &folder, 9) == Some(true), "a round");
+    be(
+        &rt,
+        slots_are(&rt, &folder, Ok(())),
+        "a number of a later round",
+    );
     be(&rt, open_slot(&rt, &folder, 2) == Some(true), "a number");
     let wrong = Err(OpenFault::Archive(OpenError::BadSlot(2)));
     be(&rt, slots_are(&rt, &folder, wrong), "another number");

@@ -41,34 +41,34 @@ const BURNS: Deal = Deal {
     from: 1,
     to: 11,
     lives: 50,
-    openings: 2_400,
+    openings: 3_040,
 };
 
 const FIRST: Deal = Deal {
     life: LONG,
     disk: Disk::Erasable,
     from: 1,
-    to: 62,
-    lives: 305,
-    openings: 18_104,
+    to: 69,
+    lives: 340,
+    openings: 23_212,
 };
 
 const SECOND: Deal = Deal {
     life: LONG,
     disk: Disk::Erasable,
-    from: 62,
-    to: 89,
-    lives: 135,
-    openings: 20_172,
+    from: 69,
+    to: 102,
+    lives: 165,
+    openings: 23_264,
 };
 
 const THIRD: Deal = Deal {
     life: LONG,
     disk: Disk::Erasable,
-    from: 89,
-    to: 135,
-    lives: 230,
-    openings: 11_576,
+    from: 102,
+    to: 143,
+    lives: 205,
+    openings: 22_984,
 };
 
 /// All writes and syncs of a life in which the root rises.

@@ -69,7 +69,7 @@ const LAST: [Record; 3] = [(9_031, 3, 4, 18), (9_032, 3, 0, 0), (9_033, 3, 2, 19
 /// Of collector 0. The first one splits the leaf of the first column.
 const NEXT: [Record; 2] = [(9_050, 1, 1, 20), (9_050, 1, 0, 21)];
 
-/// The journal's eight slots run full in this life.
+/// Commits of this life take the journal's last free slot, and give the oldest one back. It ends with a checkpoint.
 pub const LONG: Script = Script {
     loads: &LOADS,
     batches: &[&FIRST, &SECOND, &LATE, &MIXED, &LAST, &NEXT],
@@ -92,13 +92,21 @@ pub const LONG: Script = Script {
         Act::Apply,
         Act::Flush,
         Act::Flush,
+        Act::Flush,
+        Act::Flush,
+        Act::Flush,
+        Act::Flush,
+        Act::Flush,
+        Act::Flush,
+        Act::Flush,
+        Act::Flush,
         // What follows.
         Act::Admit(0, 5),
         Act::Mark(0, 9_060),
         Act::Mark(1, 9_060),
         Act::Apply,
     ],
-    life: 17,
+    life: 25,
 };
 
 /// Five keys, which fill the only leaf.

@@ -25,6 +25,8 @@ pub(super) enum Step {
     Fetch(u64),
     Fresh,
     Begin(u64),
+    /// Makes room for a commit.
+    Room,
     Commit,
     Flush,
     Checkpoint,
@@ -134,6 +136,7 @@ pub(super) fn play(alloc: Global, tx: &mut Tx<MemErase>, step: Step) -> Result<u
         Step::Fetch(n) => fetch(tx, n).map_err(reported)?,
         Step::Fresh => return tx.fresh().map_err(reported),
         Step::Begin(next) => begin(tx, next)?,
+        Step::Room => tx.make_room()?,
         Step::Commit => tx.commit()?,
         Step::Flush => return Ok(u64::from(tx.flush_one()?)),
         Step::Checkpoint => tx.checkpoint()?,
@@ -367,9 +370,12 @@ fn play_all(alloc: Global, tx: &mut Tx<MemErase>, steps: &[Step]) -> bool {
     true
 }
 
-/// Sets page 1 eight times, and commits it. Whether that was done.
+/// Commits page 3, and then page 1 seven times. So the oldest slot is needed still. Whether that was done.
 fn commits_eight(alloc: Global, tx: &mut Tx<MemErase>) -> bool {
-    for octet in 30..38u8 {
+    if !play_all(alloc, tx, &[Step::Set(3, 29), Step::Commit]) {
+        return false;
+    }
+    for octet in 31..38u8 {
         if !play_all(alloc, tx, &[Step::Set(1, octet), Step::Commit]) {
             return false;
         }
@@ -394,19 +400,19 @@ fn a_page_is_written_home_once_and_lent_from_memory(rt: HostRuntime) {
     let ninth = play(alloc, &mut tx, Step::Commit) == Err(JournalError::JournalFull);
     be(
         &rt,
-        ninth && shown(&mut tx) == Ok([10, 37, 12, 13]),
+        ninth && shown(&mut tx) == Ok([10, 37, 12, 29]),
         "a ninth commit",
     );
-    let flushed = play(alloc, &mut tx, Step::Flush) == Ok(1);
+    let flushed = play_all(alloc, &mut tx, &[Step::Flush, Step::Flush]);
     be(
         &rt,
         flushed && play(alloc, &mut tx, Step::Flush) == Ok(0),
-        "one page is flushed",
+        "two pages are flushed",
     );
     // Four pages and thirteen other calls of the creation, the opening's two syncs, eight commits of three pieces and
-    // two syncs, and one write home.
+    // two syncs, and two writes home.
     let disk = tx.into_pool().into_disk();
-    be(&rt, are_calls(&disk, 5, 17 + 2 + 8 * 5 + 1), "the calls");
+    be(&rt, are_calls(&disk, 6, 17 + 2 + 8 * 5 + 2), "the calls");
 }
 
 /// Three commits, and a page flushed.
@@ -440,4 +446,43 @@ fn the_page_that_was_dirty_longest_is_written_home_first(rt: HostRuntime) {
     let disk = tx.into_pool().into_disk();
     be(&rt, are_calls(&disk, 5, 17 + 2 + 3 * 5 + 1), "the calls");
     be(&rt, is_last_home(&disk, 32), "page 1 is home");
+}
+
+/// Commits page 2, for the n-th time, and with the first three commits another page.
+fn commits_once(alloc: Global, tx: &mut Tx<MemErase>, n: u8) -> bool {
+    let page = match n {
+        0 => 0,
+        1 => 1,
+        2 => 3,
+        _ => 2,
+    };
+    let steps = [
+        Step::Room,
+        Step::Set(page, 40),
+        Step::Set(2, n),
+        Step::Commit,
+    ];
+    play_all(alloc, tx, &steps)
+}
+
+#[test]
+fn slots_are_given_back_one_by_one(rt: HostRuntime) {
+    let alloc = rt.alloc();
+    let disk = made(alloc).expect(&rt, "a disk");
+    let mut tx = opened(alloc, disk, 4).expect(&rt, "a transaction");
+    for n in 0..12u8 {
+        let is_done = commits_once(alloc, &mut tx, n);
+        let left = tx.pool().closed();
+        let is_right = left == usize::from(7u8.saturating_sub(n.min(6)));
+        be_at(&rt, is_done && is_right, "a commit", u64::from(n));
+    }
+    be(&rt, shown(&mut tx) == Ok([40, 40, 11, 40]), "the pages");
+    // The calls of the creation and the opening, three commits of four pieces and two syncs, four of three pieces, five that
+    // write two gates (four pieces, two syncs), the second one that of a slot given back, and three writes home before such.
+    let disk = tx.into_pool().into_disk();
+    be(
+        &rt,
+        are_calls(&disk, 7, 17 + 2 + 3 * 6 + 4 * 5 + 5 * 6 + 3),
+        "the calls",
+    );
 }

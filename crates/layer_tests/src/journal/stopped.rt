@@ -1,7 +1,7 @@
 //! Runs, openings and creations that are stopped at each call.
 
 use super::{
-    KINDS, OLD, PAGE, checkpoint, home, made, made_journal, opened, post, post_one, rising,
+    KINDS, OLD, PAGE, checkpoint, filled, home, made, made_journal, opened, post, post_one, rising,
     scripted, shows, shows_after_crash, torn,
 };
 use crate::{be, be_at};
@@ -82,6 +82,95 @@ fn a_run_that_is_stopped_leaves_each_post_whole(rt: HostRuntime) {
                 n,
             );
         }
+    }
+}
+
+/// The pages after seven posts, and after each of two more that close the oldest slot.
+const TURNED: [[u8; 4]; 3] = [[27, 23, 22, 13], [27, 23, 22, 28], [27, 23, 29, 28]];
+
+/// Posts one page, filled with an octet, and closes the oldest slot.
+fn post_closing_one(
+    alloc: Global,
+    journal: &mut Journal<MemErase>,
+    n: u64,
+    octet: u8,
+) -> Result<(), JournalError> {
+    if n >= journal.home_pages() || !journal.gives_back() {
+        return Err(JournalError::NotAJournal);
+    }
+    Ok(journal.post_closing(&[(n, filled(alloc, octet)?)])?)
+}
+
+/// The pages of seven posts, and their octets.
+const SEVEN: [(u64, u8); 7] = [
+    (1, 21),
+    (2, 22),
+    (1, 23),
+    (0, 24),
+    (0, 25),
+    (0, 26),
+    (0, 27),
+];
+
+/// Seven posts, and two more that close the oldest slot: the first slot has no page that isn't in a later one, page 2 of the second goes home.
+/// Counts the last two where they were done.
+fn turn(
+    alloc: Global,
+    journal: &mut Journal<MemErase>,
+    done: &mut usize,
+) -> Result<(), JournalError> {
+    for (n, octet) in &SEVEN {
+        post_one(alloc, journal, *n, *octet)?;
+    }
+    post_closing_one(alloc, journal, 3, 28)?;
+    *done = 1;
+    home(alloc, journal, 2, 22)?;
+    post_closing_one(alloc, journal, 2, 29)?;
+    *done = 2;
+    Ok(())
+}
+
+/// Whether one of two states is left by each crash.
+fn is_turned(alloc: Global, disk: &MemErase, done: usize) -> Option<bool> {
+    for kind in 0..KINDS {
+        let mut journal = opened(alloc, disk.crash_as(&torn(alloc, kind).ok()?).ok()?).ok()?;
+        let mut states = TURNED.iter().skip(done).take(2);
+        if !states.any(|pages| shows(alloc, &mut journal, *pages)) {
+            return Some(false);
+        }
+    }
+    Some(true)
+}
+
+/// The opening syncs twice, and each of seven posts makes three writes and two syncs.
+const BEFORE_TURNS: u64 = 37;
+
+/// Whether these posts, cut off at their k-th write or sync after the seventh, leave each post whole. With the number of posts that were done.
+fn cut_turn(alloc: Global, k: u64) -> Option<(bool, usize)> {
+    let mut disk = made(alloc)?;
+    disk.stop_at(BEFORE_TURNS.saturating_add(k));
+    let mut journal = opened(alloc, disk).ok()?;
+    let mut done = 0;
+    let _stopped = turn(alloc, &mut journal, &mut done);
+    let is_whole = is_turned(alloc, &journal.into_disk(), done)?;
+    Some((is_whole, done))
+}
+
+#[test]
+fn a_post_that_closes_a_slot_is_whole_wherever_it_is_cut_off(rt: HostRuntime) {
+    // Each makes four writes and two syncs, and one page goes home between them.
+    for k in 1..=14u64 {
+        let done = match k {
+            1..=6 => 0,
+            7..=13 => 1,
+            _ => 2,
+        };
+        be_at(
+            &rt,
+            cut_turn(rt.alloc(), k) == Some((true, done)),
+            "a cut",
+            k,
+        );
     }
 }
 

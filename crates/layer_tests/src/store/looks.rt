@@ -6,7 +6,7 @@ use crate::{be, be_at};
 use disk_models::Page;
 use std::alloc::Global;
 use tsb_node::{
-    PartAt, ReadFault, Spot, child_for, copy_side, entries_in, part, part_for, read_header,
+    PartAt, ReadFault, Spot, child_for, copy_side, entries_in, key_node_head, part, part_for,
     read_leaf, read_leaf_block, spot_for,
 };
 use version_model::{Bounds, Entry, PartKind, Stamp};
@@ -24,18 +24,13 @@ fn is_under(node: &Page, key: u8, low: u8, high: u8, page: u64) -> bool {
     }
 }
 
-/// Whether a page's head is that of a key node of level 2 with two children, below key 9.
+/// Whether a page's head is that of a key node of level 2, below key 9.
 fn is_head(node: &Page) -> bool {
-    match read_header(node.octets()) {
-        Some(header) => {
-            header.kind == 3
-                && header.level == 2
-                && header.count == 2
-                && header.used == 96
-                && header.bounds.high == Some(key_of(9))
-                && header.bounds.end.is_none()
+    match key_node_head(node.octets()) {
+        Ok(head) => {
+            head.level == 2 && head.bounds.high == Some(key_of(9)) && head.bounds.end.is_none()
         }
-        None => false,
+        Err(_) => false,
     }
 }
 
