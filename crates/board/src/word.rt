@@ -3,7 +3,7 @@
 /// A word of a board.
 #[derive(Clone, Copy, Debug, PartialEq, Eq)]
 pub enum Word {
-    /// The settled watermark, in seconds since 1970: a question of an earlier moment is answered.
+    /// The settled watermark, in microseconds since 1970: a question of an earlier moment is answered.
     Watermark,
     /// How many admissions of this collector are durable.
     Durable(u8),

@@ -11,7 +11,7 @@ use Rattle.route_meaning.specs.Merged.{Placed}
 use Rattle.version_model.specs.Versions.{Version}
 use Rattle.route_history.specs.Stamps.{orders, stamp_of}
 
--- a change, and when it was reported, in seconds since 1970-01-01T00:00:00Z
+-- a change, and when it was reported, in microseconds since 1970-01-01T00:00:00Z
 pub record Timed : Type 0 where
   pub time : ℕ
   pub change : Change

@@ -136,14 +136,14 @@ impl ChangedCursor {
     pub fn first(&self) -> Stamp
         ensures { result ≡ changed_from self.now.question }
     {
-        Stamp::new(self.question.from.seconds(), 0)
+        Stamp::new(self.question.from.number(), 0)
     }
 
     /// The stamp after the last of the span.
     pub fn end(&self) -> Stamp
         ensures { result ≡ changed_end self.now.question }
     {
-        Stamp::new(self.question.to.seconds() + 1, 0)
+        Stamp::new(self.question.to.number() + 1, 0)
     }
 
     // Takes in the next key that has a version in the span. Returns whether the walk goes on: it is over at a spot beyond the 256 of an answer.

@@ -63,7 +63,7 @@ pub fn version_of_change(
     ensures small { IsChange change.now → IfOk result (λ entry. entry_octets (version_of entry) ≤ 3131) }
     ensures inside { IsChange change.now → IfOk result (λ entry. entry.key + 1 < key_end) }
 {
-    let stamp = Stamp::new(time.seconds(), order);
+    let stamp = Stamp::new(time.number(), order);
     let key = key_of(change);
     let value = kept(alloc, value_of(change))?;
     Ok(Entry { key, stamp, value })
@@ -81,7 +81,7 @@ pub fn apply<V: Growing>(
     ensures applied { (blocks : ℕ → Option BlockNode) (all : List Version) → V.represents_all versions.old blocks all → AreBefore (stamp_of time order) all → OnOk result (HasApplied (V.represents_all versions.new) blocks all order (at_time time change.now)) }
     ensures refused { (blocks : ℕ → Option BlockNode) (all : List Version) → V.represents_all versions.old blocks all → OnErr result (RepresentsGrown (V.represents_all versions.new) blocks all) }
 {
-    let stamp = Stamp::new(time.seconds(), order);
+    let stamp = Stamp::new(time.number(), order);
     let key = key_of(change);
     versions.insert(key, stamp, value_of(change))
 }

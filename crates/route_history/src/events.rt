@@ -5,6 +5,7 @@ ghost use Rattle.std.specs.List.{AllByRecursion};
 ghost use Rattle.route_model.specs.Admission.{Admitted};
 ghost use Rattle.route_model.specs.declared.change.Change.{Change as ChangeValue};
 ghost use Rattle.route_model.specs.Keys.{key_number, session_number};
+ghost use Rattle.route_model.specs.Moments.{IsMoment};
 ghost use Rattle.route_meaning.specs.Merged.{Placed, by_time};
 ghost use Rattle.version_model.specs.Versions.{Version};
 ghost use Rattle.version_model.specs.Ranges.{end_or};
@@ -38,7 +39,7 @@ enum Subject {
 // The moment of a stamp.
 fn moment_of(stamp: Stamp) -> Option<Moment>
     ensures moment { IfSome result (λ moment. moment ≡ stamp / 2 ^ 64) }
-    ensures none { result ≡ None → stamp / 2 ^ 64 < 2 ^ 32 → ⊥ }
+    ensures none { result ≡ None → IsMoment (stamp / 2 ^ 64) → ⊥ }
 {
     Moment::new(stamp.time())
 }
@@ -214,14 +215,14 @@ fn lesser(reported: &Option<Stamp>, to: Stamp) -> Stamp
 fn end_of(moment: Moment) -> Stamp
     ensures end { result ≡ suc (last_stamp moment) }
 {
-    Stamp::new(moment.seconds() + 1, 0)
+    Stamp::new(moment.number() + 1, 0)
 }
 
 // The first stamp of the moment.
 fn start_of(moment: Moment) -> Stamp
     ensures { result ≡ stamp_of moment 0 }
 {
-    Stamp::new(moment.seconds(), 0)
+    Stamp::new(moment.number(), 0)
 }
 
 /// A question of a history under way: how far its walk over the stamps has come, how many events are still to be left out, and

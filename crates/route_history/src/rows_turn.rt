@@ -49,7 +49,7 @@ pub enum RowsTurn {
 pub(crate) fn last_stamp(moment: Moment) -> Stamp
     ensures { result ≡ last_stamp moment }
 {
-    Stamp::new(moment.seconds(), 18_446_744_073_709_551_615)
+    Stamp::new(moment.number(), 18_446_744_073_709_551_615)
 }
 
 impl RowsCursor {

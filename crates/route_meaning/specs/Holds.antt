@@ -12,7 +12,7 @@ use Rattle.route_model.specs.Prefix.{IpPrefix}
 use Rattle.route_model.specs.Admission.{Admitted}
 use Rattle.route_meaning.specs.Merged.{Placed}
 
--- when it was admitted, in seconds since 1970-01-01T00:00:00Z
+-- when it was admitted, in microseconds since 1970-01-01T00:00:00Z
 abbrev pub admitted_time : Admitted → ℕ
 admitted_time a = a.time
 

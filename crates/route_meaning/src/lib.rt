@@ -11,7 +11,7 @@
 //!
 //! Which route holds is a split of the list of changes: what comes before, the announcement, and what comes after,
 //! none of which concerns the prefix of the peer. There is no newest stamp, and no comparison of times but in
-//! `until`; so the order within a second is the order of the list. Peers and prefixes are compared by value, and not
+//! `until`; so the order within a moment is the order of the list. Peers and prefixes are compared by value, and not
 //! by their keys, so the meaning doesn't depend on keys. An answer is the first 256 of a list of all the rows,
 //! so `more` is exact.
 //!

@@ -110,6 +110,6 @@ pub fn merge<'a>(
     ensures merged { IfOk result (λ all. all.items ≡ merged admitted_time (map (λ list. list.now) lists.now)) }
 {
     let mut all = place_all(alloc, lists)?;
-    all.sort_by_key(|placed| placed.time().seconds())?;
+    all.sort_by_key(|placed| placed.time().number())?;
     Ok(all)
 }

@@ -78,7 +78,7 @@ pub struct Row {
     pub route: SharedRoute,
 }
 
-/// A change that a peer reported, and when, in seconds since 1970-01-01T00:00:00Z.
+/// A change that a peer reported, and when, in microseconds since 1970-01-01T00:00:00Z.
 #[derive(Debug, Drop)]
 pub struct Event {
     pub time: Moment,

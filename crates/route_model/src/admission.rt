@@ -87,6 +87,13 @@ impl Admission {
         self.time
     }
 
+    /// The same changes, said at another time.
+    pub fn at(self, time: Moment) -> Admission
+        ensures admission { result ≡ record { time = time; changes = self.changes } }
+    {
+        Admission { time, ..self }
+    }
+
     /// What was said, in order.
     pub fn changes(&self) -> &[Change]
         ensures changes { result.now ≡ self.now.changes }
@@ -118,7 +125,7 @@ impl Admission {
     pub fn encode(&self, alloc: Global) -> Result<Vec<u8>, AllocError>
         ensures encoding { IfOk result (λ v. EncodesAdmission self.now v.items) }
     {
-        let time = self.time.seconds();
+        let time = self.time.number();
         let encoding = encode(alloc, self.encoded_len, time, self.changes.as_slice())?;
         Ok(encoding)
     }
@@ -153,7 +160,7 @@ fn encoded_so(
     if octets.len() > MAX_ADMISSION_LEN || !all_fit(changes.as_slice()) {
         return Ok(None);
     }
-    let encoding = encode(alloc, octets.len(), time.seconds(), changes.as_slice())?;
+    let encoding = encode(alloc, octets.len(), time.number(), changes.as_slice())?;
     if encoding.as_slice() != octets {
         return Ok(None);
     }

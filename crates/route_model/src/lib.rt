@@ -23,8 +23,7 @@
 //! large is reported before an admission too large, and `Admission::new` needs no memory. Peers and keys are encoded into arrays, and every
 //! `encoded_len` is without memory too.
 //!
-//! Moments and marks are types over 64 bits with their range in the invariant, so that another unit of time changes these types and
-//! `IsAdmission` alone. A mark reaches one second further than a moment, so it can be above every moment. A key is five words; a contract
+//! Moments and marks are types over 64 bits with their range in the invariant, so no caller checks it again. A mark reaches one microsecond further than a moment, so it can be above every moment. A key is five words; a contract
 //! sees the number of their octets. They compare and hash at the speed of words, and by one law this is the order of rows. Numbers
 //! are read in two ways, by std here and by byteorder in records, pages and blocks; `numbers_agree` is the law between them.
 #![tactic(auto)]

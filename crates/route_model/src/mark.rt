@@ -1,16 +1,16 @@
 //! Marks: below which moment a collector's records are complete.
 
-ghost use Rattle.std.specs.Prelude.{◌≡◌, ◌≤◌, SomeIff};
+ghost use Rattle.std.specs.Prelude.{◌≡◌, ◌≤◌, ◌*◌, SomeIff};
 ghost use Rattle.route_model.specs.Moments.{last_mark};
 
 use crate::moment::Moment;
 use std::marker::Model;
 
-/// A mark: the moment below which a collector's records are complete, 0 to 4,294,967,296. The
-/// last is above every moment.
+/// A mark: the moment below which a collector's records are complete, 0 to 4,294,967,296,000,000
+/// microseconds since 1970-01-01T00:00:00Z. The last is above every moment.
 #[derive(Clone, Copy, Debug, PartialEq, Eq, PartialOrd, Ord)]
 pub struct Mark {
-    seconds: u64,
+    number: u64,
 }
 
 impl Model for Mark {
@@ -19,23 +19,23 @@ impl Model for Mark {
 
     ghost Value = { ℕ };
 
-    ghost view = { λ a. a.seconds };
+    ghost view = { λ a. a.number };
 
-    ghost invariant = { λ a. a.seconds ≤ last_mark };
+    ghost invariant = { λ a. a.number ≤ last_mark };
 
-    ghost inverse = { λ n. record { seconds = n } };
+    ghost inverse = { λ n. record { number = n } };
 }
 
 impl Mark {
     /// The last mark, above every moment.
-    pub const LAST_SECOND: u64 = 4_294_967_296;
+    pub const LAST: u64 = 4_294_967_296_000_000;
 
-    /// The mark at this many seconds, or none if they are above [`Mark::LAST_SECOND`].
-    pub fn new(seconds: u64) -> Option<Mark>
-        ensures mark { SomeIff result (seconds ≤ last_mark) seconds }
+    /// The mark at this many microseconds, or none if they are above [`Mark::LAST`].
+    pub fn new(number: u64) -> Option<Mark>
+        ensures mark { SomeIff result (number ≤ last_mark) number }
     {
-        if seconds <= Mark::LAST_SECOND {
-            Some(Mark { seconds })
+        if number <= Mark::LAST {
+            Some(Mark { number })
         } else {
             None
         }
@@ -45,15 +45,22 @@ impl Mark {
     pub fn at(moment: Moment) -> Mark
         ensures mark { result ≡ moment }
     {
-        let seconds = moment.seconds();
-        Mark { seconds }
+        let number = moment.number();
+        Mark { number }
     }
 
-    /// The seconds since 1970-01-01T00:00:00Z.
-    pub fn seconds(self) -> u64
-        ensures seconds { result ≡ self }
+    /// The mark of this multiple of this one's number, or none if that is above [`Mark::LAST`].
+    pub fn scaled(self, moments: u64) -> Option<Mark>
+        ensures mark { SomeIff result (self * moments ≤ last_mark) (self * moments) }
+    {
+        Mark::new(self.number.checked_mul(moments)?)
+    }
+
+    /// The microseconds since 1970-01-01T00:00:00Z.
+    pub fn number(self) -> u64
+        ensures number { result ≡ self }
         ensures in_range { result ≤ last_mark }
     {
-        self.seconds
+        self.number
     }
 }

@@ -4,12 +4,14 @@ ghost use Rattle.std.specs.Prelude.{◌≡◌, ◌≤◌, IfSome, IfNone};
 ghost use Rattle.route_model.specs.declared.unit.Unit.{Unit as UnitValue};
 ghost use Rattle.route_model.specs.Units.{moments_in, written, IsUnit, unit_number};
 
+use crate::moment::Moment;
+
 /// A unit of the times in a page or a block, which names it by a number.
 #[derive(Clone, Copy, Debug, PartialEq, Eq)]
 pub enum Unit {
-    /// Whole seconds.
+    /// Whole seconds, in which older archives were written.
     Seconds,
-    /// Microseconds, which nothing is written in yet.
+    /// Microseconds, in which all is written.
     Microseconds,
 }
 
@@ -19,7 +21,7 @@ impl Unit {
     pub fn written() -> Unit
         ensures { result ≡ written }
     {
-        Unit::Seconds
+        Unit::Microseconds
     }
 
     /// The unit of this number, or none if nothing that is read can be of such a unit.
@@ -31,6 +33,7 @@ impl Unit {
     {
         match number {
             0 => Some(Unit::Seconds),
+            1 => Some(Unit::Microseconds),
             _ => None,
         }
     }
@@ -51,7 +54,8 @@ impl Unit {
         ensures { result ≡ moments_in self }
     {
         match self {
-            Unit::Seconds | Unit::Microseconds => 1,
+            Unit::Seconds => Moment::SECOND,
+            Unit::Microseconds => 1,
         }
     }
 }

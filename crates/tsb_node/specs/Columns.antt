@@ -115,16 +115,19 @@ pub record IsWrittenColumnBlock (column : ColumnInBlock) (octets : List ℕ) : T
   pub valid : IsOldColumn column
   pub block : IsInBlock column.bounds (old_column_body unit column) octets
 
--- a part, and a column, whose times are k times those of this one
+-- a part whose times are k times those of this one
 abbrev pub scaled_part : ℕ → Part → Part
 scaled_part k p = record { start = scaled k p.start; kind = p.kind; block = p.block }
 
+-- the current part, likewise
 abbrev pub scaled_current : ℕ → Current → Current
 scaled_current k c = record { start = scaled k c.start; page = c.page }
 
+-- a column of a page, likewise
 abbrev pub scaled_column : ℕ → ColumnInPage → ColumnInPage
 scaled_column k c = record { bounds = scaled_bounds k c.bounds; parts = map (scaled_part k) c.parts; current = scaled_current k c.current }
 
+-- a column of a block, likewise
 abbrev pub scaled_old_column : ℕ → ColumnInBlock → ColumnInBlock
 scaled_old_column k c = record { bounds = scaled_bounds k c.bounds; parts = map (scaled_part k) c.parts }
 

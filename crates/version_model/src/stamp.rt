@@ -9,7 +9,7 @@ ghost use Rattle.std.proofs.Common.{rules};
 use std::cmp::Ordering;
 use std::marker::Model;
 
-/// A time in seconds, and the order number of a change: sixteen octets, each number in eight, the highest octet first.
+/// A time in microseconds since 1970, and the order number of a change: sixteen octets, each number in eight, the highest octet first.
 /// Contracts see it as the number that these octets are.
 #[derive(Clone, Copy, Debug)]
 pub struct Stamp {

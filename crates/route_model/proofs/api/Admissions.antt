@@ -1,5 +1,5 @@
--- The tables of an admission, as its changes are gone through.
-use Rattle.std.proofs.Common.{◌≡◌, ℕ, ◌+◌, ◌<◌, ◌≤◌, List, [], ◌∷◌, ◌++◌, length, get_or, take, map, sym, ap, ◌∙◌}
+-- The tables of an admission, as its changes are gone through; and what its time has no part in.
+use Rattle.std.proofs.Common.{◌≡◌, ℕ, ◌+◌, ◌<◌, ◌≤◌, List, [], ◌∷◌, ◌++◌, length, get_or, take, map, refl, sym, ap, ◌∙◌}
 use Rattle.std.specs.List.{flat_map}
 use Rattle.std.proofs.lemmas.List.{take_more, take_all, map_push, append-nil}
 use Rattle.std.proofs.lemmas.List.Concat.{flat_map-append}
@@ -8,7 +8,7 @@ use Rattle.route_model.specs.declared.route.Route.{Route}
 use Rattle.route_model.specs.declared.peer.Peer.{Peer}
 use Rattle.route_model.specs.Encoding.{peer_octets, route_octets}
 use Rattle.route_model.specs.Tables.{distinct, enter}
-use Rattle.route_model.specs.Admission.{peer_of, announced, peer_rows, route_rows}
+use Rattle.route_model.specs.Admission.{Admitted, admission_octets, peer_of, announced, peer_rows, route_rows}
 use Rattle.route_model.proofs.TableRows.{distinct-push, map-first_uses}
 
 pub take_item : {A : Type 0} (xs : List A) (i : ℕ) (x : A) → i < length xs → x ≡ get_or xs i x → take (i + 1) xs ≡ take i xs ++ x ∷ []
@@ -38,3 +38,8 @@ routes_same cs i c lt is e = ap (λ (t : List Route). distinct (map route_octets
 
 pub routes_done : (cs : List Change) (i : ℕ) → length cs ≤ i → distinct (map route_octets (flat_map announced (take i cs))) ≡ route_rows cs
 routes_done cs i le = ap (λ (t : List Change). distinct (map route_octets (flat_map announced t))) (take_all i cs le) ∙ sym (map-first_uses route_octets (flat_map announced cs))
+
+-- an encoding has as many octets at any time
+pub any_time : (a : Admitted) (time : ℕ) → length (admission_octets (record { time = time; changes = a.changes })) ≡ length (admission_octets a)
+unfolding admission_octets
+any_time a time = refl

@@ -18,11 +18,6 @@ unfolding moments_in
 some Seconds = omega arith
 some Microseconds = omega arith
 
-pub few : (u : Unit) → moments_in u ≤ 1000000
-unfolding moments_in
-few Seconds = omega arith
-few Microseconds = omega arith
-
 -- a unit has a number of its own
 pub one_unit : (u v : Unit) → unit_number u ≡ unit_number v → u ≡ v
 one_unit Seconds Seconds e = refl
