@@ -19,7 +19,7 @@ use Rattle.mrt_records.specs.Sessions.{IsMessageBody, IsStateChange}
 use Rattle.mrt_records.specs.PeerTables.{IsPeerField, IsPeerTable}
 use Rattle.mrt_records.specs.Ribs.{IsRib}
 use Rattle.mrt_records.specs.Values.{Message, StateChange, PeerTable, Rib, Reported, Read, Skipped, Malformed}
-use Rattle.mrt_records.specs.Records.{timestamp, kind, subtype, body}
+use Rattle.mrt_records.specs.Records.{moment_of, kind, subtype, body}
 use Rattle.mrt_records.specs.Bodies.{HasReading, IsReported, IsListedType, Body}
 use Rattle.mrt_records.proofs.Peers.{peers_free}
 use Rattle.mrt_records.proofs.EntryFields.{entries_free}
@@ -139,7 +139,7 @@ reported_rib form family t bytes faults.OutOfMemory e none = tt
 reported_rib form family t bytes faults.Malformed e none = λ v q. rib_reported_none form family t bytes v e none q
 
 -- a listed record whose body has no reading is malformed
-pub malformed_body : (bytes b : List ℕ) (k s t : ℕ) (form : Form) (fault : ReadFault) → k ≡ kind bytes → s ≡ subtype bytes → t ≡ timestamp bytes → b ≡ body bytes
+pub malformed_body : (bytes b : List ℕ) (k s t : ℕ) (form : Form) (fault : ReadFault) → k ≡ kind bytes → s ≡ subtype bytes → t ≡ moment_of bytes → b ≡ body bytes
     → IsListedType k s form → NoReading (IsReported form t b) fault → fault ≡ faults.Malformed → Body bytes (Malformed k s)
 malformed_body bytes b k s t form fault k_is s_is t_is b_is listed none fault_is =
     let no : (v : Reported) → IsReported form t b v → ⊥ = subst (λ (f : ReadFault). NoReading (IsReported form t b) f) fault_is none in
@@ -148,5 +148,5 @@ malformed_body bytes b k s t form fault k_is s_is t_is b_is listed none fault_is
       s_is,
       form,
       there,
-      λ reading q. no (Read reading) (subst (λ (x : ℕ). HasReading form x b reading) (sym t_is) (subst (λ (x : List ℕ). HasReading form (timestamp bytes) x reading) (sym b_is) q)),
+      λ reading q. no (Read reading) (subst (λ (x : ℕ). HasReading form x b reading) (sym t_is) (subst (λ (x : List ℕ). HasReading form (moment_of bytes) x reading) (sym b_is) q)),
     )

@@ -21,7 +21,7 @@ use Rattle.route_model.specs.Widths.{width_of}
 use Rattle.mrt_records.specs.PeerTables.{IsPeerField}
 use Rattle.mrt_records.specs.Ribs.{IsRib}
 use Rattle.mrt_records.specs.Values.{Reading, Message, StateChange, PeerTable, Rib, Reported, Read, Skipped, Malformed}
-use Rattle.mrt_records.specs.Records.{timestamp, kind, subtype, body}
+use Rattle.mrt_records.specs.Records.{moment_of, kind, subtype, body}
 use Rattle.mrt_records.specs.Bodies.{IsListedType, HasReading, Body}
 use Rattle.mrt_records.proofs.Peers.{made, address_one, peers_free}
 use Rattle.mrt_records.proofs.EntryFields.{entries_free}
@@ -117,11 +117,11 @@ reported_one k s t b f g v w lf lg p q =
 
 pub item_one : (bytes : List ℕ) (v w : Reported) → Body bytes v → Body bytes w → v ≡ w
 item_one bytes (Read v) (Read w) p q =
-    ap (λ (r : Reading). Read r) (reported_one (kind bytes) (subtype bytes) (timestamp bytes) (body bytes) p.0 q.0 v w p.1 q.1 p.2 q.2)
+    ap (λ (r : Reading). Read r) (reported_one (kind bytes) (subtype bytes) (moment_of bytes) (body bytes) p.0 q.0 v w p.1 q.1 p.2 q.2)
 item_one bytes (Read v) (Skipped k s) p q = absurd (q.2 p.0 p.1)
 item_one bytes (Read v) (Malformed k s) p q =
     let same = form_one (kind bytes) (subtype bytes) p.0 q.2 p.1 q.3 in
-    absurd (q.4 v (subst (λ (x : Form). HasReading x (timestamp bytes) (body bytes) v) same p.2))
+    absurd (q.4 v (subst (λ (x : Form). HasReading x (moment_of bytes) (body bytes) v) same p.2))
 item_one bytes (Skipped k s) (Read w) p q = absurd (p.2 q.0 q.1)
 item_one bytes (Skipped k s) (Skipped k' s') p q =
     let kinds : k ≡ k' = p.0 ∙ sym q.0 in
@@ -130,7 +130,7 @@ item_one bytes (Skipped k s) (Skipped k' s') p q =
 item_one bytes (Skipped k s) (Malformed k' s') p q = absurd (p.2 q.2 q.3)
 item_one bytes (Malformed k s) (Read w) p q =
     let same = form_one (kind bytes) (subtype bytes) q.0 p.2 q.1 p.3 in
-    absurd (p.4 w (subst (λ (x : Form). HasReading x (timestamp bytes) (body bytes) w) same q.2))
+    absurd (p.4 w (subst (λ (x : Form). HasReading x (moment_of bytes) (body bytes) w) same q.2))
 item_one bytes (Malformed k s) (Skipped k' s') p q = absurd (q.2 p.2 p.3)
 item_one bytes (Malformed k s) (Malformed k' s') p q =
     let kinds : k ≡ k' = p.0 ∙ sym q.0 in

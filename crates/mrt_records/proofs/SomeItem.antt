@@ -24,7 +24,7 @@ use Rattle.route_model.specs.Widths.{width_of}
 use Rattle.mrt_records.specs.PeerTables.{IsPeerField, IsPeerTable, family_of_type, width_of_type}
 use Rattle.mrt_records.specs.Ribs.{IsRib}
 use Rattle.mrt_records.specs.Values.{Reading, Message, StateChange, PeerTable, Rib, Reported, Read, Skipped, Malformed}
-use Rattle.mrt_records.specs.Records.{timestamp, kind, subtype, body}
+use Rattle.mrt_records.specs.Records.{moment_of, kind, subtype, body}
 use Rattle.mrt_records.specs.Bodies.{IsSessionKind, IsListedType, HasReading, Body}
 use Rattle.route_model.proofs.api.Fronts.{number_at-append, first_octet}
 use Rattle.mrt_records.proofs.Peers.{made, peers_free, peer_front}
@@ -387,7 +387,7 @@ reads_some (forms.Rib family) t bytes = elim (rib_some family bytes) [
 pub item_some : (bytes : List ℕ) → (v : Reported) × Body bytes v
 item_some bytes = elim (listing (kind bytes) (subtype bytes)) [
   | inr none ↦ (Skipped (kind bytes) (subtype bytes), (refl, refl, none))
-  | inl f ↦ elim (reads_some f.0 (timestamp bytes) (body bytes)) [
+  | inl f ↦ elim (reads_some f.0 (moment_of bytes) (body bytes)) [
     | inl r ↦ (Read r.0, (f.0, f.1, r.1))
     | inr none ↦ (Malformed (kind bytes) (subtype bytes), (refl, refl, f.0, f.1, none))
   ]

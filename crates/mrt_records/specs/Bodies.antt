@@ -1,6 +1,6 @@
 -- What a record is reported as.
 use Rattle.std.specs.Prelude.{◌≡◌, ℕ, ◌⊎◌, List}
-use Rattle.mrt_records.specs.Records.{timestamp, kind, subtype, body}
+use Rattle.mrt_records.specs.Records.{moment_of, kind, subtype, body}
 use Rattle.mrt_records.specs.Values.{Reading, Message, StateChange, PeerTable, Rib, Reported, Read, Skipped, Malformed}
 use Rattle.mrt_records.specs.Sessions.{IsMessageBody, IsStateChange}
 use Rattle.mrt_records.specs.PeerTables.{IsPeerTable}
@@ -35,11 +35,11 @@ HasReading form t bytes (Rib time prefix entries) = (family : Family) × (form �
 
 -- a listed record is what its body represents, or malformed if that is nothing; one that isn't listed is skipped
 abbrev pub Body : List ℕ → Reported → Type 0
-Body bytes (Read reading) = (form : Form) × IsListedType (kind bytes) (subtype bytes) form × HasReading form (timestamp bytes) (body bytes) reading
+Body bytes (Read reading) = (form : Form) × IsListedType (kind bytes) (subtype bytes) form × HasReading form (moment_of bytes) (body bytes) reading
 Body bytes (Skipped k s) = (k ≡ kind bytes) × (s ≡ subtype bytes) × ((form : Form) → IsListedType (kind bytes) (subtype bytes) form → ⊥)
 Body bytes (Malformed k s) =
     (k ≡ kind bytes) × (s ≡ subtype bytes) × (form : Form) × IsListedType (kind bytes) (subtype bytes) form
-    × ((reading : Reading) → HasReading form (timestamp bytes) (body bytes) reading → ⊥)
+    × ((reading : Reading) → HasReading form (moment_of bytes) (body bytes) reading → ⊥)
 
 -- what is reported is a body of the form
 abbrev pub IsReported : Form → ℕ → List ℕ → Reported → Type 0

@@ -1,6 +1,7 @@
 -- Records of a stream (RFC 6396 section 2): a header of 12 octets, and as many octets as its Length.
-use Rattle.std.specs.Prelude.{◌≡◌, ℕ, ◌+◌, ◌<◌, ◌≤◌, ◌==◌, if◌then◌else◌, List, ◌++◌, length, drop}
+use Rattle.std.specs.Prelude.{◌≡◌, ℕ, ◌+◌, ◌*◌, ◌<◌, ◌≤◌, ◌==◌, nat_lt, min, if◌then◌else◌, List, ◌++◌, length, drop}
 use Rattle.std.specs.List.{AllByRecursion}
+use Rattle.route_model.specs.Moments.{micros_a_second}
 use Rattle.route_model.specs.Octets.{number_at}
 use Rattle.route_model.specs.Sequence.{joined}
 
@@ -19,6 +20,14 @@ subtype bytes = number_at 2 6 bytes
 -- its Length: how many octets follow the header
 abbrev pub body_length : List ℕ → ℕ
 body_length bytes = number_at 4 8 bytes
+
+-- the microseconds that follow the header in type 17 (section 3), which count as 999,999 where they are more; none if the record ends within them
+abbrev pub micros : List ℕ → ℕ
+micros bytes = if kind bytes == 17 then (if nat_lt (length bytes) 16 then 0 else min (number_at 4 12 bytes) 999999) else 0
+
+-- when a record was received
+abbrev pub moment_of : List ℕ → ℕ
+moment_of bytes = timestamp bytes * micros_a_second + micros bytes
 
 -- the octets after the header, and after the microseconds that follow it in type 17 (section 3)
 abbrev pub body : List ℕ → List ℕ

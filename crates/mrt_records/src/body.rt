@@ -1,8 +1,9 @@
 //! The item of a record.
 
-ghost use Rattle.std.specs.Prelude.{◌≡◌, ◌≤◌, ℕ, length, IfOk};
+ghost use Rattle.std.specs.Prelude.{◌≡◌, ◌<◌, ◌≤◌, ℕ, length, IfOk};
 ghost use Rattle.route_model.specs.Reading.{Exactly};
-ghost use Rattle.mrt_records.specs.Records.{IsRecord, body, kind as kind_of};
+ghost use Rattle.route_model.specs.Moments.{micros_a_second};
+ghost use Rattle.mrt_records.specs.Records.{IsRecord, body, micros, kind as kind_of};
 ghost use Rattle.mrt_records.specs.Values.{reported};
 ghost use Rattle.mrt_records.specs.Bodies.{Body, IsReported};
 
@@ -19,6 +20,9 @@ use std::alloc::{AllocError, Global};
 /// How many octets the microseconds of a record with them have (RFC 6396 section 3).
 const MICROSECONDS: usize = 4;
 
+/// The most microseconds within a second.
+const MOST_MICROSECONDS: u32 = 999_999;
+
 const BGP4MP_ET: u16 = 17;
 
 /// The octets after a record's header and microseconds; none if it is too short for them.
@@ -32,6 +36,19 @@ fn body_of(kind: u16, bytes: &[u8]) -> &[u8]
         return rest;
     }
     rest.split_at(MICROSECONDS.min(rest.len())).1
+}
+
+/// The microseconds after a record's header, at most 999,999; 0 if it has none, or ends within them.
+fn micros_of(kind: u16, bytes: &[u8]) -> u32
+    requires header { 12 ≤ length bytes.now }
+    requires kind { kind ≡ kind_of bytes.now }
+    ensures micros { result ≡ micros bytes.now }
+    ensures within { result < micros_a_second }
+{
+    if kind != BGP4MP_ET || bytes.len() < HEADER + MICROSECONDS {
+        return 0;
+    }
+    u32_at(bytes, HEADER).min(MOST_MICROSECONDS)
 }
 
 /// The item of a body of this form.
@@ -77,7 +94,7 @@ pub(crate) fn item_of(alloc: Global, bytes: &[u8]) -> Result<Item, AllocError>
     let Some(form) = form_of(kind, subtype) else {
         return Ok(Item::Skipped { kind, subtype });
     };
-    let time = Moment::from(u32_at(bytes, 0));
+    let time = Moment::within(u32_at(bytes, 0), micros_of(kind, bytes));
     match read_body(alloc, form, time, body_of(kind, bytes)) {
         Ok(item) => Ok(item),
         Err(ReadFault::Malformed) => Ok(Item::Malformed { kind, subtype }),

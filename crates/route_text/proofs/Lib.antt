@@ -9,6 +9,7 @@ pub mod Numbers
 pub mod PathTexts
 pub mod Prefixes
 pub mod RouteFields
+mod Seconds
 pub mod Separated
 pub mod StepWords
 mod Timestamps

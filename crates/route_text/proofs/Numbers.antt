@@ -1,10 +1,10 @@
 -- Decimal digits.
-use Rattle.std.proofs.Common.{◌≡◌, ◌≢◌, ℕ, ◌<◌, ◌^◌, List, [], ◌∷◌, get_or, decimal, sym, ap, subst, ◌∙◌, ⊎_elim, arith, Result, Ok, Err, Option, IfSome, IfNone}
+use Rattle.std.proofs.Common.{◌≡◌, ◌≢◌, ℕ, ◌<◌, ◌≤◌, ◌^◌, length, List, [], ◌∷◌, get_or, decimal, sym, ap, subst, ◌∙◌, ⊎_elim, arith, Result, Ok, Err, Option, IfSome, IfNone}
 use Rattle.std.specs.Int.{IsInRange}
 use Rattle.std.specs.Result.{result_ok}
 use Rattle.std.specs.Str.Parse.{ParsesUnsigned, AllDigits, digits_value}
 use Rattle.std.proofs.lemmas.Bool.{cases_lt}
-use Rattle.std.proofs.lemmas.Str.Parse.{digit_at, IsNumeralModel, numerals_by_value, tells_digits, parse_plain}
+use Rattle.std.proofs.lemmas.Str.Parse.{digit_at, IsNumeralModel, numerals_by_value, tells_digits, parse_plain, digits_value_short}
 use Rattle.std.proofs.lemmas.Fmt.{decimal_is_IsNumeral, decimal_digit, first_decimal, decimal_nonempty, decimal-digits_value, parse-decimal}
 use Rattle.route_text.specs.Octets.{Lacks}
 
@@ -27,6 +27,10 @@ first_decimal-zero n text fits e zero =
 pub first_decimal-plus : (n : ℕ) (text : List ℕ) → n < 2 ^ 64 → text ≡ decimal n → get_or text 0 0 ≢ 43
 first_decimal-plus n text fits e plus =
     (Lacks-decimal 43 n fits (λ h. omega arith)).nowhere 0 (decimal_nonempty n fits) (sym (ap (λ t. get_or t 0 0) e) ∙ plus)
+
+-- few digits have a small value
+pub value_below : (digits : List ℕ) (k : ℕ) → AllDigits 10 digits → length digits ≤ k → digits_value 10 digits < 10 ^ k
+value_below digits k are few = digits_value_short own digits k are few
 
 module _ {E : Type 0} where
   -- what `parse` reads of a text without a sign or a leading zero is written as that text

@@ -1,5 +1,7 @@
--- A number is no timestamp: what would follow its date are digits, and a time begins with a letter or a space.
-use Rattle.std.proofs.Common.{◌≡◌, ℕ, ◌+◌, ◌*◌, ◌<◌, ◌≤◌, ◌==◌, ◌&&◌, Bool, true, false, cond, List, [], ◌∷◌, Option, Some, None, option_map, Result, Ok, Err, IfOk, IfSome, IsErr, arith, refl, subst}
+-- Seconds are no timestamp: what would follow its date are digits and points, and a time begins with a letter or a space.
+use Rattle.std.proofs.Common.{◌≡◌, ℕ, ◌+◌, ◌*◌, ◌<◌, ◌≤◌, ◌==◌, ◌&&◌, Bool, true, false, cond, List, [], ◌∷◌, ◌++◌, inl, inr, Option, Some, None, option_map, Result, Ok, Err, IfOk, IfSome, IsErr, arith, refl, subst}
+use Rattle.std.specs.Prelude.{◌⊎◌}
+use Rattle.std.specs.List.{AllByRecursion}
 use Rattle.std.specs.Option.{option_and_then}
 use Rattle.std.specs.Char.{is_ascii_digit}
 use Rattle.std.specs.Str.Parse.{AllDigits}
@@ -17,10 +19,21 @@ use Rattle.jiff_fmt.specs.Temporal.{DateParts, year, date_separator, date_spec, 
 use Rattle.jiff_fmt.specs.Rfc9557.{ZoneAnnotation}
 use Rattle.jiff_fmt.specs.Rfc9557 as Rfc9557
 
--- ---- digits are left
+-- ---- digits and points are left
 
-abbrev Left : List ℕ → Type 0
-Left rest = AllDigits 10 rest
+abbrev InSeconds : ℕ → Type 0
+InSeconds c = (digit_value c < 10) ⊎ (c ≡ 46)
+
+abbrev pub Left : List ℕ → Type 0
+Left rest = AllByRecursion InSeconds rest
+
+pub Left-digits : (text : List ℕ) → AllDigits 10 text → Left text
+Left-digits [] d = tt
+Left-digits (c ∷ rest) d = (inl d.0, Left-digits rest d.1)
+
+pub Left-fraction : (text digits : List ℕ) → AllDigits 10 text → AllDigits 10 digits → Left (text ++ 46 ∷ digits)
+Left-fraction [] digits d e = (inr refl, Left-digits digits e)
+Left-fraction (c ∷ rest) digits d e = (inl d.0, Left-fraction rest digits d.1 e)
 
 abbrev Leaves : {A : Type 0} → Read A → Type 0
 Leaves r = IfOk r (λ p. Left p.1)
@@ -66,23 +79,27 @@ four : (text : List ℕ) → Left text → LeavesIf (four_digits text)
 unfolding four_digits
 four text d = four_from (two_digits text) (two text d)
 
-other_byte : (c k : ℕ) → digit_value c < 10 → ((48 ≤ k) × (k ≤ 57) → ⊥) → (c == k) ≡ false
-other_byte c k digit other = ne_eqb c k (λ e. other (subst (λ (n : ℕ). (48 ≤ n) × (n ≤ 57)) e (range c digit)))
+other_byte : (c k : ℕ) → InSeconds c → ((46 ≤ k) × (k ≤ 57) → ⊥) → (c == k) ≡ false
+other_byte c k in_seconds other = ne_eqb c k (λ e. other (subst (λ (n : ℕ). (46 ≤ n) × (n ≤ 57)) e (range c in_seconds)))
   where
-    range : (c : ℕ) → digit_value c < 10 → (48 ≤ c) × (c ≤ 57)
-    range c h = digit_from_value c h
+    digit : (c : ℕ) → (48 ≤ c) × (c ≤ 57) → (46 ≤ c) × (c ≤ 57)
+    digit c h = (omega (arith, h.0), h.1)
+
+    range : (c : ℕ) → InSeconds c → (46 ≤ c) × (c ≤ 57)
+    range c (inl h) = digit c (digit_from_value c h)
+    range c (inr e) = (omega (arith, e), omega (arith, e))
 
 year_left : (text : List ℕ) → Left text → Leaves (year text)
 unfolding year
 year_left [] d = then (or_err (Parse Syntax.Year) (four_digits [])) _ (or_left _ (four_digits []) (four [] d)) (λ p h. h)
 year_left (c ∷ rest) d =
-    rw (other_byte c 43 d.0 (λ r. omega arith), other_byte c 45 d.0 (λ r. omega arith))
+    rw (other_byte c 43 d.0 (λ r. omega arith), other_byte c 45 d.0 (λ r. omega (arith, r.0)))
     (then (or_err (Parse Syntax.Year) (four_digits (c ∷ rest))) _ (or_left _ (four_digits (c ∷ rest)) (four (c ∷ rest) d)) (λ p h. h))
 
 separated : (extended : Bool) (text : List ℕ) → Left text → IfOk (date_separator extended text) Left
 separated true [] d = tt
 separated false [] d = tt
-separated extended (c ∷ rest) d = rw (other_byte c 45 d.0 (λ r. omega arith)) (go extended)
+separated extended (c ∷ rest) d = rw (other_byte c 45 d.0 (λ r. omega (arith, r.0))) (go extended)
   where
     go : (b : Bool) → IfOk (cond b (Err (Parse Syntax.Separator)) (Ok (c ∷ rest))) Left
     go true = tt
@@ -115,9 +132,9 @@ date_alone (date, c ∷ rest) d =
     rw (other_byte c 32 d.0 (λ r. omega arith), other_byte c 84 d.0 (λ r. omega arith), other_byte c 116 d.0 (λ r. omega arith))
     (no_instant date (Rfc9557.parse (c ∷ rest)))
 
-pub digits-not_timestamp : (text : List ℕ) → AllDigits 10 text → IsErr (parse_timestamp text)
+pub seconds-not_timestamp : (text : List ℕ) → Left text → IsErr (parse_timestamp text)
 unfolding temporal_datetime
-digits-not_timestamp text d = go (date_spec text) (date_left text d)
+seconds-not_timestamp text d = go (date_spec text) (date_left text d)
   where
     go : (r : Read DateParts) → Leaves r → IsErr (full (r >>= after_date) >>= to_timestamp)
     go (Ok p) h = date_alone p h

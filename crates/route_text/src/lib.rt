@@ -16,6 +16,9 @@
 //! Addresses are read by std's grammar, with dots refused outside IPv4, and written by std's groups, which
 //! are RFC 5952's form also for ::ffff:0:0/96, where that RFC would recommend a dotted tail. jiff takes a
 //! space for the `T` of a timestamp; a text with a space is refused here.
+//!
+//! A moment is written as seconds, with a point and six digits where they aren't whole, so whole seconds look as numbers
+//! do. A fraction is read by its digits, 1 to 6 of them: what `parse` takes beside digits, a sign, is refused.
 #![tactic(auto)]
 
 mod address;
@@ -36,8 +39,8 @@ mod step;
 
 pub use address::{addresses_have_texts, read_address, read_ipv4, read_ipv6, write_address};
 pub use fault::{BadText, TextError};
-pub use laws::texts_have_one_value;
-pub use moment::{read_mark, read_moment, write_mark, write_moment};
+pub use laws::{moments_are_read, texts_have_one_value};
+pub use moment::{read_mark, read_moment, write_mark, write_micros, write_moment};
 pub use number::{read_number, write_number};
 pub use prefix::{read_prefix, write_prefix};
 pub use route_reading::read_route;

@@ -1,5 +1,6 @@
 //! Numbers in decimal digits.
 
+ghost use Rattle.std.specs.Str.Parse.{AllDigits, IsNumeral, digits_value};
 ghost use Rattle.std.specs.Prelude.{◌≡◌, ◌≢◌, ◌≤◌, ◌<◌, ◌^◌, ◌++◌, ℕ, IfOk, OnOk, OnErr, IfSome, IfNone, decimal, string_bytes};
 
 use crate::fault::BadText;
@@ -41,6 +42,21 @@ fn read_u64(text: &str) -> Option<u64>
         return None;
     }
     text.parse::<u64>().ok()
+}
+
+/// The number that the digits write, of which the first may be zeros.
+pub(crate) fn read_digits(text: &str) -> Result<u64, BadText>
+    ensures digits { IfOk result (λ number. AllDigits 10 text.now) }
+    ensures value { IfOk result (λ number. number ≡ digits_value 10 text.now) }
+    ensures none { OnErr result (IsNumeral 10 text.now → digits_value 10 text.now < 2 ^ 64 → ⊥) }
+{
+    if text.starts_with('+') {
+        return Err(BadText);
+    }
+    let Ok(number) = text.parse::<u64>() else {
+        return Err(BadText);
+    };
+    Ok(number)
 }
 
 /// The number of 32 bits that the text writes.

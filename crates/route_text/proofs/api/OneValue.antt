@@ -1,7 +1,6 @@
 -- A text has one prefix at most, and one instant.
 use Rattle.std.proofs.Common.{◌≡◌, ℕ, ℤ, pos, ◌*◌, ◌^◌, ◌<◌, List, [], ◌∷◌, ◌++◌, Result, Ok, Err, IsErr, decimal, append_assoc, arith, sym, subst, ◌∙◌, ⊎_elim}
-use Rattle.std.specs.Str.Parse.{AllDigits}
-use Rattle.std.proofs.lemmas.Fmt.{decimal_injective, decimal_is_IsNumeral}
+use Rattle.std.proofs.lemmas.Fmt.{decimal_injective}
 use Rattle.jiff.specs.Words.{parse_timestamp}
 use Rattle.jiff_core.specs.declared.error.Error.{Error}
 use Rattle.route_model.specs.Prefix.{IpPrefix, cleared_address}
@@ -10,7 +9,8 @@ use Rattle.route_text.specs.PrefixText.{IsPrefixText}
 use Rattle.route_text.proofs.api.Addresses.{IsAddressText_unique, length-IsAddressText}
 use Rattle.route_text.proofs.Numbers.{Lacks-decimal}
 use Rattle.route_text.proofs.Prefixes.{prefix_parts}
-use Rattle.route_text.proofs.Timestamps.{digits-not_timestamp}
+use Rattle.route_text.proofs.Seconds.{one_seconds, seconds_left}
+use Rattle.route_text.proofs.Timestamps.{Left, seconds-not_timestamp}
 
 -- ---- prefixes
 
@@ -34,22 +34,25 @@ one_prefix text a b h k =
 
 -- ---- instants
 
-not_both : (n : ℕ) (text : List ℕ) (seconds : ℕ) → n < 2 ^ 64 → text ≡ decimal n → IsTimestamp text seconds → ⊥
-not_both n text seconds fits number time =
-    refused (parse_timestamp text) (digits-not_timestamp text (subst (λ (t : List ℕ). AllDigits 10 t) (sym number) (decimal_is_IsNumeral n fits).0.1)) time.instant
+not_both : (text : List ℕ) (moment : ℕ) → Left text → IsTimestamp text moment → ⊥
+not_both text moment left time = refused (parse_timestamp text) (seconds-not_timestamp text left) time.instant
   where
-    refused : (r : Result ℤ Error) → IsErr r → r ≡ Ok (pos (seconds * 1000000000)) → ⊥
+    refused : (r : Result ℤ Error) → IsErr r → r ≡ Ok (pos (moment * 1000)) → ⊥
     refused (Ok x) h e = absurd cc
     refused (Err x) h e = absurd cc
 
 same_nanoseconds : (a b : ℕ) → ◌≡◌ {A = Result ℤ Error} (Ok (pos a)) (Ok (pos b)) → a ≡ b
 same_nanoseconds a b e = cc
 
+-- what two timestamps write of one instant
+pub one_timestamp : (text : List ℕ) (a b : ℕ) → IsTimestamp text a → IsTimestamp text b → a ≡ b
+one_timestamp text a b h k = let same = same_nanoseconds (a * 1000) (b * 1000) (sym h.instant ∙ k.instant) in omega (arith, same)
+
 pub one_instant : (last : ℕ) → last < 2 ^ 64 → (text : List ℕ) (a b : ℕ) → IsInstant last text a → IsInstant last text b → a ≡ b
 one_instant last fits text a b h k =
-    let small : a < 2 ^ 64 = let within = h.within in omega (arith, fits, within) in
-    let also : b < 2 ^ 64 = let within = k.within in omega (arith, fits, within) in
     ⊎_elim
-    (λ e. ⊎_elim (λ f. decimal_injective a b small also (sym e ∙ f)) (λ time. absurd (not_both a text b small e time)) k.encoded)
-    (λ time. ⊎_elim (λ f. absurd (not_both b text a also f time)) (λ other. let same = same_nanoseconds (a * 1000000000) (b * 1000000000) (sym time.instant ∙ other.instant) in omega (arith, same)) k.encoded)
+    (λ e. ⊎_elim (λ f. one_seconds last fits text a b h.within k.within e f) (λ time. absurd (not_both text b (seconds_left last fits text a h.within e) time)) k.encoded)
+    (λ time. ⊎_elim
+    (λ f. absurd (not_both text a (seconds_left last fits text b k.within f) time))
+    (λ other. one_timestamp text a b time other) k.encoded)
     h.encoded
