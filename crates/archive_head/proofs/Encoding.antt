@@ -6,7 +6,9 @@ use Rattle.byteorder.specs.Endian.{big_number}
 use Rattle.route_model.specs.Octets.{number_at}
 use Rattle.route_model.proofs.Numbers.{again_eight}
 use Rattle.archive_head.specs.declared.lane.Lane.{Lane}
-use Rattle.archive_head.specs.Head.{number, lane_octets, head_octets, Contents}
+use Rattle.route_model.specs.declared.unit.Unit.{Unit}
+use Rattle.route_model.specs.Units.{unit_number}
+use Rattle.archive_head.specs.Head.{number, lane_octets, octets_in, Contents}
 
 pub length-number : (n : ℕ) → length (number n) ≡ 8
 unfolding number
@@ -17,19 +19,19 @@ length-numbers [] = refl
 length-numbers (n ∷ ns) = omega (arith, length-append (number n) (flat_map number ns), length-number n, length-numbers ns)
 
 pub length-lane : (l : Lane) → length (lane_octets l) ≡ 64
-length-lane l = length-numbers (l.offered ∷ l.admitted ∷ l.mark ∷ l.first ∷ l.used ∷ 0 ∷ 0 ∷ 0 ∷ [])
+length-lane l = length-numbers (l.offered ∷ l.admitted ∷ l.mark ∷ l.first ∷ l.used ∷ l.since ∷ 0 ∷ 0 ∷ [])
 
 pub length-lanes : (ls : List Lane) → length (flat_map lane_octets ls) ≡ 64 * length ls
 length-lanes [] = refl
 length-lanes (l ∷ ls) = omega (arith, length-append (lane_octets l) (flat_map lane_octets ls), length-lane l, length-lanes ls)
 
 -- a head of at most sixteen collectors fills its page
-pub length-head : (h : Contents) → length h.lanes ≤ 16 → length (head_octets h) ≡ 16384
-length-head h few =
-    let front : List ℕ = flat_map number (h.applied ∷ h.last ∷ h.begun ∷ h.fresh ∷ h.block ∷ h.root ∷ 0 ∷ 0 ∷ []) in
+pub length-head : (u : Unit) (h : Contents) → length h.lanes ≤ 16 → length (octets_in u h) ≡ 16384
+length-head u h few =
+    let front : List ℕ = flat_map number (h.applied ∷ h.last ∷ h.begun ∷ h.fresh ∷ h.block ∷ h.root ∷ unit_number u ∷ 0 ∷ []) in
     let lanes : List ℕ = flat_map lane_octets h.lanes in
     let zeros : List ℕ = replicate (16320 - 64 * length h.lanes) 0 in
-    omega (arith, few, length-append front (lanes ++ zeros), length-append lanes zeros, length-lanes h.lanes, length-replicate {A = ℕ} (16320 - 64 * length h.lanes) 0, length-numbers (h.applied ∷ h.last ∷ h.begun ∷ h.fresh ∷ h.block ∷ h.root ∷ 0 ∷ 0 ∷ []))
+    omega (arith, few, length-append front (lanes ++ zeros), length-append lanes zeros, length-lanes h.lanes, length-replicate {A = ℕ} (16320 - 64 * length h.lanes) 0, length-numbers (h.applied ∷ h.last ∷ h.begun ∷ h.fresh ∷ h.block ∷ h.root ∷ unit_number u ∷ 0 ∷ []))
 
 -- what follows a front is read from the front's end on
 pub beyond : (front rest : List ℕ) (place : ℕ) → number_at 8 (length front + place) (front ++ rest) ≡ number_at 8 place rest

@@ -1,2 +1,4 @@
 mod Encoding
 mod Places
+mod Units
+pub mod api

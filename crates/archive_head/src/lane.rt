@@ -15,4 +15,7 @@ pub struct Lane {
     pub first: u64,
     /// How many octets of its ring are used.
     pub used: u64,
+    /// The number of its first admission whose time is written in the unit of today. Those of lower number that wait are in
+    /// whole seconds.
+    pub since: u64,
 }

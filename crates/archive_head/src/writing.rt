@@ -1,4 +1,4 @@
-//! Writing the head: the one page that encodes it.
+//! Writing the head: the one page that encodes it in a unit.
 
 ghost use Rattle.std.specs.Prelude.{◌≡◌, ◌≤◌, ◌++◌, length, replicate, flat_map, OnOk, IfOk};
 ghost use Rattle.archive_head.specs.Head.{number, lane_octets};
@@ -6,6 +6,7 @@ ghost use Rattle.archive_head.specs.Head.{number, lane_octets};
 use crate::head::Head;
 use crate::lane::Lane;
 use disk_models::{PAGE_SIZE, Page};
+use route_model::Unit;
 use std::alloc::{AllocError, Global};
 
 // The octets of the head before its first collector, and of each collector.
@@ -35,7 +36,7 @@ fn put_numbers(out: &mut Vec<u8>, numbers: &[u64]) -> Result<(), AllocError>
 fn put_lane(out: &mut Vec<u8>, lane: &Lane) -> Result<(), AllocError>
     ensures put { OnOk result (out.new.items ≡ out.old.items ++ lane_octets lane.now) }
 {
-    let mark = lane.mark.seconds();
+    let mark = lane.mark.number();
     put_numbers(
         out,
         &[
@@ -44,7 +45,7 @@ fn put_lane(out: &mut Vec<u8>, lane: &Lane) -> Result<(), AllocError>
             mark,
             lane.first,
             lane.used,
-            0,
+            lane.since,
             0,
             0,
         ],
@@ -73,15 +74,15 @@ fn put_zeros(out: &mut Vec<u8>, count: usize) -> Result<(), AllocError>
 
 impl Head {
     ghost use Rattle.std.specs.Prelude.{◌≡◌, ◌≤◌, length, IfOk};
-    ghost use Rattle.archive_head.specs.Head.{head_octets};
+    ghost use Rattle.archive_head.specs.Head.{head_octets, octets_in};
 
-    // The octets of the head's page.
-    fn encode(&self, alloc: Global) -> Result<Vec<u8>, AllocError>
+    // The octets of the head's page, in a unit.
+    fn encode(&self, alloc: Global, unit: Unit) -> Result<Vec<u8>, AllocError>
         requires few { length self.now.lanes ≤ 16 }
-        ensures encoded { IfOk result (λ octets. octets.items ≡ head_octets self.now) }
+        ensures encoded { IfOk result (λ octets. octets.items ≡ octets_in unit self.now) }
     {
         let mut out = Vec::with_capacity(alloc, PAGE_SIZE)?;
-        let last = self.last.seconds();
+        let last = self.last.number();
         put_numbers(
             &mut out,
             &[
@@ -91,7 +92,7 @@ impl Head {
                 self.fresh,
                 self.block,
                 self.root,
-                0,
+                u64::from(unit.number()),
                 0,
             ],
         )?;
@@ -100,12 +101,20 @@ impl Head {
         Ok(out)
     }
 
+    // The page of the head, in a unit.
+    pub(crate) fn write_in(&self, alloc: Global, unit: Unit) -> Result<Page, AllocError>
+        requires few { length self.now.lanes ≤ 16 }
+        ensures page { IfOk result (λ page. page ≡ octets_in unit self.now) }
+    {
+        let octets = self.encode(alloc, unit)?;
+        Page::from_slice(alloc, &octets)
+    }
+
     /// The page of the head. It fails if an allocation fails, and only then.
     pub fn write(&self, alloc: Global) -> Result<Page, AllocError>
         requires few { length self.now.lanes ≤ 16 }
         ensures page { IfOk result (λ page. page ≡ head_octets self.now) }
     {
-        let octets = self.encode(alloc)?;
-        Page::from_slice(alloc, &octets)
+        self.write_in(alloc, Unit::written())
     }
 }

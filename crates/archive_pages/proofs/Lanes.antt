@@ -10,11 +10,11 @@ use Rattle.route_meaning.specs.History.{Intake, History, waiting}
 use Rattle.interleaving_core.specs.Steps.{changed}
 use Rattle.archive_head.specs.declared.lane.Lane.{Lane}
 use Rattle.intake.specs.Ring.{IsRing}
-use Rattle.intake.proofs.api.Staying.{holds_same}
 use Rattle.archive_pages.specs.declared.settings.Settings.{Settings}
 use Rattle.archive_pages.specs.Places.{SamePages, ring_low, ring_of, tree_low}
 use Rattle.archive_pages.specs.Represented.{LaneRepresents}
 use Rattle.archive_pages.proofs.api.Histories.{changed_there, changed_other}
+use Rattle.archive_pages.proofs.api.Stored.{holds_framed}
 
 -- ---- where the parts of the map lie
 
@@ -32,7 +32,8 @@ lane_framed s old new c lane i waits len same l = record {
   admitted = l.admitted;
   mark = l.mark;
   place = subst (λ n. IsRing n (ring_of s c lane)) (sym len) l.place;
-  holds = holds_same (length old) (ring_of s c lane) old new waits l.place same l.holds;
+  since = l.since;
+  holds = holds_framed s old c lane new waits l.place same l.holds;
 }
 
 pub lane_as : (s : Settings) (pages : List (List ℕ)) (c k : ℕ) (lane lane' : Lane) (i i' : Intake) (w w' : List Admitted) → k ≡ c → lane' ≡ lane → i' ≡ i → w' ≡ w → LaneRepresents s pages c lane i w → LaneRepresents s pages k lane' i' w'

@@ -1,4 +1,5 @@
 mod Timing
 mod Lanes
+mod Scaling
 pub mod api
 mod Next

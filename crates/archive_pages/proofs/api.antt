@@ -1,3 +1,4 @@
+pub mod Stored
 pub mod Histories
 pub mod Representing
 pub mod Creating

@@ -27,11 +27,10 @@ HasLane head c lane = slice_get head.lanes c ≡ Some lane
 
 -- what the head keeps of a collector once its ring took what is kept of a batch
 abbrev pub lane_with : Lane → Kept → Lane
-lane_with lane kept = record {
+lane_with lane kept = record lane {
   offered = lane.offered + kept.offered;
   admitted = lane.admitted + length kept.timely;
   mark = kept.mark;
-  first = lane.first;
   used = lane.used + octets_for kept.timely;
 }
 

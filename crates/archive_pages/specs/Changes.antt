@@ -20,11 +20,10 @@ with_lane head c lane = record head { lanes = slice_set head.lanes c lane }
 
 -- what the head keeps of a collector after a batch: its ring uses `used` octets then
 abbrev pub lane_given : Lane → ℕ → List Admitted → ℕ → Lane
-lane_given lane mark batch used = record {
+lane_given lane mark batch used = record lane {
   offered = lane.offered + length batch;
   admitted = lane.admitted + length (timely admitted_time mark [] batch);
   mark = greatest mark (map admitted_time batch);
-  first = lane.first;
   used = used;
 }
 

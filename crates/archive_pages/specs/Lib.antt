@@ -1,4 +1,5 @@
 pub mod Places
+pub mod Stored
 pub mod Represented
 pub mod Changes
 pub mod Refusals

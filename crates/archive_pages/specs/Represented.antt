@@ -7,10 +7,11 @@ use Rattle.version_model.specs.Versions.{Version}
 use Rattle.route_history.specs.Kept.{Timed, timed, HaveVersions}
 use Rattle.route_history.specs.Stamps.{stamp_of}
 use Rattle.archive_head.specs.declared.lane.Lane.{Lane}
-use Rattle.archive_head.specs.Head.{Contents, head_octets, IsHead}
-use Rattle.intake.specs.Ring.{page_at, RingRepresents, IsRing}
+use Rattle.archive_head.specs.Head.{Contents, EncodesHead, IsHead}
+use Rattle.intake.specs.Ring.{page_at, IsRing}
 use Rattle.archive_pages.specs.declared.settings.Settings.{Settings}
 use Rattle.archive_pages.specs.Places.{ring_of, tree_low}
+use Rattle.archive_pages.specs.Stored.{LaneHolds}
 
 -- the time of the last of the changes, or the one before them if there is none
 abbrev pub last_time : ℕ → List Timed → ℕ
@@ -23,13 +24,14 @@ last_time before (t ∷ ts) = last_time t.time ts
 abbrev pub TreeOn : Type 1
 TreeOn = List (List ℕ) → (ℕ → List ℕ → Type 0) → ℕ → ℕ → ℕ → ℕ → ℕ → List Version → Type 0
 
--- The head has what a collector gave, and the collector's ring represents of it what waits, in its order.
+-- The head has what a collector gave, and the collector's ring holds of it what waits, in its order.
 pub record LaneRepresents (s : Settings) (pages : List (List ℕ)) (c : ℕ) (lane : Lane) (i : Intake) (waits : List Admitted) : Type 0 where
   pub offered : lane.offered ≡ i.offered
   pub admitted : lane.admitted ≡ length i.admitted
   pub mark : lane.mark ≡ i.mark
   pub place : IsRing (length pages) (ring_of s c lane)
-  pub holds : RingRepresents pages (ring_of s c lane) waits
+  pub since : lane.since ≤ lane.admitted
+  pub holds : LaneHolds s pages c lane waits
 
 -- With this head the rings and the tree of these pages represent the history. What page 0 holds isn't said: a transaction writes it last.
 pub record HeadRepresents (Tree : TreeOn) (s : Settings) (settled : ℕ → List ℕ → Type 0) (head : Contents) (pages : List (List ℕ)) (h : History) : Type 0 where
@@ -44,11 +46,11 @@ pub record HeadRepresents (Tree : TreeOn) (s : Settings) (settled : ℕ → List
   pub kept : HaveVersions (applied h) versions
   pub tree : Tree pages settled (tree_low s) head.root head.fresh head.block (stamp_of head.last head.applied) versions
 
--- Page 0 is the one encoding of a head with which the pages represent the history.
+-- Page 0 encodes a head with which the pages represent the history.
 pub record PagesRepresent (Tree : TreeOn) (s : Settings) (settled : ℕ → List ℕ → Type 0) (pages : List (List ℕ)) (h : History) : Type 0 where
   pub head : Contents
   pub valid : IsHead head
-  pub first : page_at pages 0 ≡ head_octets head
+  pub first : EncodesHead head (page_at pages 0)
   pub head_represents : HeadRepresents Tree s settled head pages h
 
 -- with these blocks the tree represents the same wherever its own pages are the same

@@ -100,6 +100,7 @@ fn take<P: Pages>(
         mark: batch.mark,
         first: ring.first,
         used: ring.used,
+        ..lane
     })
 }
 

@@ -1,13 +1,14 @@
 //! An admission with its encoding.
-use route_model::{Admission, encodings_are_one};
+use route_model::{Admission, Moment, encodings_are_one};
 use std::alloc::{AllocError, Global};
 use std::marker::Model;
 
 /// An admission that was decoded, with its encoding. A caller who reads a ring's front again and again keeps it: if the same octets still stand
-/// there, they aren't decoded again.
+/// there, they aren't decoded again. The encoding may have another time than the admission: that of an older unit.
 #[derive(Drop)]
 pub struct Encoded {
     admission: Admission,
+    encoded: Moment,
     octets: Vec<u8>,
 }
 
@@ -18,7 +19,7 @@ impl Model for Encoded {
 
     ghost view = { λ a. a.admission };
 
-    ghost invariant = { λ a. EncodesAdmission a.admission a.octets.items };
+    ghost invariant = { λ a. EncodesAdmission (record { time = a.encoded; changes = a.admission.changes }) a.octets.items };
 }
 
 impl Encoded {
@@ -30,6 +31,22 @@ impl Encoded {
         ensures { result.now ≡ self.now }
     {
         &self.admission
+    }
+
+    /// The same admission at another time than its encoding has.
+    pub fn at(self, time: Moment) -> Encoded
+        ensures admission { result ≡ record { time = time; changes = self.changes } }
+    {
+        let Encoded {
+            admission,
+            encoded,
+            octets,
+        } = self;
+        Encoded {
+            admission: admission.at(time),
+            encoded,
+            octets,
+        }
     }
 
     /// The admission that these octets encode, or none. It is the kept one, if they are its own.
@@ -44,12 +61,18 @@ impl Encoded {
         if let Some(kept) = kept {
             if kept.octets == octets {
                 encodings_are_one();
-                return Ok(Some(kept));
+                let encoded = kept.encoded;
+                return Ok(Some(kept.at(encoded)));
             }
         }
         let Some(admission) = Admission::decode(alloc, octets.as_slice())? else {
             return Ok(None);
         };
-        Ok(Some(Encoded { admission, octets }))
+        let encoded = admission.time();
+        Ok(Some(Encoded {
+            admission,
+            encoded,
+            octets,
+        }))
     }
 }

@@ -67,7 +67,7 @@ impl Given {
         ensures raised { result ≡ true → (self.old.mark ≤ mark) × (self.new ≡ with_mark mark self.old) }
         ensures back { result ≡ false → (mark < self.old.mark) × (self.new ≡ self.old) }
     {
-        if mark.seconds() < self.mark.seconds() {
+        if mark.number() < self.mark.number() {
             return false;
         }
         self.mark = mark;

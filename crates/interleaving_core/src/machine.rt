@@ -195,7 +195,7 @@ impl Machine {
         let all = order(self.alloc, &self.given)?;
         let whole = self.whole.min(all.len());
         let settled = settled_by(self.alloc, &self.given, &all[whole..])?;
-        if settled.seconds() <= question.query().last_moment().seconds() {
+        if settled.number() <= question.query().last_moment().number() {
             return Ok(Reply::AboveWatermark(settled));
         }
         let turned = take_turn(self.alloc, &all[..whole], question, &reach)?;

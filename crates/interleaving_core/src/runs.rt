@@ -36,7 +36,7 @@ fn read(step: &Step)
     match step {
         Step::Admit(_, batch) => read_batch(batch),
         Step::Mark(_, mark) => {
-            let _seconds = mark.seconds();
+            let _range = mark.number();
         }
         Step::Apply(_)
         | Step::Flush

@@ -47,7 +47,7 @@ fn least_of(marks: &[Mark]) -> Mark
     }
     let mut found = marks[0];
     for mark in marks {
-        if mark.seconds() < found.seconds() {
+        if mark.number() < found.number() {
             found = *mark;
         }
     }

@@ -56,7 +56,7 @@ pub(crate) fn catch_up<A: Store, N: Named + OnDisk<A::Disk>>(
     ensures caught_up { IsSome N.disk → IsCaughtUp writer.new }
     ensures rises { Within writer.old.numbers writer.new.numbers }
 {
-    board.raise(writer, Word::Watermark, archive.settled().seconds());
+    board.raise(writer, Word::Watermark, archive.settled().number());
     for c in 0..board.collectors() {
         board.raise(writer, Word::Durable(c), archive.admitted(c));
     }

@@ -190,7 +190,7 @@ impl<A: Store, N: Named + OnDisk<A::Disk>, G: Gate + Drop> Shared<A, N, G> {
         self.board.split(pass)
     }
 
-    /// The settled watermark, in seconds since 1970. It waits for nobody.
+    /// The settled watermark, in microseconds since 1970. It waits for nobody.
     pub fn watermark(&self, pass: &mut Pass<N>) -> u64
         ensures seen { pass.new ≡ with_seen pass.old 0 result }
         ensures rises { watermark_of pass.old ≤ result }

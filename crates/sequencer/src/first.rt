@@ -64,7 +64,7 @@ pub(crate) fn least_bound(lanes: &[Lane]) -> Mark
     let mut settled = lanes[0].bound();
     for lane in lanes {
         let bound = lane.bound();
-        if bound.seconds() < settled.seconds() {
+        if bound.number() < settled.number() {
             settled = bound;
         }
     }

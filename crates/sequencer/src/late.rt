@@ -33,7 +33,7 @@ pub fn sieve(alloc: Global, mark: Mark, times: &[Moment]) -> Result<Sieved, Allo
     let mut late = Vec::new(alloc);
     let mut reached = mark;
     for (index, &time) in times.iter().enumerate() {
-        if time.seconds() < reached.seconds() {
+        if time.number() < reached.number() {
             late.push(Late {
                 index,
                 time,

@@ -106,7 +106,7 @@ impl Sequencer {
         ensures same { OnErr result (self.new ≡ self.old) }
     {
         let lane = &mut self.lanes[collector];
-        if mark.seconds() < lane.mark().seconds() {
+        if mark.number() < lane.mark().number() {
             return Err(MarkBack);
         }
         lane.set_mark(mark);
@@ -176,6 +176,17 @@ impl Sequencer {
             return None;
         }
         Some(first.number)
+    }
+
+    /// The collector's first time that isn't passed over, if one waits.
+    pub fn time_after(&self, ahead: &Ahead, collector: usize) -> Option<Moment>
+        requires count { length ahead.now ≡ length self.now }
+        requires inside { collector < length self.now }
+        ensures time { (times : List ℕ) → slice_get (waiting_times (beyond ahead.now self.now)) collector ≡ Some times → result ≡ slice_get times 0 }
+    {
+        let lane = &self.lanes[collector];
+        let passed = ahead.passed[collector];
+        lane.beyond(passed)
     }
 
     /// Passes over one more time of the collector that [`Sequencer::next_after`] returns.

@@ -7,7 +7,7 @@ use Rattle.archive_head.specs.Head.{Contents}
 
 -- what is kept of a collector, from a place on
 abbrev pub lane_at : List ℕ → ℕ → Lane
-lane_at octets place = record { offered = number_at 8 place octets; admitted = number_at 8 (place + 8) octets; mark = number_at 8 (place + 16) octets; first = number_at 8 (place + 24) octets; used = number_at 8 (place + 32) octets }
+lane_at octets place = record { offered = number_at 8 place octets; admitted = number_at 8 (place + 8) octets; mark = number_at 8 (place + 16) octets; first = number_at 8 (place + 24) octets; used = number_at 8 (place + 32) octets; since = number_at 8 (place + 40) octets }
 
 -- what is kept of this many collectors, from the i-th on
 abbrev pub lanes_from : List ℕ → ℕ → ℕ → List Lane

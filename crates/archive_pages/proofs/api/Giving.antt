@@ -30,7 +30,7 @@ lane_is_given lane before batch kept is =
     let o = is.count in
     let a = ap length is.items in
     let m = is.mark in
-    λ x. record { offered = lane.offered + o x; admitted = lane.admitted + a x; mark = m x; first = lane.first; used = lane.used + octets_for kept.timely }
+    λ x. record lane { offered = lane.offered + o x; admitted = lane.admitted + a x; mark = m x; used = lane.used + octets_for kept.timely }
 
 -- Where the collector's ring gained what is kept of a batch, and no page of another owner changed, the history was given the batch.
 pub shows_given : (Tree : TreeOn) (s : Settings) (settled : ℕ → List ℕ → Type 0) → IsFramed Tree settled → (shows : List (List ℕ) → Type 0) (head : Contents) (old : List (List ℕ)) (h : History) (c : ℕ) (batch : List Admitted) (kept : Kept) (lane : Lane) (i : Intake)
@@ -39,13 +39,13 @@ pub shows_given : (Tree : TreeOn) (s : Settings) (settled : ℕ → List ℕ →
     → Shows Tree s settled shows (with_lane head c (lane_with lane kept)) (given h c batch)
 shows_given Tree s settled framed shows head old h c batch kept lane i b valid at here is gains =
     let own = b.lanes c lane i at here in
-    let gained = gains (part c (waiting h)) own.holds in
+    let gained = gains own.holds.stored own.holds.represents in
     let used = lane.used + octets_for kept.timely in
     let same = lane_is_given lane i.mark batch kept is in
-    let represents_all : RepresentsAlone gained.pages (record (ring_of s c lane) { used = used }) (part c (waiting h) ++ timely admitted_time i.mark [] batch) = subst (λ (l : List Admitted). RepresentsAlone gained.pages (record (ring_of s c lane) { used = used }) (part c (waiting h) ++ l)) is.items gained.represents_all in
+    let represents_all : RepresentsAlone gained.pages (record (ring_of s c lane) { used = used }) (own.holds.stored ++ timely admitted_time i.mark [] batch) = subst (λ (l : List Admitted). RepresentsAlone gained.pages (record (ring_of s c lane) { used = used }) (own.holds.stored ++ l)) is.items gained.represents_all in
     record {
       pages = gained.pages;
       shown = gained.shown;
       head_represents = subst (λ (l : Lane). HeadRepresents Tree s settled (with_lane head c l) gained.pages (given h c batch)) (sym same)
-          (head_represents_given Tree s settled framed head old gained.pages h c batch lane i used b (right_given h c batch valid b.right) at here (record { count = gained.changes.count; below = gained.changes.below; above = gained.changes.above }) represents_all);
+          (head_represents_given Tree s settled framed head old gained.pages h c batch lane i used b (right_given h c batch valid b.right) at here (record { count = gained.changes.count; below = gained.changes.below; above = gained.changes.above }) own.holds represents_all);
     }

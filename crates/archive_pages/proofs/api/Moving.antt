@@ -10,12 +10,14 @@ use Rattle.interleaving_core.specs.Steps.{changed, moved}
 use Rattle.route_history.specs.Kept.{timed, AreVersions}
 use Rattle.archive_head.specs.declared.lane.Lane.{Lane}
 use Rattle.archive_head.specs.Head.{Contents}
-use Rattle.intake.specs.Ring.{entry, RingRepresents}
-use Rattle.intake.proofs.api.Leaving.{holds_popped, is_ring_popped}
+use Rattle.intake.specs.Ring.{entry}
+use Rattle.intake.proofs.api.Leaving.{is_ring_popped}
 use Rattle.archive_pages.specs.declared.settings.Settings.{Settings}
 use Rattle.archive_pages.specs.Places.{SamePages, ring_low, ring_of}
+use Rattle.archive_pages.specs.Stored.{LaneHolds}
 use Rattle.archive_pages.specs.Represented.{TreeOn, LaneRepresents, HeadRepresents, last_time}
 use Rattle.archive_pages.specs.Changes.{next_change, head_moved, lane_popped, Takes}
+use Rattle.archive_pages.proofs.api.Stored.{holds_after, holds_size}
 use Rattle.archive_pages.proofs.Lanes.{lanes_changed, lane_framed, ring_before_tree}
 use Rattle.archive_pages.proofs.Timing.{timed_part, timed_whole, versions_more, last_time-append}
 
@@ -75,13 +77,13 @@ head_represents_whole Tree s settled few head fresh block root old new h next la
     let n = b.lanes_number in
     let own = lane_framed s old new c lane i (part c (waiting h)) t.changes.count (beyond c (let w = slice_get_within head.lanes c lane at in omega arith)) (b.lanes c lane i at there) in
     let first : part c (waiting h) ≡ next.item ∷ part c later = ap (part c) here ∙ rw (eq-eqb c c refl) refl in
-    let held = subst (RingRepresents new (ring_of s c lane)) first own.holds in
-    let fits : length (entry next.item) ≤ lane.used = (let size = held.size in let both = length-append (entry next.item) (flat_map entry (part c later)) in omega arith) in
+    let held = subst (LaneHolds s new c lane) first own.holds in
+    let fits : length (entry next.item) ≤ lane.used = (let size = holds_size s new c lane (next.item ∷ part c later) held in let both = length-append (entry next.item) (flat_map entry (part c later)) in omega arith) in
     let place = is_ring_popped (length new) (ring_of s c lane) next.item fits own.place in
-    let holds = holds_popped new (ring_of s c lane) next.item (part c later) own.place.start own.place.used held in
+    let holds = holds_after s new c lane next.item (part c later) own.place.start own.place.used held in
     moved_with Tree s settled few head h.some fresh block root (slice_set head.lanes c lane') old new h g next b right refl (timed_whole h next later here le) t (length-set head.lanes c lane')
     (lanes_changed s old new h g c (λ j. j) head.lanes lane' i (sym (changed_none c h.intakes)) there (slice_get_within head.lanes c lane at) b.lanes
-    (record { offered = own.offered; admitted = own.admitted; mark = own.mark; place = place; holds = subst (λ l. RingRepresents new (ring_of s c lane') (part c l)) (sym waits) holds })
+    (record { offered = own.offered; admitted = own.admitted; mark = own.mark; place = place; since = own.since; holds = subst (λ l. LaneHolds s new c lane' (part c l)) (sym waits) holds })
     t.changes.count
     (λ k ne lt. beyond k (omega arith))
     (λ k j ne had. ap (part k) waits ∙ sym (ap (part k) here ∙ rw (ne_eqb c k (λ e. ne (sym e))) refl)))

@@ -1,9 +1,9 @@
 -- The pages after a mark, after a batch, and where more blocks are settled, represent the history of then.
 use Rattle.std.proofs.Common.{◌≡◌, ◌≢◌, ◌<◌, ◌≤◌, ℕ, ◌+◌, List, [], ◌++◌, length, set, refl, sym, ◌∙◌, ap, subst, inl, inr, arith, Some, length-set, length-append, get_or-set_same, get_or-set_other}
-use Rattle.std.specs.List.{slice_get}
+use Rattle.std.specs.List.{AllByRecursion, slice_get}
 use Rattle.std.proofs.lemmas.Bool.{cases_lt}
 use Rattle.std.proofs.lemmas.Option.{slice_get_within}
-use Rattle.route_model.specs.Admission.{Admitted}
+use Rattle.route_model.specs.Admission.{Admitted, IsAdmission}
 use Rattle.route_meaning.specs.Merged.{part}
 use Rattle.route_meaning.specs.Holds.{admitted_time}
 use Rattle.route_meaning.specs.History.{Intake, History, IsHistory, waiting}
@@ -12,12 +12,15 @@ use Rattle.interleaving_core.specs.Steps.{with_batch, with_mark, given, marked}
 use Rattle.route_history.specs.Kept.{timed, HaveVersions}
 use Rattle.archive_head.specs.declared.lane.Lane.{Lane}
 use Rattle.archive_head.specs.Head.{Contents, head_octets, IsHead}
-use Rattle.intake.specs.Ring.{page_at, ChangesOnly, RingRepresents, RepresentsAlone}
+use Rattle.archive_head.proofs.api.Heads.{encodes_written}
+use Rattle.intake.specs.Ring.{page_at, ChangesOnly, RepresentsAlone}
 use Rattle.archive_pages.specs.declared.settings.Settings.{Settings}
 use Rattle.archive_pages.specs.Places.{ring_of, tree_low}
+use Rattle.archive_pages.specs.Stored.{LaneHolds}
 use Rattle.archive_pages.specs.Represented.{TreeOn, IsFramed, IsGrowing, HeadRepresents, PagesRepresent, last_time}
 use Rattle.archive_pages.specs.Changes.{with_lane, lane_given}
 use Rattle.archive_pages.proofs.api.Histories.{length_changed, waits_given, waits_given_other, applied_given, waits_marked, applied_marked}
+use Rattle.archive_pages.proofs.api.Stored.{holds_given}
 use Rattle.archive_pages.proofs.Lanes.{rings_apart, ring_before_tree, lane_framed, lanes_changed}
 
 -- ---- the first page
@@ -42,7 +45,7 @@ pub represents_written : (Tree : TreeOn) (s : Settings) (settled : ℕ → List 
 represents_written Tree s settled framed head pages h valid some b = record {
   head = head;
   valid = valid;
-  first = get_or-set_same pages 0 (head_octets head) [] some;
+  first = encodes_written head (page_at (set pages 0 (head_octets head)) 0) valid (get_or-set_same pages 0 (head_octets head) [] some);
   head_represents = head_represents_headed Tree s settled framed head pages (set pages 0 (head_octets head)) h (length-set pages 0 (head_octets head)) (λ n ge. get_or-set_other pages 0 n (head_octets head) [] (let other : n ≢ 0 = omega arith in other)) b;
 }
 
@@ -76,7 +79,7 @@ head_represents_marked Tree s settled head pages h c mark lane i b right at here
       number = length_changed c (with_mark mark) h.intakes ∙ b.number;
       lanes_number = length-set head.lanes c (record lane { mark = mark }) ∙ b.lanes_number;
       lanes = lanes_changed s pages pages h g c (with_mark mark) head.lanes (record lane { mark = mark }) i refl here (slice_get_within head.lanes c lane at) b.lanes
-          (record { offered = own.offered; admitted = own.admitted; mark = refl; place = own.place; holds = subst (RingRepresents pages (ring_of s c lane)) (ap (part c) (sym waits)) own.holds })
+          (record { offered = own.offered; admitted = own.admitted; mark = refl; place = own.place; since = own.since; holds = held pages (part c (waiting h)) (part c (waiting g)) (ap (part c) (sym waits)) own.holds })
           refl (λ k ne lt n ge below. refl) (λ k j ne there. ap (part k) waits);
       begun = b.begun;
       numbered = b.numbered ∙ ap (λ ps. length (timed ps)) (sym same);
@@ -85,15 +88,18 @@ head_represents_marked Tree s settled head pages h c mark lane i b right at here
       kept = subst (λ ps. HaveVersions ps b.versions) (sym same) b.kept;
       tree = b.tree;
     }
+  where
+    held : (pages : List (List ℕ)) (w v : List Admitted) → w ≡ v → LaneHolds s pages c lane w → LaneHolds s pages c (record lane { mark = mark }) v
+    held pages w v same h = record { valid = subst (AllByRecursion IsAdmission) same h.valid; stored = h.stored; represents = h.represents; moments = sym same ∙ h.moments }
 
 -- ---- a batch is given
 
 -- The collector's ring gained what isn't late, and no page of another owner changed.
 pub head_represents_given : (Tree : TreeOn) (s : Settings) (settled : ℕ → List ℕ → Type 0) → IsFramed Tree settled → (head : Contents) (old new : List (List ℕ)) (h : History) (c : ℕ) (batch : List Admitted) (lane : Lane) (i : Intake) (used : ℕ)
     → HeadRepresents Tree s settled head old h → IsHistory (given h c batch) → slice_get head.lanes c ≡ Some lane → slice_get h.intakes c ≡ Some i
-    → ChangesOnly (ring_of s c lane) old new → RepresentsAlone new (record (ring_of s c lane) { used = used }) (part c (waiting h) ++ timely admitted_time i.mark [] batch)
+    → ChangesOnly (ring_of s c lane) old new → (holds : LaneHolds s old c lane (part c (waiting h))) → RepresentsAlone new (record (ring_of s c lane) { used = used }) (holds.stored ++ timely admitted_time i.mark [] batch)
     → HeadRepresents Tree s settled (with_lane head c (lane_given lane i.mark batch used)) new (given h c batch)
-head_represents_given Tree s settled framed head old new h c batch lane i used b right at here changes ring =
+head_represents_given Tree s settled framed head old new h c batch lane i used b right at here changes holds ring =
     let g = given h c batch in
     let lane' = lane_given lane i.mark batch used in
     let own = b.lanes c lane i at here in
@@ -112,7 +118,8 @@ head_represents_given Tree s settled framed head old new h c batch lane i used b
             admitted = (let a = own.admitted in let l = length-append i.admitted (timely admitted_time i.mark [] batch) in omega arith);
             mark = refl;
             place = ring.place;
-            holds = subst (RingRepresents new (record (ring_of s c lane) { used = used })) (sym (waits_given h c batch b.right right i here)) ring.holds;
+            since = (let few = own.since in omega (arith, few));
+            holds = subst (LaneHolds s new c lane') (sym (waits_given h c batch b.right right i here)) (holds_given s old c lane new lane' (part c (waiting h)) (timely admitted_time i.mark [] batch) holds own.since refl refl ring.holds);
           })
           changes.count
           (λ k ne lt. elim (cases_lt k c) [

@@ -1,10 +1,11 @@
--- The first admission leaves its ring.
-use Rattle.std.proofs.Common.{◌<◌, ◌≤◌, ℕ, ◌+◌, ◌-◌, ◌∷◌, List, length, arith}
-use Rattle.route_model.specs.Admission.{Admitted}
+-- The first admission leaves its ring; and what its time has no part in.
+use Rattle.std.proofs.Common.{◌≡◌, ◌<◌, ◌≤◌, ℕ, ◌+◌, ◌-◌, ◌∷◌, List, length, sym, ap, ◌∙◌, arith}
+use Rattle.route_model.specs.Admission.{Admitted, admission_octets}
+use Rattle.route_model.proofs.api.Admissions as admissions
 use Rattle.intake.specs.declared.ring.Ring.{Ring}
 use Rattle.intake.specs.Ring.{entry, size_of, wrapped, RingRepresents, IsRing}
 use Rattle.intake.proofs.Wrapping.{wrapped_low}
-use Rattle.intake.proofs.Entries.{holds_later}
+use Rattle.intake.proofs.Entries.{holds_later, length-sized}
 
 -- the ring of which the first admission is gone holds the others
 pub holds_popped : (pages : List (List ℕ)) (ring : Ring) (a : Admitted) (rest : List Admitted) → ring.first < size_of ring → ring.used ≤ size_of ring → RingRepresents pages ring (a ∷ rest)
@@ -23,3 +24,7 @@ is_ring_popped homes ring a fits r =
       start = wrapped_low (size_of ring) ring.first (length (entry a)) r.start (omega arith);
       used = omega arith;
     }
+
+-- an entry has as many octets at any time
+pub any_time : (a : Admitted) (time : ℕ) → length (entry (record { time = time; changes = a.changes })) ≡ length (entry a)
+any_time a time = length-sized (admission_octets (record { time = time; changes = a.changes })) ∙ (ap (λ (n : ℕ). 4 + n) (admissions.any_time a time) ∙ sym (length-sized (admission_octets a)))

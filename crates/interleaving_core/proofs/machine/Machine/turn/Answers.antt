@@ -15,8 +15,8 @@ use Rattle.interleaving_core.proofs.Settled.{take_all}
 use Rattle.interleaving_core.proofs.Wholly.{taken_min, dropped_min, turn_whole, does_turn}
 use Rattle.interleaving_core.proofs.machine.Machine.turn.Goals as goal
 
-pub returns-then-seconds : goal.returns-then-seconds
-returns-then-seconds c =
+pub returns-then-number : goal.returns-then-number
+returns-then-number c =
     let m = c.self.inside in
     let h : History = record { intakes = m.given.items; whole = m.whole; some = m.some } in
     let q = c.index-question.result.now in
@@ -31,7 +31,7 @@ returns-then-seconds c =
     let reported : c.in_ok-settled.settled ≡ settled h =
     c.in_ok-settled.ensures ∙ (ap (λ (l : List Intake). least (bounds 0 l (take (length there - k) (drop k there)))) c.deref-2.ensures.value ∙ ap (λ (ps : List (Placed Admitted)). least (bounds 0 m.given.items ps)) wait) in
     let last : c.last_moment.result ≡ last_moment (asked q) = c.last_moment.ensures.moment ∙ ap last_moment c.query.ensures.query in
-    let above : settled h ≤ last_moment (asked q) = omega (arith, c.if-seconds.true, c.seconds.ensures.seconds, c.seconds-2.ensures.seconds, last, reported) in
+    let above : settled h ≤ last_moment (asked q) = omega (arith, c.if-number.true, c.number.ensures.number, c.number-2.ensures.number, last, reported) in
     record {
       does = subst (λ (x : World). WhenUp x (AboveWatermark c.in_ok-settled.settled) x (IsAboveWatermark x c.args.number c.in_ok-settled.settled × (x ≡ x))) c.self.view_is
           (inl (c.if-self.false, (record { question = q; here = at; in_progress = c.is_ended.ensures.progress.0 c.if-is_ended.false; reported_is = reported; above = above }, refl)));
@@ -54,7 +54,7 @@ returns c =
     let reported : c.in_ok-settled.settled ≡ settled h =
     c.in_ok-settled.ensures ∙ (ap (λ (l : List Intake). least (bounds 0 l (take (length there - k) (drop k there)))) c.deref-2.ensures.value ∙ ap (λ (ps : List (Placed Admitted)). least (bounds 0 m.given.items ps)) wait) in
     let last : c.last_moment.result ≡ last_moment (asked q) = c.last_moment.ensures.moment ∙ ap last_moment c.query.ensures.query in
-    let below : last_moment (asked q) < settled h = omega (arith, c.if-seconds.false, c.seconds.ensures.seconds, c.seconds-2.ensures.seconds, last, reported) in
+    let below : last_moment (asked q) < settled h = omega (arith, c.if-number.false, c.number.ensures.number, c.number-2.ensures.number, last, reported) in
     let front : take k c.deref-4.result.now ≡ take m.whole (all_of h) = ap (take k) (c.deref-4.ensures.value ∙ all) ∙ taken_min k m.whole (all_of h) place in
     let reply = c.in_ok-turned.turned.reply in
     let new = c.in_ok-turned.turned.question in
