@@ -12,7 +12,8 @@ use Rattle.page_tx.specs.Tx.{pool_of}
 use Rattle.page_tx.specs.declared.tx.Tx.{Tx}
 use Rattle.route_meaning.specs.History.{History, Begins}
 use Rattle.route_meaning.proofs.api.Beginning.{Begins-refl}
-use Rattle.archive_head.specs.Head.{Contents, IsHead, head_octets}
+use Rattle.archive_head.specs.Head.{Contents, EncodesHead, IsHead}
+use Rattle.intake.specs.Ring.{page_at}
 use Rattle.archive_pages.specs.declared.settings.Settings.{Settings}
 use Rattle.archive_pages.specs.Represented.{HeadRepresents}
 use Rattle.archive_pages.proofs.api.Representing.{head_represents_grown}
@@ -42,7 +43,7 @@ represents_more a z h k disk grows settings head homes note honest maps mirrors 
   pages = k.pages;
   maps = maps;
   valid = subst IsHead (sym head) k.valid;
-  first = k.first ∙ ap head_octets (sym head);
+  first = subst (λ (x : Contents). EncodesHead x (page_at k.pages 0)) (sym head) k.first;
   head_represents = head_represents_more a z k.pages h disk grows settings head k.head_represents;
   mirrors = mirrors;
 }

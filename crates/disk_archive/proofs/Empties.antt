@@ -23,6 +23,7 @@ use Rattle.sequencer.specs.Lanes.{Waiting, marks, waiting_times}
 use Rattle.interleaving_core.specs.Steps.{empty}
 use Rattle.tsb_tree.specs.Trees.{ReportsFirst}
 use Rattle.archive_head.specs.Head.{Contents, IsHead, IsLane, head_octets}
+use Rattle.archive_head.proofs.api.Heads.{encodes_written}
 use Rattle.archive_pages.specs.declared.settings.Settings.{Settings}
 use Rattle.archive_pages.specs.Places.{AreSettings, tree_low}
 use Rattle.archive_pages.specs.Represented.{HeadRepresents}
@@ -42,7 +43,7 @@ use Rattle.disk_archive.proofs.api.Trees.{tree_framed}
 
 lanes_fit : (n : ℕ) → AllByRecursion IsLane (replicate n bare_lane)
 lanes_fit zero = tt
-lanes_fit (suc n) = (record { offered = omega arith; admitted = omega arith; mark = omega arith; first = omega arith; used = omega arith }, lanes_fit n)
+lanes_fit (suc n) = (record { offered = omega arith; admitted = omega arith; mark = omega arith; first = omega arith; used = omega arith; since = omega arith }, lanes_fit n)
 
 pub tree_low_few : (s : Settings) → AreSettings s → tree_low s ≤ 1048561
 tree_low_few s some =
@@ -91,7 +92,7 @@ headed_bare count s settled block pages some valid inside t =
     let head = bare_head s block in
     record {
       valid = valid;
-      first = get_or-set_same pages 0 (head_octets head) [] (omega (arith, inside));
+      first = encodes_written head _ valid (get_or-set_same pages 0 (head_octets head) [] (omega (arith, inside)));
       head_represents = head_represents_headed (TreeLocated count) s settled (tree_framed count settled) head pages (set pages 0 (head_octets head)) (empty s.collectors) (length-set pages 0 (head_octets head))
           (λ n ge. get_or-set_other pages 0 n (head_octets head) [] (let other : n ≢ 0 = omega (arith, ge) in other)) (head_represents_first count s settled block pages some inside t);
     }

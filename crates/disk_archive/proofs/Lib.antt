@@ -28,6 +28,8 @@ mod Recalled
 mod Waiting
 mod Rooted
 mod Reopened
+mod Restated
+mod Opened
 mod Meanings
 mod Empties
 mod Asking

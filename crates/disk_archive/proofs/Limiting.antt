@@ -20,6 +20,7 @@ use Rattle.archive_pages.specs.declared.settings.Settings.{Settings}
 use Rattle.archive_pages.specs.Places.{ring_of}
 use Rattle.archive_pages.specs.Represented.{HeadRepresents}
 use Rattle.archive_pages.specs.Batches.{Kept, IsKeptOf, CanTake, HasLane}
+use Rattle.archive_pages.proofs.api.Stored.{holds_size}
 use Rattle.disk_archive.specs.Trees.{TreeLocated}
 use Rattle.disk_archive.specs.Limits.{IsCounterFull, IsRingFull}
 use Rattle.page_journal.specs.declared.error.UseError.{UseError}
@@ -66,7 +67,7 @@ pub ring_full : (count : ℕ) (s : Settings) (o : OnceState) (head : Contents) (
     → IsRingFull s h c batch ↔ (16384 * s.ring - lane.used < octets_for (timely admitted_time i.mark [] batch))
 ring_full count s o head shown h c batch lane i b at here =
     let own = b.lanes c lane i at here in
-    let size = own.holds.size in
+    let size = holds_size s shown c lane (part c (waiting h)) own.holds in
     let used = own.place.used in (
       λ full.
           let same : full.intake ≡ i = one_there (slice_get h.intakes c) full.intake i full.here here in

@@ -15,6 +15,7 @@ use Rattle.page_tx.specs.declared.error.PageError.{PageError}
 use Rattle.page_tx.specs.declared.error.PageError.TheVariants as pages_refusals
 use Rattle.archive_head.specs.declared.lane.Lane.{Lane}
 use Rattle.archive_head.specs.Head.{Contents, IsHead, head_octets}
+use Rattle.archive_head.proofs.api.Heads.{encodes_written}
 use Rattle.archive_pages.specs.declared.settings.Settings.{Settings}
 use Rattle.archive_pages.specs.Represented.{HeadRepresents}
 use Rattle.archive_pages.specs.Changes.{with_lane}
@@ -80,7 +81,7 @@ mark_planned count s o old new head next shown h c mark lane b at below low same
       shown = written;
       headed = record {
         valid = is_head;
-        first = get_or-set_same shown 0 (head_octets next) [] some;
+        first = encodes_written next _ is_head (get_or-set_same shown 0 (head_octets next) [] some);
         head_represents = head_represents_headed (TreeLocated count) s (settled_in o) (tree_framed count (settled_in o)) next shown (set shown 0 (head_octets next)) (marked h c mark) (length-set shown 0 (head_octets next))
             (λ n ge. get_or-set_other shown 0 n (head_octets next) [] (let other : n ≢ 0 = omega arith in other)) head_represents;
       };

@@ -9,6 +9,7 @@ use Rattle.route_meaning.specs.History.{Intake, History, waiting}
 use Rattle.interleaving_core.specs.Steps.{given}
 use Rattle.archive_head.specs.declared.lane.Lane.{Lane}
 use Rattle.archive_head.specs.Head.{Contents, IsHead, head_octets}
+use Rattle.archive_head.proofs.api.Heads.{encodes_written}
 use Rattle.intake.specs.Ring.{Gains, RingRepresents}
 use Rattle.archive_pages.specs.declared.settings.Settings.{Settings}
 use Rattle.archive_pages.specs.Places.{ring_of}
@@ -43,7 +44,7 @@ given_shown count s o shows head shown h c kept lane b at gains =
     let m = b.lanes_number in
     let i = intake_at c h.intakes (omega (arith, within, n, m)) in
     let own = b.lanes c lane i.0 at i.1 in
-    let g = gains (part c (waiting h)) own.holds in
+    let g = gains own.holds.stored own.holds.represents in
     (g.pages, g.shown)
 
 -- and once the head is laid over page 0, they represent the history
@@ -60,7 +61,7 @@ plan_done count s o mid new head next shown h c offered kept lane i b valid at h
       shown = written g.pages g.shown;
       headed = record {
         valid = is_head;
-        first = get_or-set_same g.pages 0 (head_octets next) [] (some g.pages g.shown);
+        first = encodes_written next _ is_head (get_or-set_same g.pages 0 (head_octets next) [] (some g.pages g.shown));
         head_represents = head_represents_headed (TreeLocated count) s (settled_in o) (tree_framed count (settled_in o)) next g.pages (set g.pages 0 (head_octets next)) (given h c offered) (length-set g.pages 0 (head_octets next))
             (λ n ge. get_or-set_other g.pages 0 n (head_octets next) [] (let other : n ≢ 0 = omega arith in other)) head_represents;
       };

@@ -1,17 +1,21 @@
 -- What was planned reaches further histories, change by change.
-use Rattle.std.proofs.Common.{◌≡◌, ◌≢◌, ◌⊎◌, ◌<◌, ℕ, List, [], ◌∷◌, length, set, true, false, refl, sym, ◌∙◌, subst, inl, inr, ⊎_elim, arith, Some, length-set, get_or-set_same, get_or-set_other}
+use Rattle.std.proofs.Common.{◌≡◌, ◌≢◌, ◌⊎◌, ◌<◌, ℕ, List, [], ◌∷◌, length, map, set, true, false, refl, sym, ◌∙◌, ap, subst, inl, inr, ⊎_elim, arith, Some, length-set, get_or-set_same, get_or-set_other}
 use Rattle.std.specs.List.{slice_get, slice_set}
 use Rattle.route_model.specs.Admission.{Admitted}
-use Rattle.route_meaning.specs.History.{History, IsBelowMarks}
+use Rattle.route_meaning.specs.Holds.{admitted_time}
+use Rattle.route_meaning.specs.Merged.{part}
+use Rattle.route_meaning.specs.History.{History, IsBelowMarks, waiting}
 use Rattle.interleaving_core.specs.Steps.{moved}
-use Rattle.sequencer.specs.Lanes.{Waiting, Releases}
+use Rattle.sequencer.specs.Lanes.{Waiting, Releases, waiting_times}
 use Rattle.sequencer.specs.First.{IsNext}
 use Rattle.sequencer.specs.Ahead.{beyond}
 use Rattle.archive_head.specs.declared.lane.Lane.{Lane}
 use Rattle.archive_head.specs.Head.{Contents, IsHead, head_octets}
-use Rattle.intake.specs.Ring.{IsRing, RingRepresents}
+use Rattle.archive_head.proofs.api.Heads.{encodes_written}
+use Rattle.intake.specs.Ring.{IsRing, time_of}
 use Rattle.archive_pages.specs.declared.settings.Settings.{Settings}
 use Rattle.archive_pages.specs.Places.{ring_of}
+use Rattle.archive_pages.specs.Stored.{LaneHolds}
 use Rattle.archive_pages.specs.Represented.{HeadRepresents}
 use Rattle.archive_pages.specs.Batches.{HasLane}
 use Rattle.archive_pages.proofs.api.Representing.{head_represents_grown, head_represents_headed}
@@ -24,18 +28,22 @@ use Rattle.disk_archive.specs.Trees.{TreeLocated}
 use Rattle.disk_archive.specs.inner.Planning.{Planned}
 use Rattle.disk_archive.specs.inner.Applications.{Advances, IsFirst, MovesOn, PlansMove, Reached, Reaches}
 use Rattle.disk_archive.proofs.Fronts.{next_is, mirror_moved}
+use Rattle.disk_archive.proofs.Mirroring.{times_there}
 use Rattle.disk_archive.proofs.Stepping.{first_is, front_holds, moves_then}
 use Rattle.disk_archive.proofs.api.Trees.{tree_framed, tree_grows}
 
 -- ---- the admission at hand
 
 -- what is next in memory, and its ring's first admission: the first that waits
-pub first_found : (count : ℕ) (s : Settings) (settled : ℕ → List ℕ → Type 0) (head : Contents) (pages : List (List ℕ)) (lanes : List Waiting) (h : History) (c : ℕ) (a : Admitted) → c < length head.lanes → HeadRepresents (TreeLocated count) s settled head pages h → Mirrors lanes h → IsNext lanes c
-    → ((lane : Lane) (waits : List Admitted) → HasLane head c lane → RingRepresents pages (ring_of s c lane) waits → slice_get waits 0 ≡ Some a) → IsFirst h (record { collector = c; admission = a })
-first_found count s settled head pages lanes h c a low b m next reported =
-    let f = next_is lanes h c (let n = b.number in let l = b.lanes_number in omega (arith, low, n, l)) m next in
+pub first_found : (count : ℕ) (s : Settings) (settled : ℕ → List ℕ → Type 0) (head : Contents) (pages : List (List ℕ)) (lanes : List Waiting) (h : History) (c time : ℕ) (a : Admitted) → c < length head.lanes → HeadRepresents (TreeLocated count) s settled head pages h → Mirrors lanes h → IsNext lanes c
+    → ((times : List ℕ) → slice_get (waiting_times lanes) c ≡ Some times → slice_get times 0 ≡ Some time)
+    → ((lane : Lane) (waits : List Admitted) → HasLane head c lane → LaneHolds s pages c lane waits → slice_get (map time_of waits) 0 ≡ Some time → slice_get waits 0 ≡ Some a) → IsFirst h (record { collector = c; admission = a })
+first_found count s settled head pages lanes h c time a low b m next timed reported =
+    let inside : c < length h.intakes = (let n = b.number in let l = b.lanes_number in omega (arith, low, n, l)) in
+    let f = next_is lanes h c inside m next in
     let k = front_holds count s settled head pages h c f.first f.later low b f.next in
-    let is = reported k.lane (f.first ∷ k.rest) k.at k.holds in
+    let first : slice_get (map time_of (f.first ∷ k.rest)) 0 ≡ Some time = ap (λ (l : List Admitted). slice_get (map time_of l) 0) (sym k.waits) ∙ timed (map admitted_time (part c (waiting h))) (times_there lanes h c m inside) in
+    let is = reported k.lane (f.first ∷ k.rest) k.at k.holds first in
     let same : f.first ≡ a = cc in
     record {
       later = f.later;
@@ -49,7 +57,7 @@ at_hand h front a f same = subst (λ (x : Admitted). IsFirst h (record { collect
 
 -- its page isn't reported as damaged
 pub first_sound : (count homes : ℕ) (s : Settings) (settled : ℕ → List ℕ → Type 0) (head : Contents) (pages : List (List ℕ)) (lanes : List Waiting) (h : History) (c : ℕ) (blamed : Type 0) → c < length head.lanes → HeadRepresents (TreeLocated count) s settled head pages h → Mirrors lanes h → IsNext lanes c → length pages ≡ homes
-    → ((lane : Lane) (first : Admitted) (rest : List Admitted) → HasLane head c lane → IsRing homes (ring_of s c lane) → RingRepresents pages (ring_of s c lane) (first ∷ rest) → blamed → ⊥) → blamed → ⊥
+    → ((lane : Lane) (first : Admitted) (rest : List Admitted) → HasLane head c lane → IsRing homes (ring_of s c lane) → LaneHolds s pages c lane (first ∷ rest) → blamed → ⊥) → blamed → ⊥
 first_sound count homes s settled head pages lanes h c blamed low b m next len never =
     let f = next_is lanes h c (let n = b.number in let l = b.lanes_number in omega (arith, low, n, l)) m next in
     let k = front_holds count s settled head pages h c f.first f.later low b f.next in
@@ -127,7 +135,7 @@ plans_move count s settled mid new lanes plan reported h head ahead valid some w
         shown = written r.pages r.shown;
         headed = record {
           valid = valid;
-          first = get_or-set_same r.pages 0 (head_octets plan.head) [] (some r.pages r.shown);
+          first = encodes_written plan.head _ valid (get_or-set_same r.pages 0 (head_octets plan.head) [] (some r.pages r.shown));
           head_represents = head_represents_headed (TreeLocated count) s settled (tree_framed count settled) plan.head r.pages (set r.pages 0 (head_octets plan.head)) a.after (length-set r.pages 0 (head_octets plan.head))
               (λ n ge. get_or-set_other r.pages 0 n (head_octets plan.head) [] (let other : n ≢ 0 = omega arith in other)) r.head_represents;
         };

@@ -20,9 +20,9 @@ use Rattle.sequencer.proofs.api.Sieving.{greatest-push, is_late-greatest}
 use Rattle.interleaving_core.proofs.api.Right.{to_map}
 use Rattle.archive_head.specs.declared.lane.Lane.{Lane}
 use Rattle.archive_head.specs.Head.{Contents}
-use Rattle.intake.specs.Ring.{RingRepresents, time_of}
+use Rattle.intake.specs.Ring.{time_of}
 use Rattle.archive_pages.specs.declared.settings.Settings.{Settings}
-use Rattle.archive_pages.specs.Places.{ring_of}
+use Rattle.archive_pages.specs.Stored.{LaneHolds}
 use Rattle.archive_pages.specs.Represented.{HeadRepresents, LaneRepresents}
 use Rattle.archive_pages.proofs.api.Histories.{part_of_all}
 use Rattle.disk_archive.specs.declared.open_error.OpenError.{OpenError}
@@ -187,12 +187,12 @@ knows_more reported lanes new k lane ts knows here m t =
     }
 
 pub times_more : (s : Settings) (reported : List Lane) (shown : List (List ℕ)) (lanes new : List Waiting) (k : ℕ) (ts : List ℕ) → KnowsMarks reported lanes k → k < length reported → KnowsTimes s reported shown lanes k → waiting_times new ≡ slice_set (waiting_times lanes) k ts
-    → ((lane : Lane) (waits : List Admitted) → slice_get reported k ≡ Some lane → RingRepresents shown (ring_of s k lane) waits → ts ≡ map time_of waits) → KnowsTimes s reported shown new (k + 1)
+    → ((lane : Lane) (waits : List Admitted) → slice_get reported k ≡ Some lane → LaneHolds s shown k lane waits → ts ≡ map time_of waits) → KnowsTimes s reported shown new (k + 1)
 times_more s reported shown lanes new k ts marks low knows t is c lane waits lt at holds = ⊎_elim
     (λ (e : c ≡ k).
     let count = marks.count in
     let long = times_long lanes in
-    let held : RingRepresents shown (ring_of s k lane) waits = subst (λ j. RingRepresents shown (ring_of s j lane) waits) e holds in
+    let held : LaneHolds s shown k lane waits = subst (λ j. LaneHolds s shown j lane waits) e holds in
     let same : ts ≡ map time_of waits = is lane waits (subst (λ j. slice_get reported j ≡ Some lane) e at) held in
     subst (λ j. slice_get (waiting_times new) j ≡ Some (map time_of waits)) (sym e)
     (ap (λ (x : List (List ℕ)). slice_get x k) t ∙ set_here (waiting_times lanes) k ts (omega (arith, low, count, long)) ∙ ap (λ (x : List ℕ). Some x) same))

@@ -15,7 +15,7 @@ use Rattle.buffer_pool.specs.declared.pool.Pool.{Pool}
 use Rattle.page_tx.specs.Start.{Start}
 use Rattle.page_tx.specs.Tx.{pool_of}
 use Rattle.route_meaning.specs.History.{History}
-use Rattle.archive_head.specs.Head.{IsHead, head_octets}
+use Rattle.archive_head.specs.Head.{EncodesHead, IsHead}
 use Rattle.intake.specs.Ring.{page_at}
 use Rattle.archive_pages.specs.declared.settings.Settings.{Settings}
 use Rattle.archive_pages.specs.Places.{AreSettings, tree_low}
@@ -42,7 +42,7 @@ use Rattle.disk_archive.proofs.Recalled.{own_of}
 
 -- an archive over the pages that were looked at
 pub represents_found : {E O Pen Seen : Type 0} {erase : EraseGhosts E} {once : OnceGhosts O Pen Seen} (a : Archive E O Pen Seen erase once) (looks : Looks E erase) (start : Start) (shown : List (List ℕ)) (h : History) (disk : O) (o : OnceState)
-    → IsNoted (site_of a) → LooksAt erase looks start shown → pool_of a.tx ≡ looks.pool → once_of a ≡ disk → once_state a ≡ o → once.honest (once_of a) (pen_in a) → IsHead a.head → page_at shown 0 ≡ head_octets a.head
+    → IsNoted (site_of a) → LooksAt erase looks start shown → pool_of a.tx ≡ looks.pool → once_of a ≡ disk → once_state a ≡ o → once.honest (once_of a) (pen_in a) → IsHead a.head → EncodesHead a.head (page_at shown 0)
     → HeadRepresents (TreeLocated (once.block_count disk)) a.settings (settled_in o) a.head shown h → Mirrors a.sequencer h → Represents a h
 represents_found {E = E} {erase = erase} {once = once} a looks start shown h disk o noted s pool is state honest valid first head_represents mirrors = record {
   noted = noted;

@@ -11,7 +11,8 @@ use Rattle.page_tx.specs.Tx.{pool_of}
 use Rattle.route_meaning.specs.History.{Intake, History}
 use Rattle.interleaving_core.specs.World.{resume_of}
 use Rattle.archive_head.specs.declared.lane.Lane.{Lane}
-use Rattle.archive_head.specs.Head.{Contents, IsHead, head_octets}
+use Rattle.archive_head.specs.Head.{Contents, EncodesHead, IsHead}
+use Rattle.intake.specs.Ring.{page_at}
 use Rattle.archive_pages.specs.declared.settings.Settings.{Settings}
 use Rattle.archive_pages.specs.Represented.{HeadRepresents}
 use Rattle.disk_archive.specs.Trees.{TreeLocated}
@@ -61,7 +62,7 @@ represents_same a z h k disk state settings head homes note honest maps mirrors 
   pages = k.pages;
   maps = maps;
   valid = subst IsHead (sym head) k.valid;
-  first = k.first ∙ ap head_octets (sym head);
+  first = subst (λ (x : Contents). EncodesHead x (page_at k.pages 0)) (sym head) k.first;
   head_represents = head_represents_same a z k.pages h disk state settings head k.head_represents;
   mirrors = mirrors;
 }

@@ -14,8 +14,9 @@ use Rattle.version_model.specs.Versions.{Version}
 use Rattle.route_history.specs.Kept.{Timed, at_time, timed, AreVersions}
 use Rattle.route_history.specs.Stamps.{stamp_of}
 use Rattle.archive_pages.specs.Places.{ring_of, tree_low}
+use Rattle.archive_pages.specs.Stored.{LaneHolds}
 use Rattle.archive_head.specs.declared.lane.Lane.{Lane}
-use Rattle.intake.specs.Ring.{IsRing, RingRepresents}
+use Rattle.intake.specs.Ring.{IsRing}
 use Rattle.disk_archive.proofs.Mirroring.{intake_at}
 use Rattle.disk_archive.proofs.Plans.{lane_at}
 use Rattle.archive_head.specs.Head.{Contents}
@@ -87,20 +88,21 @@ moves_on count s settled few shows head after whole root fresh block shown h c f
 -- ---- the first that waits
 
 -- the ring of its collector holds the first that waits in front
-pub record Front (s : Settings) (head : Contents) (pages : List (List ℕ)) (c : ℕ) (first : Admitted) : Type 0 where
+pub record Front (s : Settings) (head : Contents) (pages : List (List ℕ)) (h : History) (c : ℕ) (first : Admitted) : Type 0 where
   pub lane : Lane
   pub at : HasLane head c lane
   pub ring : IsRing (length pages) (ring_of s c lane)
   pub rest : List Admitted
-  pub holds : RingRepresents pages (ring_of s c lane) (first ∷ rest)
+  pub waits : part c (waiting h) ≡ first ∷ rest
+  pub holds : LaneHolds s pages c lane (first ∷ rest)
 
-pub front_holds : (count : ℕ) (s : Settings) (settled : ℕ → List ℕ → Type 0) (head : Contents) (pages : List (List ℕ)) (h : History) (c : ℕ) (first : Admitted) (later : List (Placed Admitted)) → c < length head.lanes → HeadRepresents (TreeLocated count) s settled head pages h → waiting h ≡ placed c first ∷ later → Front s head pages c first
+pub front_holds : (count : ℕ) (s : Settings) (settled : ℕ → List ℕ → Type 0) (head : Contents) (pages : List (List ℕ)) (h : History) (c : ℕ) (first : Admitted) (later : List (Placed Admitted)) → c < length head.lanes → HeadRepresents (TreeLocated count) s settled head pages h → waiting h ≡ placed c first ∷ later → Front s head pages h c first
 front_holds count s settled head pages h c first later low b here =
     let lane = lane_at c head.lanes low in
     let i = intake_at c h.intakes (let n = b.number in let m = b.lanes_number in omega (arith, n, m, low)) in
     let own = b.lanes c lane.0 i.0 lane.1 i.1 in
     let waits : part c (waiting h) ≡ first ∷ part c later = ap (part c) here ∙ rw (eq-eqb c c refl) refl in
-    record { lane = lane.0; at = lane.1; ring = own.place; rest = part c later; holds = subst (RingRepresents pages (ring_of s c lane.0)) waits own.holds }
+    record { lane = lane.0; at = lane.1; ring = own.place; rest = part c later; waits = waits; holds = subst (LaneHolds s pages c lane.0) waits own.holds }
 
 pub first_is : (h : History) (c : ℕ) (first a : Admitted) (later : List (Placed Admitted)) (rest : List Admitted) → waiting h ≡ placed c first ∷ later → slice_get (first ∷ rest) 0 ≡ Some a → waiting h ≡ placed c a ∷ later
 first_is h c first a later rest here reported = let same : first ≡ a = cc in here ∙ ap (λ (x : Admitted). placed c x ∷ later) same

@@ -9,7 +9,7 @@ use Rattle.buffer_pool.specs.Pool.{Maps, journal_of}
 use Rattle.page_tx.specs.Tx.{pool_of}
 use Rattle.once_store.specs.Shelves.{disk_of as once_disk, pen_of}
 use Rattle.route_meaning.specs.History.{History, Begins}
-use Rattle.archive_head.specs.Head.{IsHead, head_octets}
+use Rattle.archive_head.specs.Head.{EncodesHead, IsHead}
 use Rattle.intake.specs.Ring.{page_at}
 use Rattle.archive_pages.specs.declared.settings.Settings.{Settings}
 use Rattle.archive_pages.specs.Represented.{HeadRepresents}
@@ -65,7 +65,7 @@ pub record Represents {E O Pen Seen : Type 0} {erase : EraseGhosts E} {once : On
   pub pages : List (List ℕ)
   pub maps : Maps erase (pool_of a.tx) pages
   pub valid : IsHead a.head
-  pub first : page_at pages 0 ≡ head_octets a.head
+  pub first : EncodesHead a.head (page_at pages 0)
   pub head_represents : HeadRepresentsOn a pages h
   pub mirrors : Mirrors a.sequencer h
 

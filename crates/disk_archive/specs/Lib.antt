@@ -9,6 +9,7 @@ pub mod Moves
 pub mod Blanks
 pub mod Notes
 pub mod Openings
+pub mod Heads
 pub mod Creations
 pub mod Failures
 pub mod Outcome

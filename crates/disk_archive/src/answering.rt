@@ -53,7 +53,7 @@ pub(crate) fn check_moment(sequencer: &Sequencer, moment: Moment) -> Result<(), 
     ensures above { IfErr result (λ e. (e ≡ AskError.AboveWatermark (least (map bound_of sequencer.now))) × (least (map bound_of sequencer.now) ≤ moment)) }
 {
     let settled = sequencer.settled();
-    if moment.seconds() < settled.seconds() {
+    if moment.number() < settled.number() {
         Ok(())
     } else {
         Err(AskError::AboveWatermark(settled))

@@ -52,7 +52,7 @@ pub(crate) fn timely_len(mark: Mark, batch: &[Admission]) -> u64
     let mut octets: u64 = 0;
     for admission in batch {
         let time = admission.time();
-        if time.seconds() >= reached.seconds() {
+        if time.number() >= reached.number() {
             reached = Mark::at(time);
             octets += 4 + admission.encoded_len() as u64;
         }

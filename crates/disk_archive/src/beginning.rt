@@ -40,6 +40,7 @@ fn make_lanes(alloc: Global, collectors: u8) -> Result<Vec<Lane>, AllocError>
             mark: Mark::at(Moment::from(0u32)),
             first: 0,
             used: 0,
+            since: 0,
         })?;
     }
     Ok(lanes)

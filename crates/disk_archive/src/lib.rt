@@ -22,10 +22,12 @@
 //! allocated, so `IntakeFull` is returned exactly if the ring is too full.
 //!
 //! A creation writes the head and the tree's first pages home with the journal's own creation, so no crash leaves a new journal without an
-//! archive. An opening reads its pages through a page map that takes no image, so only the journal's recovery writes. It checks of the
+//! archive. An opening reads its pages through a page map that takes no image, so until then only the journal's recovery writes. It checks of the
 //! head what a later call needs: each ring is on home pages, the times in it rise up to the collector's mark, the root is one of the
-//! tree's used pages. A check also decodes the pending admissions, of which an opening reads the times alone. Its result is stated for arbitrary
-//! pages: stated only for archives that represent a history, a check that reads nothing would satisfy it.
+//! tree's used pages. Once that is known, it writes the head if the first page isn't what the head is written as: so an archive that was
+//! made in whole seconds has a head in microseconds from its first opening on. The pool's own commit does it and no `Tx`, whose pages
+//! don't say that the disk is untouched until then, and what a crash leaves is stated from the opening's start on. A check also decodes the
+//! pending admissions, of which an opening reads the times alone. Its result is stated for arbitrary pages: stated only for archives that represent a history, a check that reads nothing would satisfy it.
 //!
 //! What a cursor has gathered is stated over a history and each later one (`IsGathered`), so between two turns its owner needs to know
 //! only that one history begins the other. What an errand relies on is stated of it alone (`Located`, `LocatedKnown`), so it is finished by any view
@@ -71,6 +73,7 @@ mod planning_run;
 mod reading;
 mod recalling;
 mod refused;
+mod restating;
 mod restoring;
 mod stop;
 

@@ -41,12 +41,12 @@ fn is_raised(
     if collector >= settings.collectors {
         return Err(MarkError::NoCollector);
     }
-    let present = sequencer.mark(usize::from(collector)).seconds();
-    let seconds = mark.seconds();
-    if seconds < present {
+    let present = sequencer.mark(usize::from(collector)).number();
+    let asked = mark.number();
+    if asked < present {
         return Err(MarkError::MarkBack);
     }
-    Ok(present < seconds)
+    Ok(present < asked)
 }
 
 // Gives the sequencer a mark that isn't below the collector's.
@@ -99,7 +99,7 @@ fn plan_mark<P: Pages>(
     ensures honest { P.honest pages.old ↔ P.honest pages.new }
     ensures down { P.down pages.new ≡ P.down pages.old }
 {
-    let _range = mark.seconds();
+    let _range = mark.number();
     let mut next = copy_head(alloc, head)?;
     mark_head(&mut next, collector, mark);
     if let Err(error) = put_head(alloc, pages, &next) {

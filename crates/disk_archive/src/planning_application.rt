@@ -1,7 +1,7 @@
 //! The application of one change: pages are shown in a transaction, and the head passes over it. Blocks are burnt and settled on the
 //! way, and no page is written yet.
 
-ghost use Rattle.std.specs.Prelude.{◌≡◌, ◌≢◌, ◌<◌, ◌≤◌, ◌+◌, ◌-◌, ◌^◌, ◌++◌, ◌∷◌, ◌↔◌, ℕ, List, [], length, min, Some, IfOk, OnOk, OnErr, IfErr, Err, false, IfSome, IfNone, IsTrue, slice_get};
+ghost use Rattle.std.specs.Prelude.{◌≡◌, ◌≢◌, ◌<◌, ◌≤◌, ◌+◌, ◌-◌, ◌^◌, ◌++◌, ◌∷◌, ◌↔◌, ℕ, List, [], length, map, min, Some, IfOk, OnOk, OnErr, IfErr, Err, false, IfSome, IfNone, IsTrue, slice_get};
 ghost use Rattle.disk_models.specs.Once.{settled_in};
 ghost use Rattle.once_store.specs.Shelves.{disk_of, next_of, pen_of};
 ghost use Rattle.page_tx.specs.Device.{KeepsDevice};
@@ -20,12 +20,13 @@ ghost use Rattle.tsb_tree.specs.Opened.{HasRootLevel};
 ghost use Rattle.tsb_tree.specs.Refusals.{IsHonest};
 ghost use Rattle.tsb_tree.specs.Shelves.{HasNoneBlank};
 ghost use Rattle.archive_head.specs.declared.lane.Lane.{Lane};
-ghost use Rattle.intake.specs.Ring.{IsRing, RingRepresents};
+ghost use Rattle.intake.specs.Ring.{IsRing, time_of};
 ghost use Rattle.intake.specs.Calls.{OnlyReads};
 ghost use Rattle.archive_pages.specs.Batches.{CanPop, HasLane};
 ghost use Rattle.archive_pages.specs.Represented.{HeadRepresents};
 ghost use Rattle.archive_pages.specs.Changes.{next_change};
 ghost use Rattle.archive_pages.specs.Places.{ring_of, tree_low};
+ghost use Rattle.archive_pages.specs.Stored.{LaneHolds};
 ghost use Rattle.disk_archive.specs.Failures.{ReportsOne};
 ghost use Rattle.disk_archive.specs.Lacks.{HasRoom, IsNextVersion, LacksNone, OneLacksNone};
 ghost use Rattle.disk_archive.specs.Trees.{TreeLocated};
@@ -40,25 +41,27 @@ use intake::{Encoded, ReadError};
 use once_store::Shelf;
 use page_tx::Pages;
 use route_history::version_of_change;
-use route_model::Admission;
+use route_model::{Admission, Moment};
 use std::alloc::{AllocError, Global};
 use tsb_tree::{insert, open};
 use version_model::{Entry, Stamp};
 
-/// The first admission that waits of a collector. One that is kept from an earlier read isn't decoded again.
+/// The first admission that waits of a collector, at this moment, which is that of the admission: its ring may have the time in an older
+/// unit. One that is kept from an earlier read isn't decoded again.
 pub(crate) fn front_of<P: Pages>(
     alloc: Global,
     pages: &mut P,
     settings: Settings,
     head: &Head,
     collector: u8,
+    time: Moment,
     kept: Option<Encoded>,
 ) -> Result<Encoded, ApplyError>
     requires collector { collector < length head.now.lanes }
-    ensures front { IfOk result (λ a. (start : Start) (shown : List (List ℕ)) (lane : Lane) (waits : List Admitted) → P.shows pages.old start shown → HasLane head.now collector lane → RingRepresents shown (ring_of settings collector lane) waits → slice_get waits 0 ≡ Some a) }
+    ensures front { IfOk result (λ a. (start : Start) (shown : List (List ℕ)) (lane : Lane) (waits : List Admitted) → P.shows pages.old start shown → HasLane head.now collector lane → LaneHolds settings shown collector lane waits → slice_get (map time_of waits) 0 ≡ Some time → slice_get waits 0 ≡ Some a) }
     ensures fits { IfOk result (λ a. (lane : Lane) → HasLane head.now collector lane → CanPop settings collector lane a) }
     ensures sound { (start : Start) (shown : List (List ℕ)) (lane : Lane) (first : Admitted) (rest : List Admitted) → P.shows pages.old start shown → HasLane head.now collector lane → IsRing (P.homes pages.old) (ring_of settings collector lane)
-        → RingRepresents shown (ring_of settings collector lane) (first ∷ rest) → (page : ℕ) → result ≡ Err (ApplyError.BadNode page) → ⊥ }
+        → LaneHolds settings shown collector lane (first ∷ rest) → (page : ℕ) → result ≡ Err (ApplyError.BadNode page) → ⊥ }
     ensures refused { IfErr result (FrontRefusal (P.down pages.old)) }
     ensures reads { (start : Start) (shown : List (List ℕ)) → P.shows pages.old start shown → P.shows pages.new start shown }
     ensures homes { P.homes pages.new ≡ P.homes pages.old }
@@ -73,7 +76,7 @@ pub(crate) fn front_of<P: Pages>(
         return Err(ApplyError::BadNode(0));
     }
     match ring.front(alloc, pages, kept) {
-        Ok(Some(admission)) => Ok(admission),
+        Ok(Some(admission)) => Ok(admission.at(time)),
         Ok(None) => Err(ApplyError::BadNode(0)),
         Err(ReadError::BadNode(page)) => Err(ApplyError::BadNode(page)),
         Err(ReadError::Pages(refusal)) => Err(of_pages(refusal)),
@@ -147,7 +150,7 @@ fn take_version<P: Pages, O: OnceDisk + Drop>(
     ensures honest { P.honest pages.old ↔ P.honest pages.new }
     ensures failed { ReportsOne (P.faults pages.old) (P.faults pages.new) (O.pen_fault_count (pen_of shelf.old)) (O.pen_fault_count (pen_of shelf.new)) (result ≡ Err (ChangeError.Apply ApplyError.Fault)) }
 {
-    let least = Stamp::new(head.last.seconds(), head.applied);
+    let least = Stamp::new(head.last.number(), head.applied);
     let place = match open(pages, head.root, least) {
         Ok(place) => place,
         Err(refusal) => return Err(of_tree(refusal)),

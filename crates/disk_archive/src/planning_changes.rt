@@ -1,7 +1,7 @@
 //! What the application of many changes is to commit: pages that are shown in one transaction, and their head. The sequencer stays as it
 //! is meanwhile, and no page is written yet.
 
-ghost use Rattle.std.specs.Prelude.{◌≡◌, ◌≢◌, ◌<◌, ◌≤◌, ◌+◌, ◌-◌, ◌↔◌, ℕ, List, [], length, min, IfOk, OnOk, OnErr, IfErr, IsErr, Err, true, false};
+ghost use Rattle.std.specs.Prelude.{◌≡◌, ◌≢◌, ◌<◌, ◌≤◌, ◌+◌, ◌-◌, ◌↔◌, ℕ, List, [], length, min, slice_get, Some, IfOk, OnOk, OnErr, IfErr, IsErr, Err, true, false};
 ghost use Rattle.disk_models.specs.Once.{OnceState, settled_in};
 ghost use Rattle.once_store.specs.Shelves.{disk_of, next_of, pen_of};
 ghost use Rattle.page_tx.specs.Device.{KeepsDevice};
@@ -9,7 +9,7 @@ ghost use Rattle.page_tx.specs.Start.{Start};
 ghost use Rattle.route_meaning.specs.History.{History};
 ghost use Rattle.sequencer.specs.Ahead.{beyond};
 ghost use Rattle.sequencer.specs.First.{IsNext};
-ghost use Rattle.sequencer.specs.Lanes.{Releases};
+ghost use Rattle.sequencer.specs.Lanes.{Releases, waiting_times};
 ghost use Rattle.archive_pages.specs.Represented.{HeadRepresents};
 ghost use Rattle.tsb_tree.specs.Opened.{HasRootLevel};
 ghost use Rattle.tsb_tree.specs.Shelves.{HasNoneBlank};
@@ -30,6 +30,7 @@ use disk_models::{Fault, OnceDisk};
 use intake::Encoded;
 use once_store::Shelf;
 use page_tx::Pages;
+use route_model::Moment;
 use sequencer::{Ahead, Sequencer};
 use std::alloc::Global;
 
@@ -65,6 +66,18 @@ pub(crate) struct Application {
     pub(crate) kept: Encoded,
 }
 
+// The time of the collector that is next.
+fn time_of_next(sequencer: &Sequencer, ahead: &Ahead, number: usize) -> Moment
+    requires count { length ahead.now ≡ length sequencer.now }
+    requires next { IsNext (beyond ahead.now sequencer.now) number }
+    ensures time { (times : List ℕ) → slice_get (waiting_times (beyond ahead.now sequencer.now)) number ≡ Some times → slice_get times 0 ≡ Some result }
+{
+    let Some(time) = sequencer.time_after(ahead, number) else {
+        unreachable!();
+    };
+    time
+}
+
 // Takes the first admission of the collector that is next. No change of it is applied.
 fn begin_plan<P: Pages>(
     alloc: Global,
@@ -97,7 +110,8 @@ fn begin_plan<P: Pages>(
     let next = copy_head(alloc, head)?;
     let ahead = sequencer.ahead(alloc)?;
     let collector = number as u8;
-    let admission = front_of(alloc, pages, settings, &next, collector, kept)?;
+    let time = time_of_next(sequencer, &ahead, number);
+    let admission = front_of(alloc, pages, settings, &next, collector, time, kept)?;
     Ok(Plan {
         head: next,
         ahead,
@@ -249,7 +263,8 @@ fn find_front<P: Pages>(
         return Err(Stop::Enough);
     };
     let collector = number as u8;
-    let admission = front_of(alloc, pages, settings, &plan.head, collector, None)?;
+    let time = time_of_next(sequencer, &plan.ahead, number);
+    let admission = front_of(alloc, pages, settings, &plan.head, collector, time, None)?;
     plan.front = Front {
         collector,
         admission,

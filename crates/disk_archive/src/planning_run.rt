@@ -48,7 +48,7 @@ fn leaf_for<P: Pages>(pages: &mut P, head: &Head, entry: &Entry) -> Result<OpenL
     ensures down { P.down pages.new ≡ P.down pages.old }
     ensures device { KeepsDevice (P.honest pages.old) (P.honest pages.new) (P.faults pages.old) (P.faults pages.new) (result ≡ Err (ChangeError.Apply ApplyError.Fault)) }
 {
-    let least = Stamp::new(head.last.seconds(), head.applied);
+    let least = Stamp::new(head.last.number(), head.applied);
     let place = match open(pages, head.root, least) {
         Ok(place) => place,
         Err(refusal) => return Err(of_tree(refusal)),

@@ -8,20 +8,21 @@ ghost use Rattle.route_model.specs.Admission.{Admitted};
 ghost use Rattle.route_meaning.specs.Merged.{IsRising};
 ghost use Rattle.route_meaning.specs.History.{History};
 ghost use Rattle.sequencer.specs.Lanes.{marks, waiting_times};
-ghost use Rattle.archive_head.specs.Head.{Contents, IsHead, head_octets};
+ghost use Rattle.archive_head.specs.Head.{Contents, EncodesHead, IsHead};
 ghost use Rattle.archive_head.specs.declared.lane.Lane.{Lane};
 ghost use Rattle.intake.specs.Calls.{OnlyReads};
-ghost use Rattle.intake.specs.Ring.{RingRepresents, IsRing, page_at, time_of};
+ghost use Rattle.intake.specs.Ring.{IsRing, page_at, time_of};
 ghost use Rattle.archive_pages.specs.Batches.{HasLane};
 ghost use Rattle.archive_pages.specs.Represented.{HeadRepresents};
 ghost use Rattle.archive_pages.specs.Places.{ring_of};
+ghost use Rattle.archive_pages.specs.Stored.{LaneHolds};
 ghost use Rattle.disk_archive.specs.Mirrors.{Mirrors};
 ghost use Rattle.disk_archive.specs.Trees.{TreeLocated};
 ghost use Rattle.disk_archive.specs.inner.Recalling.{HasRoot, IsUnknown, RecallRefusal};
 
 use crate::open_error::OpenError;
 use archive_head::Head;
-use archive_pages::{Settings, lane_of};
+use archive_pages::{Settings, in_moments, lane_of};
 use intake::ReadError;
 use page_tx::{PageError, Pages};
 use route_model::{Mark, Moment};
@@ -57,9 +58,9 @@ pub(crate) fn read_head<P: Pages>(
     requires usable { P.down pages.old ≡ false }
     ensures valid { IfOk result (λ head. IsHead head) }
     ensures lanes { IfOk result (λ head. length head.lanes ≡ collectors) }
-    ensures first { IfOk result (λ head. (start : Start) (shown : List (List ℕ)) → P.shows pages.old start shown → page_at shown 0 ≡ head_octets head) }
-    ensures one { IfOk result (λ head. (start : Start) (shown : List (List ℕ)) (other : Contents) → P.shows pages.old start shown → IsHead other → length other.lanes ≡ collectors → page_at shown 0 ≡ head_octets other → other ≡ head) }
-    ensures sound { (start : Start) (shown : List (List ℕ)) (other : Contents) → P.shows pages.old start shown → IsHead other → length other.lanes ≡ collectors → page_at shown 0 ≡ head_octets other
+    ensures first { IfOk result (λ head. (start : Start) (shown : List (List ℕ)) → P.shows pages.old start shown → EncodesHead head (page_at shown 0)) }
+    ensures one { IfOk result (λ head. (start : Start) (shown : List (List ℕ)) (other : Contents) → P.shows pages.old start shown → length other.lanes ≡ collectors → EncodesHead other (page_at shown 0) → other ≡ head) }
+    ensures sound { (start : Start) (shown : List (List ℕ)) (other : Contents) → P.shows pages.old start shown → length other.lanes ≡ collectors → EncodesHead other (page_at shown 0)
         → (page : ℕ) → result ≡ Err (OpenError.BadNode page) → ⊥ }
     ensures refused { IfErr result RecallRefusal }
     ensures same { OnlyReads P.Pages pages.old pages.new (result ≡ Err OpenError.Fault) }
@@ -83,7 +84,7 @@ pub(crate) fn has_root(homes: u64, settings: Settings, head: &Head) -> bool
     settings.tree_low() <= head.root && head.root < head.fresh && head.root < homes
 }
 
-// The times of a collector's pending admissions, in order.
+// The times of a collector's pending admissions, in order and in moments.
 fn waiting_of<P: Pages>(
     alloc: Global,
     pages: &mut P,
@@ -94,18 +95,24 @@ fn waiting_of<P: Pages>(
     requires collector { collector < length head.now.lanes }
     requires usable { P.down pages.old ≡ false }
     ensures times { IfOk result (λ times. (start : Start) (shown : List (List ℕ)) (lane : Lane) (waits : List Admitted) → P.shows pages.old start shown → HasLane head.now collector lane
-        → RingRepresents shown (ring_of settings collector lane) waits → times.items ≡ map time_of waits) }
+        → LaneHolds settings shown collector lane waits → times.items ≡ map time_of waits) }
     ensures sound { (start : Start) (shown : List (List ℕ)) (lane : Lane) (waits : List Admitted) → P.shows pages.old start shown → HasLane head.now collector lane → IsRing (P.homes pages.old) (ring_of settings collector lane)
-        → RingRepresents shown (ring_of settings collector lane) waits → (page : ℕ) → result ≡ Err (OpenError.BadNode page) → ⊥ }
+        → lane.since ≤ lane.admitted → LaneHolds settings shown collector lane waits → (page : ℕ) → result ≡ Err (OpenError.BadNode page) → ⊥ }
     ensures refused { IfErr result RecallRefusal }
     ensures same { OnlyReads P.Pages pages.old pages.new (result ≡ Err OpenError.Fault) }
 {
-    let ring = settings.ring(collector, &lane_of(head, collector));
-    if !ring.is_within(pages.home_pages()) {
+    let lane = lane_of(head, collector);
+    let ring = settings.ring(collector, &lane);
+    if lane.since > lane.admitted || !ring.is_within(pages.home_pages()) {
         return Err(OpenError::BadNode(0));
     }
     match ring.waiting_times(alloc, pages) {
-        Ok(times) => Ok(times),
+        Ok(times) => {
+            let Some(times) = in_moments(&lane, times) else {
+                return Err(OpenError::BadNode(0));
+            };
+            Ok(times)
+        }
         Err(ReadError::BadNode(page)) => Err(OpenError::BadNode(page)),
         Err(ReadError::Pages(refusal)) => Err(of_pages(refusal)),
     }

@@ -15,7 +15,7 @@ use Rattle.archive_pages.specs.Places.{tree_low}
 
 -- what the head has of a collector that gave nothing
 abbrev pub bare_lane : Lane
-bare_lane = record { offered = 0; admitted = 0; mark = 0; first = 0; used = 0 }
+bare_lane = record { offered = 0; admitted = 0; mark = 0; first = 0; used = 0; since = 0 }
 
 -- the head of an archive to which nothing was given, if no block before this one is blank
 abbrev pub bare_head : Settings → ℕ → Contents

@@ -4,9 +4,10 @@ use Rattle.route_model.specs.Admission.{Admitted}
 use Rattle.sequencer.specs.Lanes.{Waiting, marks, waiting_times}
 use Rattle.archive_head.specs.declared.lane.Lane.{Lane}
 use Rattle.archive_head.specs.Head.{Contents}
-use Rattle.intake.specs.Ring.{RingRepresents, time_of}
+use Rattle.intake.specs.Ring.{time_of}
 use Rattle.archive_pages.specs.declared.settings.Settings.{Settings}
-use Rattle.archive_pages.specs.Places.{ring_of, tree_low}
+use Rattle.archive_pages.specs.Places.{tree_low}
+use Rattle.archive_pages.specs.Stored.{LaneHolds}
 use Rattle.disk_archive.specs.declared.open_error.OpenError.{OpenError}
 use Rattle.disk_archive.specs.declared.open_error.OpenError.TheVariants as openings
 
@@ -35,6 +36,6 @@ pub record KnowsMarks (reported : List Lane) (lanes : List Waiting) (known : ℕ
   pub marks : (c : ℕ) (lane : Lane) → c < known → slice_get reported c ≡ Some lane → slice_get (marks lanes) c ≡ Some lane.mark
   pub others : (c : ℕ) → known ≤ c → c < length reported → IsUnknown lanes c
 
--- of the first collectors these times wait, if their rings represent admissions
+-- of the first collectors these times wait, if their rings hold what waits
 abbrev pub KnowsTimes : Settings → List Lane → List (List ℕ) → List Waiting → ℕ → Type 0
-KnowsTimes s reported shown lanes known = (c : ℕ) (lane : Lane) (waits : List Admitted) → c < known → slice_get reported c ≡ Some lane → RingRepresents shown (ring_of s c lane) waits → slice_get (waiting_times lanes) c ≡ Some (map time_of waits)
+KnowsTimes s reported shown lanes known = (c : ℕ) (lane : Lane) (waits : List Admitted) → c < known → slice_get reported c ≡ Some lane → LaneHolds s shown c lane waits → slice_get (waiting_times lanes) c ≡ Some (map time_of waits)

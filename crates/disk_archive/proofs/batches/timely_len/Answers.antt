@@ -5,7 +5,7 @@ use Rattle.route_meaning.specs.Holds.{admitted_time}
 use Rattle.sequencer.specs.Late.{timely}
 use Rattle.disk_archive.proofs.BatchSizes.{batch_octets, few_timely, late_more, timely_next}
 use Rattle.disk_archive.proofs.batches.timely_len.Goals as goal
-use Rattle.disk_archive.proofs.batches.timely_len.Goals.{then-seconds, else-seconds}
+use Rattle.disk_archive.proofs.batches.timely_len.Goals.{then-number, else-number}
 
 pub loop-admission-init : goal.loop-admission-init
 loop-admission-init c = record { timely = record { octets = refl; reached = refl } }
@@ -15,13 +15,13 @@ loop-admission-preserved c =
     let i = c.loop-admission.admission-index in
     let x = c.admission-item.result in
     let t = c.loop-admission.invariant.timely in
-    elim c.if-seconds.branch [
-      | then-seconds w ↦ (
-          let n = timely_next c.args.mark c.args.batch.now i c.loop-admission.octets c.loop-admission.reached x c.loop-admission-test.true c.admission-item.is t (omega (arith, w.if-seconds.true, c.seconds.ensures.seconds, c.time-time.ensures.time)) in
+    elim c.if-number.branch [
+      | then-number w ↦ (
+          let n = timely_next c.args.mark c.args.batch.now i c.loop-admission.octets c.loop-admission.reached x c.loop-admission-test.true c.admission-item.is t (omega (arith, w.if-number.true, c.number.ensures.number, c.time-time.ensures.time)) in
           record { timely = record { octets = omega (arith, w.octets-is, n.octets, w.encoded_len.ensures.len); reached = omega (arith, w.reached-is, w.at-reached.ensures.mark, c.time-time.ensures.time, n.reached) } }
           )
-      | else-seconds w ↦ (
-          let n = late_more c.args.mark c.args.batch.now i c.loop-admission.octets c.loop-admission.reached x c.loop-admission-test.true c.admission-item.is t (omega (arith, w.if-seconds.false, c.seconds.ensures.seconds, c.time-time.ensures.time)) in
+      | else-number w ↦ (
+          let n = late_more c.args.mark c.args.batch.now i c.loop-admission.octets c.loop-admission.reached x c.loop-admission-test.true c.admission-item.is t (omega (arith, w.if-number.false, c.number.ensures.number, c.time-time.ensures.time)) in
           record { timely = record { octets = omega (arith, w.octets-is, n.octets); reached = omega (arith, w.reached-is, n.reached) } }
           )
     ]
@@ -33,8 +33,8 @@ returns c =
     let all = take_all c.loop-admission.admission-index c.args.batch.now c.loop-admission-test.false in
     record { octets = counted ∙ (ap (λ (l : List Admitted). batch_octets (timely admitted_time c.args.mark [] l)) all ∙ sym sum) }
 
-pub overflow_add-octets-then-seconds : goal.overflow_add-octets-then-seconds
-overflow_add-octets-then-seconds c =
+pub overflow_add-octets-then-number : goal.overflow_add-octets-then-number
+overflow_add-octets-then-number c =
     let few = few_timely c.args.mark c.args.batch.now c.loop-admission.admission-index c.loop-admission.octets c.loop-admission.reached c.loop-admission.invariant.timely in
     let all = c.requires.octets in
     omega (arith, few, all, c.encoded_len.ensures.few)

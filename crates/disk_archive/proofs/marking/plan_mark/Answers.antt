@@ -44,6 +44,6 @@ returns-clause-planned g c settings count o start shown h shows b below =
     let n = g.met.P.Pages.count c.args.pages.now start shown shows in
     let some = c.requires.some in
     mark_planned count settings o (g.P.Pages.shows c.args.pages.now start) (g.P.Pages.shows c.put_head.new.pages start) c.args.head.now c.mark_head.new.head shown h c.args.collector c.args.mark lane.0 b lane.1 below
-    (subst (λ n. n ≤ last_mark) c.seconds-range.ensures.seconds c.seconds-range.ensures.in_range)
+    (subst (λ n. n ≤ last_mark) c.number-range.ensures.number c.number-range.ensures.in_range)
     (e ∙ ap (λ (x : Contents). with_lane x c.args.collector (record lane.0 { mark = c.args.mark })) copy)
     c.put_head.ensures.valid (omega (arith, n, some)) (c.in_default.ensures.written start shown shows)

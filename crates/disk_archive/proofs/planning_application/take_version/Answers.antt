@@ -59,7 +59,7 @@ returns-in-Ok-insert-clause-takes g c start shown low versions shows honest t =
     let count : length shown ≡ P.homes c.open.new.pages = g.met.P.Pages.count c.args.pages.now start shown shows ∙ sym reads.homes in
     let next' = reads.next ∙ (c.requires.next ∙ ap (λ n. min h.fresh n) (sym reads.homes)) in
     let root = ap (λ (x : Contents). x.root) view in
-    let least : c.new-least.result ≡ stamp_of h.last h.applied = c.new-least.ensures.number ∙ (ap (λ (t : ℕ). stamp_of t c.head.inside.applied) (c.seconds.ensures.seconds ∙ ap (λ (x : Contents). x.last) view) ∙ ap (λ (n : ℕ). stamp_of h.last n) (ap (λ (x : Contents). x.applied) view)) in
+    let least : c.new-least.result ≡ stamp_of h.last h.applied = c.new-least.ensures.number ∙ (ap (λ (t : ℕ). stamp_of t c.head.inside.applied) (c.number.ensures.number ∙ ap (λ (x : Contents). x.last) view) ∙ ap (λ (n : ℕ). stamp_of h.last n) (ap (λ (x : Contents). x.applied) view)) in
     let level = c.in-Ok.ensures.opened start shown shows t.store versions t.level t.represents_node (subst (λ (r : ℕ). TreeRepresents t.store versions r t.level) (sym root) t.has.represents_all) in
     let tree = shown_at P c.open.new.pages O c.args.shelf.now start shown low h.root h.fresh h.block (stamp_of h.last h.applied) versions shows' honest count next' c.requires.block t
     c.in-Ok.place.root c.in-Ok.place.level c.in-Ok.place.least (c.in-Ok.ensures.root ∙ root) level (c.in-Ok.ensures.least ∙ least) in
@@ -84,7 +84,7 @@ returns-in-Err-insert-clause-sound g c start shown low versions shows honest t p
     let count : length shown ≡ P.homes c.open.new.pages = g.met.P.Pages.count c.args.pages.now start shown shows ∙ sym reads.homes in
     let next' = reads.next ∙ (c.requires.next ∙ ap (λ n. min h.fresh n) (sym reads.homes)) in
     let root = ap (λ (x : Contents). x.root) view in
-    let least : c.new-least.result ≡ stamp_of h.last h.applied = c.new-least.ensures.number ∙ (ap (λ (t : ℕ). stamp_of t c.head.inside.applied) (c.seconds.ensures.seconds ∙ ap (λ (x : Contents). x.last) view) ∙ ap (λ (n : ℕ). stamp_of h.last n) (ap (λ (x : Contents). x.applied) view)) in
+    let least : c.new-least.result ≡ stamp_of h.last h.applied = c.new-least.ensures.number ∙ (ap (λ (t : ℕ). stamp_of t c.head.inside.applied) (c.number.ensures.number ∙ ap (λ (x : Contents). x.last) view) ∙ ap (λ (n : ℕ). stamp_of h.last n) (ap (λ (x : Contents). x.applied) view)) in
     let level = c.in-Ok.ensures.opened start shown shows t.store versions t.level t.represents_node (subst (λ (r : ℕ). TreeRepresents t.store versions r t.level) (sym root) t.has.represents_all) in
     let tree = shown_at P c.open.new.pages O c.args.shelf.now start shown low h.root h.fresh h.block (stamp_of h.last h.applied) versions shows' honest count next' c.requires.block t
     c.in-Ok.place.root c.in-Ok.place.level c.in-Ok.place.least (c.in-Ok.ensures.root ∙ root) level (c.in-Ok.ensures.least ∙ least) in
@@ -132,7 +132,7 @@ returns-in-Err-insert-clause-lacks g c start shown low versions shows honest t =
     let count : length shown ≡ P.homes c.open.new.pages = g.met.P.Pages.count c.args.pages.now start shown shows ∙ sym reads.homes in
     let next' = reads.next ∙ (c.requires.next ∙ ap (λ n. min h.fresh n) (sym reads.homes)) in
     let root = ap (λ (x : Contents). x.root) view in
-    let least : c.new-least.result ≡ stamp_of h.last h.applied = c.new-least.ensures.number ∙ (ap (λ (t : ℕ). stamp_of t c.head.inside.applied) (c.seconds.ensures.seconds ∙ ap (λ (x : Contents). x.last) view) ∙ ap (λ (n : ℕ). stamp_of h.last n) (ap (λ (x : Contents). x.applied) view)) in
+    let least : c.new-least.result ≡ stamp_of h.last h.applied = c.new-least.ensures.number ∙ (ap (λ (t : ℕ). stamp_of t c.head.inside.applied) (c.number.ensures.number ∙ ap (λ (x : Contents). x.last) view) ∙ ap (λ (n : ℕ). stamp_of h.last n) (ap (λ (x : Contents). x.applied) view)) in
     let level = c.in-Ok.ensures.opened start shown shows t.store versions t.level t.represents_node (subst (λ (r : ℕ). TreeRepresents t.store versions r t.level) (sym root) t.has.represents_all) in
     let here = c.in-Ok.ensures.root ∙ root in
     let tree = shown_at P c.open.new.pages O c.args.shelf.now start shown low h.root h.fresh h.block (stamp_of h.last h.applied) versions shows' honest count next' c.requires.block t
@@ -180,7 +180,7 @@ returns-in-Ok-insert-clause-room g c start shown low versions shows honest t =
     let count : length shown ≡ P.homes c.open.new.pages = g.met.P.Pages.count c.args.pages.now start shown shows ∙ sym reads.homes in
     let next' = reads.next ∙ (c.requires.next ∙ ap (λ n. min h.fresh n) (sym reads.homes)) in
     let root = ap (λ (x : Contents). x.root) view in
-    let least : c.new-least.result ≡ stamp_of h.last h.applied = c.new-least.ensures.number ∙ (ap (λ (t : ℕ). stamp_of t c.head.inside.applied) (c.seconds.ensures.seconds ∙ ap (λ (x : Contents). x.last) view) ∙ ap (λ (n : ℕ). stamp_of h.last n) (ap (λ (x : Contents). x.applied) view)) in
+    let least : c.new-least.result ≡ stamp_of h.last h.applied = c.new-least.ensures.number ∙ (ap (λ (t : ℕ). stamp_of t c.head.inside.applied) (c.number.ensures.number ∙ ap (λ (x : Contents). x.last) view) ∙ ap (λ (n : ℕ). stamp_of h.last n) (ap (λ (x : Contents). x.applied) view)) in
     let level = c.in-Ok.ensures.opened start shown shows t.store versions t.level t.represents_node (subst (λ (r : ℕ). TreeRepresents t.store versions r t.level) (sym root) t.has.represents_all) in
     let here = c.in-Ok.ensures.root ∙ root in
     let tree = shown_at P c.open.new.pages O c.args.shelf.now start shown low h.root h.fresh h.block (stamp_of h.last h.applied) versions shows' honest count next' c.requires.block t

@@ -1,9 +1,10 @@
-use Rattle.std.proofs.Common.{rules, ◌≡◌, ◌<◌, List, length, sym, ◌∙◌, ap, subst, arith, min, Ok, Err}
+use Rattle.std.proofs.Common.{rules, ◌≡◌, ◌<◌, List, length, sym, ◌∙◌, ap, subst, arith, min, Ok, Err, Some}
 use Rattle.disk_models.specs.Once.{settled_in}
 use Rattle.archive_head.specs.Head.{Contents}
 use Rattle.archive_pages.specs.Represented.{HeadRepresents}
 use Rattle.sequencer.proofs.api.Calls.{first_in}
-use Rattle.sequencer.specs.Lanes.{Waiting}
+use Rattle.std.specs.List.{slice_get}
+use Rattle.sequencer.specs.Lanes.{Waiting, waiting_times}
 use Rattle.sequencer.specs.First.{IsNext}
 use Rattle.disk_archive.specs.Mirrors.{Mirrors}
 use Rattle.disk_archive.specs.Trees.{TreeLocated}
@@ -40,7 +41,9 @@ returns-clause-reached g c count o start shown h shows b m =
       shown = c.front_of.ensures.reads start shown shows;
       head_represents = b';
       mirrors = subst (λ (l : List Waiting). Mirrors l h) (sym c.in_ok-ahead.ensures.same) m;
-      first = λ _. first_found count c.args.settings (settled_in o) c.in_ok-next.next shown lanes h c.args.number c.in_ok-admission.admission low b' m next (λ lane waits at holds. c.in_ok-admission.ensures.front start shown lane waits shows at holds);
+      first = λ _. first_found count c.args.settings (settled_in o) c.in_ok-next.next shown lanes h c.args.number c.time_of_next-time.result c.in_ok-admission.admission low b' m next
+          (λ times there. c.time_of_next-time.ensures.time times (subst (λ (l : List Waiting). slice_get (waiting_times l) c.args.number ≡ Some times) (sym c.in_ok-ahead.ensures.same) there))
+          (λ lane waits at holds first. c.in_ok-admission.ensures.front start shown lane waits shows at holds first);
     }
 
 pub returns-clause-fits : goal.returns-clause-fits

@@ -24,7 +24,7 @@ returns-clause-reached g c count o start h r =
       shown = c.front_of.ensures.reads start r.pages r.shown;
       head_represents = r.head_represents;
       mirrors = r.mirrors;
-      first = λ _. first_found count c.args.settings (settled_in o) c.args.plan.now.head r.pages _ h c.in-Some.number c.in_ok-admission.admission low r.head_represents r.mirrors c.in-Some.ensures.some (λ lane waits at holds. c.in_ok-admission.ensures.front start r.pages lane waits r.shown at holds);
+      first = λ _. first_found count c.args.settings (settled_in o) c.args.plan.now.head r.pages _ h c.in-Some.number c.time_of_next-time.result c.in_ok-admission.admission low r.head_represents r.mirrors c.in-Some.ensures.some c.time_of_next-time.ensures.time (λ lane waits at holds first. c.in_ok-admission.ensures.front start r.pages lane waits r.shown at holds first);
     }
 
 pub returns-clause-fits : goal.returns-clause-fits

@@ -17,7 +17,7 @@ returns-in-Ok-open_leaf-clause-leaf g c count o start shown low versions shows t
     let h = c.args.head.now in
     let view = c.head.view_is in
     let root = ap (λ (x : Contents). x.root) view in
-    let least : c.new-least.result ≡ stamp_of h.last h.applied = c.new-least.ensures.number ∙ (ap (λ (t : ℕ). stamp_of t c.head.inside.applied) (c.seconds.ensures.seconds ∙ ap (λ (x : Contents). x.last) view) ∙ ap (λ (n : ℕ). stamp_of h.last n) (ap (λ (x : Contents). x.applied) view)) in
+    let least : c.new-least.result ≡ stamp_of h.last h.applied = c.new-least.ensures.number ∙ (ap (λ (t : ℕ). stamp_of t c.head.inside.applied) (c.number.ensures.number ∙ ap (λ (x : Contents). x.last) view) ∙ ap (λ (n : ℕ). stamp_of h.last n) (ap (λ (x : Contents). x.applied) view)) in
     let level = c.in-Ok.ensures.opened start shown shows t.store versions t.level t.represents_node (subst (λ (r : ℕ). TreeRepresents t.store versions r t.level) (sym root) t.has.represents_all) in
     let here = c.in-Ok.ensures.root ∙ root in
     let place = c.in-Ok.place in

@@ -51,7 +51,7 @@ returns-in_err-times-clause-sound g c count o start shown h shows b page is =
     let lane = lane_at k c.args.head.now.lanes (omega (arith, all)) in
     let own = own_of count c.args.settings o c.args.head.now shown h k lane.0 b lane.1 in
     let homes = g.met.P.Pages.count c.loop-collector.pages start shown now in
-    c.waiting_of.ensures.sound start shown lane.0 (part k (waiting h)) now lane.1 (subst (λ n. IsRing n (ring_of c.args.settings k lane.0)) homes own.represents_all.place) own.represents_all.holds page was
+    c.waiting_of.ensures.sound start shown lane.0 (part k (waiting h)) now lane.1 (subst (λ n. IsRing n (ring_of c.args.settings k lane.0)) homes own.represents_all.place) own.represents_all.since own.represents_all.holds page was
 
 pub returns-in_err-know_lane-clause-sound : goal.returns-in_err-know_lane-clause-sound
 returns-in_err-know_lane-clause-sound g c count o start shown h shows b page is =

@@ -54,6 +54,9 @@ returns-in-Some-clause-reads g c = λ honest h holds from.
     let i = c.looks.invariant in
     c.changed_look.ensures.reads (i.honest.0 honest) h (i.holds h holds) (i.reads honest h holds from)
 
+pub returns-in-Some-clause-holds : goal.returns-in-Some-clause-holds
+returns-in-Some-clause-holds g c = λ h holds. c.changed_look.ensures.leaves.holds h (c.looks.invariant.holds h holds)
+
 pub returns-in_err-answer-clause-holds : goal.returns-in_err-answer-clause-holds
 returns-in_err-answer-clause-holds g c = λ h holds. c.changed_look.ensures.leaves.holds h (c.looks.invariant.holds h holds)
 
