@@ -2,7 +2,7 @@
 
 ghost use Rattle.std.specs.Prelude.{◌≡◌, Err, IfOk, IsSome};
 ghost use Rattle.board.specs.Past.{Among, GoesOnAs};
-ghost use Rattle.service.specs.AnswerLines.{number_line};
+ghost use Rattle.service.specs.AnswerLines.{watermark_line};
 ghost use Rattle.service.specs.Outputs.{Reports};
 ghost use Rattle.service.specs.Refusals.{refusal_line};
 ghost use Rattle.server.specs.Answers.{AnswersLine, AnswersMark, AnswersRead, AnswersRequest};
@@ -49,13 +49,12 @@ fn refusal_of(why: RequestError) -> Refusal
     }
 }
 
-/// Writes a letter, a bar, the number and LF.
-fn write_number_line<W: Write>(out: &mut Output<W>, letter: &str, number: u64)
-    ensures line { Reports out.old out.new (number_line letter.now number) }
+/// Writes the line of a watermark, in microseconds.
+fn write_watermark<W: Write>(out: &mut Output<W>, settled: u64)
+    ensures line { Reports out.old out.new (watermark_line settled) }
 {
-    out.text(letter);
-    out.text("|");
-    out.number(number);
+    out.text("S|");
+    out.moment(settled);
     out.text("\n");
 }
 
@@ -95,7 +94,7 @@ fn answer_mark<A: Store, N: Named + OnDisk<A::Disk>, G: Gate + Drop, W: Write>(
     match set_mark(rt, shared, pass, collector, mark) {
         Ok(()) => {
             let settled = load_watermark(shared, pass);
-            write_number_line(out, "S", settled);
+            write_watermark(out, settled);
         }
         Err(why) => write_refusal(out, &Refusal::from(why)),
     }

@@ -4,7 +4,7 @@ ghost use Rattle.std.specs.Prelude.{◌≡◌, ◌<◌, ◌≤◌, ℕ, IfOk, If
 ghost use Rattle.board.specs.Past.{Among};
 ghost use Rattle.board.specs.Views.{BeginsView, with_seen, watermark_of, durable_of};
 ghost use Rattle.interleaving_core.specs.Does.{last_moment};
-ghost use Rattle.service.specs.AnswerLines.{watermark_line, count_line};
+ghost use Rattle.service.specs.AnswerLines.{count_line};
 ghost use Rattle.server.specs.Replies.{IsAnswerOver, IsChangedOver, IsReplyOver, NamesOneOf, IsRefusedOver, IsNotBelow, SeesBy};
 
 use crate::meters::Meters;
@@ -14,17 +14,10 @@ use board::{Named, Pass};
 use interleaving_core::Query;
 use query_threads::{Gate, OnDisk, Reader, Shared, Store};
 use route_meaning::ChangedQuestion;
-use service::{Request, Unanswered, answer_text, changed_text, skip_of};
+use service::{Request, Unanswered, answer_text, changed_text, skip_of, watermark_text};
 use std::alloc::{AllocError, Global};
 use std::sync::Wait;
 use std::time::Clock;
-
-/// The line of a watermark.
-fn watermark_text(alloc: Global, settled: u64) -> Result<String, AllocError>
-    ensures text { IfOk result (λ text. string_bytes text ≡ watermark_line settled) }
-{
-    format!(in alloc; "S|{settled}\n")
-}
 
 /// The line of a count of records.
 fn count_text(alloc: Global, count: u64) -> Result<String, AllocError>

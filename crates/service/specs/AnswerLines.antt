@@ -16,6 +16,7 @@ use Rattle.interleaving_core.specs.declared.query.Query.TheVariants.{Rows, Event
 use Rattle.interleaving_core.specs.declared.query.Answer.{Answer}
 use Rattle.interleaving_core.specs.declared.query.Answer.TheVariants.{Rows as RowsReported, Events as EventsReported}
 use Rattle.route_text.specs.AddressText.{address_text}
+use Rattle.route_text.specs.MomentText.{moment_text}
 use Rattle.route_text.specs.PrefixText.{prefix_text}
 use Rattle.route_text.specs.RouteText.{route_text}
 use Rattle.service.specs.Refusals.{line_end}
@@ -49,7 +50,7 @@ answer_text a = flat_map row_line a.rows.items ++ ending a.rows.items a.more (sl
 
 -- a letter, a bar and a time
 abbrev pub timed_text : List ℕ → ℕ → List ℕ
-timed_text letter time = letter ++ codes "|" ++ decimal time
+timed_text letter time = letter ++ codes "|" ++ moment_text time
 
 -- what happened, and when: the peer announced a route, or withdrew one, or all of its routes ended
 abbrev pub change_line : ℕ → Change → List ℕ
@@ -100,7 +101,7 @@ number_line letter number = letter ++ codes "|" ++ decimal number ++ line_end
 
 -- the settled watermark
 abbrev pub watermark_line : ℕ → List ℕ
-watermark_line settled = number_line (codes "S") settled
+watermark_line settled = codes "S|" ++ moment_text settled ++ line_end
 
 -- how many records of a collector are admitted
 abbrev pub count_line : ℕ → List ℕ

@@ -1,18 +1,18 @@
 -- What is printed for a check of an archive.
-use Rattle.std.specs.Prelude.{◌≡◌, ◌⊎◌, true, false, ℕ, List, [], ◌∷◌, codes}
+use Rattle.std.specs.Prelude.{◌≡◌, ◌⊎◌, true, false, ℕ, List, ◌++◌, codes, decimal}
 use Rattle.route_meaning.specs.History.{History, settled}
 use Rattle.archive_calls.specs.Does.{IsUnchecked, applied_changes}
 use Rattle.archive_calls.specs.declared.refusal.Trouble.{Trouble}
-use Rattle.service.specs.FeedLines.{numbers_line}
+use Rattle.route_text.specs.MomentText.{moment_text}
 use Rattle.service.specs.Faults.{of_trouble}
 use Rattle.service.specs.Outputs.{OutputState, Reports}
-use Rattle.service.specs.Refusals.{ReportsError, ReportsFailure}
+use Rattle.service.specs.Refusals.{line_end, ReportsError, ReportsFailure}
 use Rattle.service.specs.declared.status.Status.{Status}
 use Rattle.service.specs.declared.status.Status.TheVariants as statuses
 
 -- this many changes are applied, and this is the settled watermark
 abbrev pub checked_line : ℕ → ℕ → List ℕ
-checked_line changes settled = numbers_line (codes "ok") (changes ∷ settled ∷ [])
+checked_line changes settled = codes "ok|" ++ decimal changes ++ codes "|" ++ moment_text settled ++ line_end
 
 -- how many changes of the history are applied was printed, and its settled watermark
 abbrev pub ReportsCount : History → OutputState → OutputState → Type 0

@@ -4,6 +4,7 @@ use Rattle.std.specs.List.{flat_map}
 use Rattle.interleaving_core.specs.declared.reply.BatchReply.{BatchReply}
 use Rattle.sequencer.specs.declared.late.Late.{Late}
 use Rattle.service.specs.declared.feed_lines.FeedCounts.{FeedCounts}
+use Rattle.route_text.specs.MomentText.{moment_text}
 use Rattle.service.specs.Refusals.{line_end}
 
 -- a letter, the numbers with a bar before each, and LF
@@ -16,7 +17,7 @@ batch_line from to offered = numbers_line (codes "B") (from ∷ to ∷ offered �
 
 -- a late record: its place in the batch, its time, and the mark at its turn
 abbrev pub late_line : Late → List ℕ
-late_line l = numbers_line (codes "L") (l.index ∷ l.time ∷ l.mark ∷ [])
+late_line l = codes "L|" ++ decimal l.index ++ codes "|" ++ moment_text l.time ++ codes "|" ++ moment_text l.mark ++ line_end
 
 -- what became of a batch, and then each of its late records
 abbrev pub admitted_text : BatchReply → List ℕ
@@ -28,4 +29,4 @@ counts_line c = numbers_line (codes "F") (c.records ∷ c.admitted ∷ c.late �
 
 -- the settled watermark
 abbrev pub settled_line : ℕ → List ℕ
-settled_line settled = numbers_line (codes "S") (settled ∷ [])
+settled_line settled = codes "S|" ++ moment_text settled ++ line_end

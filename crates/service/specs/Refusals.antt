@@ -1,5 +1,6 @@
 -- Refusals by number and name, and their lines. Each line ends in LF.
 use Rattle.std.specs.Prelude.{◌≡◌, ◌⊎◌, ℕ, Bool, true, false, List, [], ◌∷◌, ◌++◌, codes, decimal}
+use Rattle.route_text.specs.MomentText.{moment_text}
 use Rattle.service.specs.Outputs.{OutputState, Reports}
 use Rattle.service.specs.declared.refusal.Refusal.{Refusal}
 use Rattle.service.specs.declared.refusal.Refusal.TheVariants as refusals
@@ -66,7 +67,7 @@ line_end = 10 ∷ []
 
 -- what the line of a refusal has after its name: the watermark of AboveWatermark, the block of Damaged, the page of BadNode
 abbrev pub reported_of : Refusal → List ℕ
-reported_of (refusals.AboveWatermark settled) = codes "|" ++ decimal settled
+reported_of (refusals.AboveWatermark settled) = codes "|" ++ moment_text settled
 reported_of (refusals.Damaged block) = codes "|" ++ decimal block
 reported_of (refusals.BadNode page) = codes "|" ++ decimal page
 reported_of _ = []

@@ -5,7 +5,6 @@ ghost use Rattle.route_meaning.specs.History.{History};
 ghost use Rattle.service.specs.Checks.{IsCheckEnd, checked_line};
 ghost use Rattle.service.specs.Outputs.{Reports};
 
-use crate::feed_lines::write_numbers;
 use crate::output::Output;
 use crate::refusal::Refusal;
 use crate::reporting::report_trouble;
@@ -19,7 +18,11 @@ use std::io::Write;
 fn write_checked<W: Write>(out: &mut Output<W>, changes: u64, settled: Mark)
     ensures line { Reports out.old out.new (checked_line changes settled) }
 {
-    write_numbers(out, "ok", &[changes, settled.seconds()]);
+    out.text("ok|");
+    out.number(changes);
+    out.text("|");
+    out.moment(settled.number());
+    out.text("\n");
 }
 
 /// Has the archive read all of its applied and pending changes, and writes `ok|CHANGES|SETTLED`: how many changes are applied, and the

@@ -6,8 +6,8 @@ ghost use Rattle.service.specs.Doubts.{IsDoubtful, IsFar, IsHeld, IsSkipped};
 use crate::feed_lines::FeedCounts;
 use route_model::Mark;
 
-/// How many seconds a mark may be after its collector's last record without being in doubt: a day.
-pub const DAY: u64 = 86_400;
+/// How many microseconds a mark may be after its collector's last record without being in doubt: a day.
+pub const DAY: u64 = 86_400_000_000;
 
 /// Why the counts of a feed are in doubt. Several reasons may apply at once.
 #[derive(Clone, Copy, Debug, PartialEq, Eq)]
@@ -53,18 +53,18 @@ fn is_doubtful(counts: &FeedCounts, dropped: u64) -> bool
     doubts.is_empty || doubts.is_late || doubts.is_refused || doubts.is_skipped
 }
 
-/// Whether the mark lies more than a day after this one, in seconds.
+/// Whether the mark lies more than a day after this one, in microseconds.
 pub fn is_far(mark: Option<Mark>, present: u64) -> bool
     ensures far { IsTrue result ↔ IsFar mark present }
 {
     match mark {
-        Some(mark) => mark.seconds().saturating_sub(present) > DAY,
+        Some(mark) => mark.number().saturating_sub(present) > DAY,
         None => false,
     }
 }
 
 /// Whether a load is held back: it is strict, and its feed, which came to its end with these counts and of whose admissions this many were
-/// dropped, is in doubt, or its mark is, which is set if the collector's is at `present` seconds.
+/// dropped, is in doubt, or its mark is, which is set if the collector's is at `present` microseconds.
 pub(crate) fn is_held(
     is_strict: bool,
     mark: Option<Mark>,

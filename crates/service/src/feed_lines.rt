@@ -66,7 +66,7 @@ fn skips_of(item: &Item) -> u64
 }
 
 /// Writes a letter, the numbers with a bar before each, and LF.
-pub(crate) fn write_numbers<W: Write>(out: &mut Output<W>, letter: &str, numbers: &[u64])
+fn write_numbers<W: Write>(out: &mut Output<W>, letter: &str, numbers: &[u64])
     ensures line { Reports out.old out.new (numbers_line letter.now numbers.now) }
 {
     out.text(letter);
@@ -80,8 +80,13 @@ pub(crate) fn write_numbers<W: Write>(out: &mut Output<W>, letter: &str, numbers
 fn write_late<W: Write>(out: &mut Output<W>, late: &Late)
     ensures line { Reports out.old out.new (late_line late.now) }
 {
-    let index = late.index as u64;
-    write_numbers(out, "L", &[index, late.time.seconds(), late.mark.seconds()]);
+    out.text("L|");
+    out.number(late.index as u64);
+    out.text("|");
+    out.moment(late.time.number());
+    out.text("|");
+    out.moment(late.mark.number());
+    out.text("\n");
 }
 
 /// Writes what became of a batch: `B|FROM|TO|OFFERED`, then `L|INDEX|TIME|MARK` for each late record. No memory
@@ -114,5 +119,7 @@ pub fn write_counts<W: Write>(out: &mut Output<W>, counts: &FeedCounts)
 pub fn write_settled<W: Write>(out: &mut Output<W>, settled: Mark)
     ensures line { Reports out.old out.new (settled_line settled) }
 {
-    write_numbers(out, "S", &[settled.seconds()]);
+    out.text("S|");
+    out.moment(settled.number());
+    out.text("\n");
 }

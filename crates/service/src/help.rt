@@ -33,9 +33,10 @@ Exit status: 0 if the archive is made; 1 if it is refused, printed on standard e
 
 /// Of `load`.
 pub(crate) const LOAD: &str =
-    "M is seconds since 1970, 0 to 4294967296, or a timestamp as 2024-01-01T00:00:00Z. It is set once the last FILE was
-read to its end: what the collector gives later isn't of earlier moments. After a table of the moment T it is a
-second after T. A mark can't be set back. A FILE may be a pipe; - is standard input.
+    "M is seconds since 1970, 0 to 4294967296, with a fraction of up to six digits or without, or a timestamp as
+2024-01-01T00:00:00Z. It is set once the last FILE was read to its end: what the collector gives later isn't of
+earlier moments. After a table of the moment T it is T.000001. A mark can't be set back. A FILE may be a
+pipe; - is standard input.
 Each FILE is a feed of its own, with its own lines. One that can't be read or ends inside a record ends the load, as
 other refusals do: no mark is set, and standard error shows which FILEs were not read.
 With --strict the load ends so, too, at a FILE without a record, one whose records came late or were skipped and none
@@ -77,7 +78,8 @@ The last four of `at`, and `changed`, may end with `after PEER PREFIX`, which go
 line is asked, and the answer has all and one end, `E|COUNT`. With --human moments are dates, and communities are
 texts (65001:7); programs read the lines without it.
 PEER is COLLECTOR ADDRESS AS; PREFIX, LOW and HIGH are ADDRESS/LENGTH. T, FROM and TO are moments: seconds since
-1970, or timestamps as 2024-01-01T00:00:00Z. T and TO have to be below the settled watermark.
+1970, with a fraction of up to six digits or without, or timestamps as 2024-01-01T00:00:00Z. T and TO have to be
+below the settled watermark.
 
 Examples:
   rha ask a at 2024-01-01T00:10:00Z prefix 10.0.0.0/8
@@ -195,7 +197,7 @@ pub(crate) const FIND: &str =
   A|TIME|COLLECTOR|ADDRESS|AS|PREFIX|ROUTE     the peer announced the route
   W|TIME|COLLECTOR|ADDRESS|AS|PREFIX           the peer withdrew the prefix
   D|TIME|COLLECTOR|ADDRESS|AS|PREFIX           the peer's session ended, and its route for the prefix with it
-and then E|LINES. Those of one second come by peer and then by prefix. Without --since, prints each peer's route for the
+and then E|LINES. Those of one moment come by peer and then by prefix. Without --since, prints each peer's route for the
 prefix at B, as the rows R of `rha ask`, and E|LINES. ROUTE is the eight fields of a row.
 At most one of --exact, --more and --less says which prefixes are meant: PREFIX alone, without an option, too; all inside it;
 or all that contain it; itself included in each case.

@@ -9,7 +9,8 @@
 //!     arguments      clap's reading --> an `Invocation`                          none, or usage, help, version
 //!
 //! Such a line is a letter, or `ok`, and fields with `|` before each, and ends in LF; X has the number and the name of a refusal. Times are
-//! written as seconds since 1970. An answer has 256 rows, events or places at most; M has what the next question goes on after.
+//! written as seconds since 1970, with six digits after a point where they aren't whole. An answer has 256 rows, events or places at most;
+//! M has what the next question goes on after.
 //!
 //! A batch is offered once it has the most admissions that are asked for, before it would have more octets than the archive takes (each
 //! admission counts its encoding and 4 octets), and at the end of the feed. If the collector's ring is too full for it, what may be applied
@@ -89,7 +90,7 @@ pub use output::{Input, Output, read_through};
 pub use refusal::{
     Refusal, write_error, write_outside, write_reason, write_refusal, write_refused_record,
 };
-pub use replying::{answer_text, changed_text, reply, skip_of};
+pub use replying::{answer_text, changed_text, reply, skip_of, watermark_text};
 pub use report::{FileLoad, LoadReport};
 pub use reporting::{
     report_lost, report_out_of_memory, report_outside, report_refusal, report_usage, report_with,

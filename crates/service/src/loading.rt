@@ -117,12 +117,12 @@ fn refusal_of(end: End) -> Option<Refusal> {
     }
 }
 
-/// The mark of a collector, in seconds: 0 if there is no such collector.
+/// The mark of a collector, in microseconds: 0 if there is no such collector.
 fn present_mark<A: RouteArchive>(archive: &A, collector: u8) -> u64
     ensures present { (h : History) → A.represents archive.now h → result ≡ (intake_in h.intakes collector).mark }
 {
     match archive.resume(collector) {
-        Some(place) => place.mark.seconds(),
+        Some(place) => place.mark.number(),
         None => 0,
     }
 }

@@ -3,9 +3,11 @@
 ghost use Rattle.std.specs.Prelude.{◌≡◌, ◌≤◌, ◌<◌, [], decimal, length, true, false, is_some, IfSome, IfNone, Some, take};
 ghost use Rattle.std.specs.Io.{ReadsAtMost, WritesAtMost};
 ghost use Rattle.std.specs.Io.KnownBytes.{Appends, Consumes, IsAtEnd, ReadConsumes, WriteAppends};
+ghost use Rattle.route_text.specs.MomentText.{fraction_text, moment_text};
 ghost use Rattle.service.specs.Outputs.{Reports};
 
 use itoa::Buffer;
+use route_model::Moment;
 use std::io::{Error, ErrorKind, Read, Write};
 use std::marker::Model;
 
@@ -127,6 +129,30 @@ impl<W: Write> Output<W> {
     {
         let mut digits = Buffer::new();
         self.put(digits.format(number).as_bytes());
+    }
+
+    /// Writes the digits of the microseconds within a second after a point, or nothing in a whole second.
+    fn fraction(&mut self, micros: u64)
+        ensures reports { Reports self.old self.new (fraction_text micros) }
+    {
+        if micros == 0 {
+            return;
+        }
+        self.text(".");
+        self.number(micros / 100_000 % 10);
+        self.number(micros / 10_000 % 10);
+        self.number(micros / 1_000 % 10);
+        self.number(micros / 100 % 10);
+        self.number(micros / 10 % 10);
+        self.number(micros % 10);
+    }
+
+    /// Writes a moment or a mark, in microseconds: its seconds, and where they aren't whole a point and six digits.
+    pub fn moment(&mut self, number: u64)
+        ensures reports { Reports self.old self.new (moment_text number) }
+    {
+        self.number(number / Moment::SECOND);
+        self.fraction(number % Moment::SECOND);
     }
 }
 

@@ -167,27 +167,21 @@ fn write_head<W: Write>(out: &mut Output<W>, refusal: &Refusal)
     out.text(refusal.name());
 }
 
-/// The number that the line of a refusal has after its name, if it has one.
-fn number_reported(refusal: &Refusal) -> Option<u64>
-    ensures some { IfSome result (λ number. reported_of refusal.now ≡ codes "|" ++ decimal number) }
-    ensures none { IfNone result (reported_of refusal.now ≡ []) }
-{
-    match refusal {
-        Refusal::AboveWatermark(settled) => Some(settled.seconds()),
-        Refusal::Damaged(number) | Refusal::BadNode(number) => Some(*number),
-        _ => None,
-    }
-}
-
 /// Writes what the line of a refusal has after its name.
 fn write_reported<W: Write>(out: &mut Output<W>, refusal: &Refusal)
     ensures reported { Reports out.old out.new (reported_of refusal.now) }
 {
-    let Some(number) = number_reported(refusal) else {
-        return;
-    };
-    out.text("|");
-    out.number(number);
+    match refusal {
+        Refusal::AboveWatermark(settled) => {
+            out.text("|");
+            out.moment(settled.number());
+        }
+        Refusal::Damaged(number) | Refusal::BadNode(number) => {
+            out.text("|");
+            out.number(*number);
+        }
+        _ => {}
+    }
 }
 
 /// Writes the line of a refusal: `X|NUMBER|NAME`, and after `AboveWatermark` a bar and the watermark, after

@@ -4,7 +4,7 @@ ghost use Rattle.std.specs.Prelude.{◌≡◌, ◌++◌, OnOk, IfOk, IfErr, IfSo
 ghost use Rattle.route_meaning.specs.History.{History};
 ghost use Rattle.interleaving_core.specs.Does.{last_moment};
 ghost use Rattle.interleaving_core.specs.Steps.{IsCollector};
-ghost use Rattle.service.specs.AnswerLines.{skip_of, reply_text, changed_text, number_line};
+ghost use Rattle.service.specs.AnswerLines.{skip_of, reply_text, changed_text, number_line, watermark_line};
 ghost use Rattle.service.specs.Replies.{IsAnswerText, IsChangedText, IsDurable, IsCountText, IsReplyTo, IsReplyText, IsRefused};
 ghost use Rattle.service.specs.inner.Asking.{of_ask, IsUnanswered, IsTrouble, IsUncounted, IsUnreplied};
 
@@ -16,7 +16,7 @@ use crate::request::{Request, RequestError, read_request};
 use archive_calls::{AskError, RouteArchive, Trouble};
 use interleaving_core::{Answer, Query};
 use route_meaning::{ChangedAnswer, ChangedQuestion};
-use route_text::write_number;
+use route_text::{write_micros, write_number};
 use std::alloc::{AllocError, Global};
 
 /// How many events the question skips: none, if it is of a moment.
@@ -71,6 +71,17 @@ fn number_text(alloc: Global, letter: &str, number: u64) -> Result<String, Alloc
 {
     let mut text = String::new(alloc);
     write_number_line(&mut text, letter, number)?;
+    Ok(text)
+}
+
+/// The line of a watermark, in microseconds.
+pub fn watermark_text(alloc: Global, settled: u64) -> Result<String, AllocError>
+    ensures text { IfOk result (λ text. string_bytes text ≡ watermark_line settled) }
+{
+    let mut text = String::new(alloc);
+    text.push_str("S|")?;
+    write_micros(&mut text, settled)?;
+    text.push('\n')?;
     Ok(text)
 }
 
@@ -130,7 +141,7 @@ fn report_watermark<A: RouteArchive>(alloc: Global, archive: &A) -> Result<Strin
     ensures reported { (h : History) → A.represents archive.now h → IfOk result (λ text. IsReplyTo h Request.Watermark (string_bytes text)) }
     ensures refused { IfErr result IsTrouble }
 {
-    match number_text(alloc, "S", archive.settled().seconds()) {
+    match watermark_text(alloc, archive.settled().number()) {
         Ok(text) => Ok(text),
         Err(_) => Err(Unanswered::Trouble(Trouble::OutOfMemory)),
     }

@@ -21,7 +21,7 @@ pub struct LoadReport {
     pub left_out: u64,
     /// How many admissions of the file were dropped, since they were offered before.
     pub dropped: u64,
-    /// The collector's mark after the feed, in seconds, from which `--mark` would raise it; if the feed ended well.
+    /// The collector's mark after the feed, in microseconds, from which `--mark` would raise it; if the feed ended well.
     pub present: Option<u64>,
     /// Whether the load was held back: it is strict, and the feed or the mark is in doubt.
     pub is_held: bool,
