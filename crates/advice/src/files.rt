@@ -89,7 +89,7 @@ impl fmt::Display for FileAdvice<'_> {
                 records,
                 mark,
             } => {
-                let date = Date(mark.seconds());
+                let date = Date(mark.number());
                 write!(
                     f,
                     "{file}: {late} of {records} records are late, and none is kept: they are older than the collector's mark {date}",

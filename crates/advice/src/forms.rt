@@ -45,7 +45,7 @@ impl Form {
             Form::Command => "a question: at, history, changed, watermark or durable",
             Form::Select => "what is asked of a moment: route, prefix, cover, peer or all",
             Form::Moment =>
-                "a moment: seconds since 1970, 0 to 4294967295, or a timestamp as 2024-01-01T00:15:00Z",
+                "a moment: seconds since 1970, 0 to 4294967295.999999, or a timestamp as 2024-01-01T00:15:00Z",
             Form::Collector => "a collector's number, 0 to 15",
             Form::Address => "an address, as 192.0.2.1 or 2001:db8::1",
             Form::AsNumber => "an AS number, 0 to 4294967295, without AS before it",

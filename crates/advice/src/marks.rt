@@ -20,7 +20,7 @@ pub enum MarkAdvice {
     },
     /// The archive has this many collectors.
     Collectors(u8),
-    /// The mark lies more than a day after the collector's last record, or after the last mark that it got, `present` in seconds. It is
+    /// The mark lies more than a day after the collector's last record, or after the last mark that it got, `present` in microseconds. It is
     /// set, or it isn't because the load is strict.
     Far {
         mark: Mark,
@@ -58,15 +58,15 @@ fn write_far<W: fmt::Write>(
 impl fmt::Display for MarkAdvice {
     fn fmt<W: fmt::Write>(&self, f: &mut fmt::Formatter<W>) -> fmt::Result {
         match self {
-            MarkAdvice::Settled(mark) if mark.seconds() == 0 => f.write_str(
+            MarkAdvice::Settled(mark) if mark.number() == 0 => f.write_str(
                 "no moment is settled yet: each collector has to give records, or get a mark",
             ),
             MarkAdvice::Settled(mark) => {
-                let date = Date(mark.seconds());
+                let date = Date(mark.number());
                 write!(f, "settled until {date}: ask of a moment below it")
             }
             MarkAdvice::Present { collector, mark } => {
-                let date = Date(mark.seconds());
+                let date = Date(mark.number());
                 write!(
                     f,
                     "the mark of collector {collector} is {date} already, and can't be set back"
@@ -76,7 +76,7 @@ impl fmt::Display for MarkAdvice {
                 mark,
                 present,
                 is_held,
-            } => write_far(f, mark.seconds(), *present, *is_held),
+            } => write_far(f, mark.number(), *present, *is_held),
             MarkAdvice::Held => f.write_str("--strict: the load ends here, and no mark is set"),
             MarkAdvice::Collectors(1) => f.write_str("the archive has one collector, 0"),
             MarkAdvice::Collectors(count) => {
@@ -100,7 +100,7 @@ impl fmt::Display for TextAdvice {
     fn fmt<W: fmt::Write>(&self, f: &mut fmt::Formatter<W>) -> fmt::Result {
         f.write_str(match self {
             TextAdvice::Mark =>
-                "--mark: a mark is seconds since 1970, 0 to 4294967296, or a timestamp as 2024-01-01T00:15:00Z",
+                "--mark: a mark is seconds since 1970, 0 to 4294967296, with a fraction of up to six digits or without, or a timestamp as 2024-01-01T00:15:00Z",
             TextAdvice::Listen =>
                 "--listen: an IPv4 address, a colon and a port, 0 to 65535, as 127.0.0.1:17900",
             TextAdvice::Http =>

@@ -19,7 +19,7 @@ fn advise_moment<A: RouteArchive, E: Write>(
     err: &mut Output<E>,
 ) {
     let settled = archive.settled();
-    if last.seconds() >= settled.seconds() {
+    if last.number() >= settled.number() {
         advise(alloc, &MarkAdvice::Settled(settled), err);
     }
 }

@@ -6,6 +6,7 @@ ghost use Rattle.archive_facts.specs.Facts.{AreFacts, shown_at, shown_from};
 use crate::identity::Sizes;
 use crate::slots::{PAGE, SLOTS};
 use archive_head::{Head, Lane as HeadLane};
+use dates::{Seconds, seconds_of};
 use route_model::Mark;
 use serde::Serialize;
 use std::alloc::{AllocError, Global};
@@ -21,7 +22,7 @@ pub struct Use {
 #[derive(Clone, Copy, Debug, PartialEq, Eq, Serialize)]
 pub struct Lane {
     pub collector: u64,
-    pub mark: u64,
+    pub mark: Seconds,
     pub offered: u64,
     pub admitted: u64,
     /// Octets of its ring.
@@ -32,11 +33,11 @@ pub struct Lane {
 #[derive(Debug, Drop, Serialize)]
 pub struct Facts {
     pub version: &'static str,
-    pub settled: u64,
-    /// How many changes are applied, and the times of the first and the last of them, in seconds since 1970.
+    pub settled: Seconds,
+    /// How many changes are applied, and the times of the first and the last of them.
     pub changes: u64,
-    pub first: Option<u64>,
-    pub last: u64,
+    pub first: Option<Seconds>,
+    pub last: Seconds,
     pub pages: Use,
     pub blocks: Use,
     /// Those that were open before the archive was opened.
@@ -50,7 +51,9 @@ fn lane_of(collector: u64, ring: u64, kept: &HeadLane) -> Lane
 {
     Lane {
         collector,
-        mark: kept.mark.seconds(),
+        mark: Seconds {
+            micros: kept.mark.number(),
+        },
         offered: kept.offered,
         admitted: kept.admitted,
         ring: Use {
@@ -96,10 +99,14 @@ impl Facts {
         let collectors = lanes_of(alloc, ring, &head.lanes)?;
         Ok(Facts {
             version,
-            settled: settled.seconds(),
+            settled: Seconds {
+                micros: settled.number(),
+            },
             changes: head.applied,
-            first,
-            last: head.last.seconds(),
+            first: seconds_of(first),
+            last: Seconds {
+                micros: head.last.number(),
+            },
             pages: Use {
                 used: head.fresh,
                 of: sizes.pages,

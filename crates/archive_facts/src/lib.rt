@@ -17,7 +17,7 @@
 //!     ring          octets of pending admissions                  octets of the ring's pages
 //!
 //! Slots are counted before the archive is opened, since an opening closes them; all other facts are read after it, when each page is
-//! home. Times and marks are seconds since 1970, and lines show them as dates (RFC 3339, UTC) too.
+//! home. Times and marks are microseconds since 1970; lines show them as dates (RFC 3339, UTC) and as seconds, JSON as seconds.
 //!
 //! No page has the time of the first change. It is found in the leaf that begins with the change of number 0 (`first`): the caller gives
 //! the first 176 octets of one leaf after another, of blocks and pages.

@@ -1,21 +1,17 @@
 //! Facts as lines for a person.
 
 use crate::facts::{Facts, Lane, Use};
-use jiff::Timestamp;
+use dates::{Seconds, Utc};
 use std::fmt;
 
-/// Seconds since 1970 as a date, and as lines have them: `2024-01-01T00:15:00Z (1704068100)`.
+/// So many microseconds since 1970 as a date, and as lines have them: `2024-01-01T00:15:00Z (1704068100)`.
 #[derive(Clone, Copy, Debug, PartialEq, Eq)]
 pub struct Date(pub u64);
 
 impl fmt::Display for Date {
     fn fmt<W: fmt::Write>(&self, f: &mut fmt::Formatter<W>) -> fmt::Result {
-        let seconds = self.0;
-        let date = i64::try_from(seconds).ok().map(Timestamp::from_second);
-        match date {
-            Some(Ok(date)) => write!(f, "{date} ({seconds})"),
-            _ => write!(f, "{seconds}"),
-        }
+        let Date(micros) = *self;
+        write!(f, "{} ({})", Utc { micros }, Seconds { micros })
     }
 }
 
@@ -28,7 +24,7 @@ impl fmt::Display for Use {
 impl fmt::Display for Lane {
     fn fmt<W: fmt::Write>(&self, f: &mut fmt::Formatter<W>) -> fmt::Result {
         writeln!(f, "collector {}:", self.collector)?;
-        writeln!(f, "  mark            {}", Date(self.mark))?;
+        writeln!(f, "  mark            {}", Date(self.mark.micros))?;
         writeln!(
             f,
             "  records         {} offered, {} admitted",
@@ -41,11 +37,11 @@ impl fmt::Display for Lane {
 impl fmt::Display for Facts {
     fn fmt<W: fmt::Write>(&self, f: &mut fmt::Formatter<W>) -> fmt::Result {
         writeln!(f, "version           {}", self.version)?;
-        writeln!(f, "settled           {}", Date(self.settled))?;
+        writeln!(f, "settled           {}", Date(self.settled.micros))?;
         writeln!(f, "applied           {} changes", self.changes)?;
         if let Some(first) = self.first {
-            writeln!(f, "from              {}", Date(first))?;
-            writeln!(f, "to                {}", Date(self.last))?;
+            writeln!(f, "from              {}", Date(first.micros))?;
+            writeln!(f, "to                {}", Date(self.last.micros))?;
         }
         writeln!(f, "pages             {} used", self.pages)?;
         writeln!(f, "blocks            {} used", self.blocks)?;

@@ -19,10 +19,11 @@ const TRIES: u64 = 10;
 /// How many milliseconds pass between two tries.
 const REST: u64 = 100;
 
-/// What helps if an archive that can be read has to be written to first.
+/// What helps if an archive may have to be written to before it can be read. The first opening of an archive of an earlier version leaves a slot of
+/// the journal open, so the second one writes, too.
 const UNENDED: &str =
-    "a command that was cut off left this archive, and what it began has to be written to its files before they can be read: \
-     run the command once as a user who may write to them";
+    "if a command on this archive was cut off, or if an earlier version made it, its files have to be written to before they can be read: \
+     run two commands on it, such as rha info, as a user who may write to them";
 
 /// What `attempt` opens: while the archive is in use it is tried again, until `seconds` are over.
 fn within<T: Drop, F: Fn() -> Result<T, OpenFault>>(

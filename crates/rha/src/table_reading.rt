@@ -20,7 +20,7 @@ fn expected(argument: BadArgument) -> &'static str {
     match argument {
         BadArgument::Form => "--format: lines, bgpdump or json",
         BadArgument::Moment =>
-            "a moment is seconds since 1970, 0 to 4294967295, or a timestamp as 2024-01-01T00:15:00Z",
+            "a moment is seconds since 1970, 0 to 4294967295.999999, or a timestamp as 2024-01-01T00:15:00Z",
         BadArgument::Peer =>
             "--peer: a collector, 0 to 15, an address and an AS number, as 0 192.0.2.1 64496",
         BadArgument::Prefix => "a prefix is an address, / and a length, as 10.0.0.0/8",
@@ -44,7 +44,7 @@ fn advise_settled<A: RouteSource, E: Write>(
     err: &mut Output<E>,
 ) {
     let settled = archive.settled();
-    if settled.seconds() <= inquiry.last_moment(archive).seconds() {
+    if settled.number() <= inquiry.last_moment(archive).number() {
         advise(alloc, &MarkAdvice::Settled(settled), err);
     }
 }

@@ -27,7 +27,8 @@ pub(crate) fn write_entry(
     let route = row.route.route();
     let text = text_of(alloc, route)?;
     let fields = fields_of(text.as_str());
-    let (seconds, as_number) = (moment.seconds(), row.peer.as_number);
+    // bgpdump prints the Timestamp of the record, which has no fraction.
+    let (seconds, as_number) = (moment.number() / Moment::SECOND, row.peer.as_number);
     write!(out, "TABLE_DUMP2|{seconds}|B|")?;
     write_address(out, &row.peer.address)?;
     write!(out, "|{as_number}|")?;

@@ -111,7 +111,7 @@ pub(crate) fn changed_spots<A: RouteSource>(
 
 /// The moment right before this one, if there is one.
 fn moment_before(moment: Moment) -> Option<Moment> {
-    Moment::new(moment.seconds().checked_sub(1)?)
+    Moment::new(moment.number().checked_sub(1)?)
 }
 
 /// Adds the routes that a cursor has not taken yet.

@@ -18,9 +18,9 @@ use std::alloc::Global;
 use std::cmp::Ordering;
 use std::io::Write;
 
-/// How many seconds at most may lie between two tables if only the places that changed are asked for. In a longer span a few prefixes may
+/// How many microseconds at most, an hour, may lie between two tables if only the places that changed are asked for. In a longer span a few prefixes may
 /// have changed more often than both tables have rows.
-const SHORT: u64 = 3_600;
+const SHORT: u64 = 3_600_000_000;
 
 /// Which prefixes are compared, or all if there is none.
 fn scope_of(asked: &Comparison) -> Option<Scope> {
@@ -59,7 +59,7 @@ fn write_tables<A: RouteSource, W: Write>(
 
 /// What happened between the two moments, if they are near to one another.
 fn short_span(asked: &Comparison) -> Option<Span> {
-    let (from, to) = (asked.from.seconds(), asked.to.seconds());
+    let (from, to) = (asked.from.number(), asked.to.number());
     let length = to.checked_sub(from)?;
     if length == 0 || SHORT < length {
         return None;

@@ -5,7 +5,7 @@ use crate::known::{
     COMMUNITIES, EXTENDED, LARGE, is_known, value_of, write_communities, write_extended,
     write_large,
 };
-use jiff::Timestamp;
+use dates::Utc;
 use route_meaning::{Event, Row};
 use route_model::{Change, Moment, Route};
 use service::write_place;
@@ -13,12 +13,8 @@ use std::alloc::{AllocError, Global};
 
 /// Writes the moment as a date (RFC 3339, UTC).
 pub(crate) fn write_date(out: &mut String, moment: Moment) -> Result<(), AllocError> {
-    let seconds = moment.seconds();
-    let date = i64::try_from(seconds).ok().map(Timestamp::from_second);
-    match date {
-        Some(Ok(date)) => write!(out, "{date}"),
-        _ => write!(out, "{seconds}"),
-    }
+    let micros = moment.number();
+    write!(out, "{}", Utc { micros })
 }
 
 /// Writes the attributes that aren't communities, with spaces between.

@@ -4,6 +4,7 @@ use crate::fields::{Fields, fields_of, text_of};
 use crate::known::{
     COMMUNITIES, EXTENDED, LARGE, value_of, write_communities, write_extended, write_large,
 };
+use dates::Seconds;
 use route_meaning::Row;
 use route_model::{Address, Moment, Prefix, Route};
 use route_text::{write_address, write_prefix};
@@ -13,7 +14,7 @@ use std::alloc::{AllocError, Global};
 /// What an object says of a row.
 #[derive(Debug, Drop, Serialize)]
 struct RowObject<'a> {
-    time: u64,
+    time: Seconds,
     date: &'a str,
     collector: u8,
     peer: &'a str,
@@ -68,7 +69,7 @@ fn words_of(alloc: Global, text: &str) -> Result<Vec<&str>, AllocError> {
 /// What an object says of a row besides its route.
 #[derive(Clone, Copy, Debug)]
 struct Place<'a> {
-    time: u64,
+    time: Seconds,
     date: &'a str,
     collector: u8,
     peer: &'a str,
@@ -163,7 +164,9 @@ pub(crate) fn write_object(
     let peer = address_text(alloc, &row.peer.address)?;
     let prefix = prefix_text(alloc, &row.prefix)?;
     let place = Place {
-        time: moment.seconds(),
+        time: Seconds {
+            micros: moment.number(),
+        },
         date,
         collector: row.peer.collector,
         peer: peer.as_str(),

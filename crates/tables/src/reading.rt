@@ -158,7 +158,7 @@ pub fn moment_of<A: RouteSource>(archive: &A, at: Option<Moment>) -> Moment
     if let Some(moment) = at {
         return moment;
     }
-    let settled = archive.settled().seconds();
+    let settled = archive.settled().number();
     match Moment::new(settled.saturating_sub(1)) {
         Some(moment) => moment,
         None => unreachable!(),

@@ -6,6 +6,7 @@ use crate::fault::Fault;
 use crate::page::page_text;
 use crate::refusals::{advice_on, block_of, page_of, settled_of, status_of};
 use crate::status::Status;
+use dates::Seconds;
 use serde::Serialize;
 use service::Refusal;
 use std::alloc::Global;
@@ -48,7 +49,7 @@ struct ErrorObject {
     number: u8,
     name: &'static str,
     #[serde(skip_serializing_if = "Option::is_none")]
-    settled: Option<u64>,
+    settled: Option<Seconds>,
     #[serde(skip_serializing_if = "Option::is_none")]
     block: Option<u64>,
     #[serde(skip_serializing_if = "Option::is_none")]

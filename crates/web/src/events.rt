@@ -1,16 +1,16 @@
 //! Events as objects of JSON.
 
-use crate::dates::date_of;
 use crate::parameters::cut;
 use crate::routes::{RouteObject, route_object};
-use crate::rows::number_of;
+use dates::{Seconds, Utc};
+use route_text::read_moment;
 use serde::Serialize;
 use std::alloc::{AllocError, Global};
 
 /// What an object says of an event.
 #[derive(Debug, Drop, Serialize)]
 struct EventObject<'a> {
-    time: u64,
+    time: Seconds,
     date: &'a str,
     event: &'a str,
     /// The route that was announced.
@@ -46,17 +46,25 @@ fn name_of(letter: &str) -> &'static str {
     }
 }
 
+/// The microseconds since 1970 of an event's time, as its line has it.
+fn micros_of(time: &str) -> u64 {
+    match read_moment(time) {
+        Ok(moment) => moment.number(),
+        Err(_) => 0,
+    }
+}
+
 /// The object of an event, whose line has this letter, and this text after it.
 pub(crate) fn event_text(alloc: Global, letter: &str, text: &str) -> Result<String, AllocError> {
     let (time, beyond) = cut(text, '|');
-    let seconds = number_of(time);
-    let date = date_of(alloc, seconds)?;
+    let micros = micros_of(time);
+    let date = format!(in alloc; "{}", Utc { micros })?;
     let route = match route_of(alloc, letter, beyond) {
         Ok(route) => route,
         Err(why) => return Err(why),
     };
     let event = EventObject {
-        time: seconds,
+        time: Seconds { micros },
         date: date.as_str(),
         event: name_of(letter),
         route,

@@ -21,7 +21,6 @@ mod answers;
 mod buffer;
 mod communities;
 mod connection;
-mod dates;
 mod events;
 mod fault;
 mod head;

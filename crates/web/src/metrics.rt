@@ -1,6 +1,7 @@
 //! How far an archive has come, and which questions were asked, in Prometheus' text form 0.0.4.
 
 use crate::standing::{Lane, Room, Standing};
+use dates::Seconds;
 use server::{KINDS, Kind, Meters};
 use std::alloc::{AllocError, Global};
 
@@ -17,7 +18,6 @@ struct Metric {
 enum Field {
     Admitted,
     Offered,
-    Mark,
     RingUsed,
     Ring,
 }
@@ -55,12 +55,21 @@ fn write_value(out: &mut String, metric: Metric, value: Option<u64>) -> Result<(
     writeln!(out, "{name} {value}")
 }
 
+/// Writes a time of the whole archive, if it is known.
+fn write_time(out: &mut String, metric: Metric, time: Option<Seconds>) -> Result<(), AllocError> {
+    let Some(time) = time else {
+        return Ok(());
+    };
+    write_heading(out, metric)?;
+    let name = metric.name;
+    writeln!(out, "{name} {time}")
+}
+
 impl Lane {
     fn value(&self, field: Field) -> Option<u64> {
         match field {
             Field::Admitted => Some(self.admitted),
             Field::Offered => self.offered,
-            Field::Mark => self.mark,
             Field::RingUsed => used_in(self.ring),
             Field::Ring => size_in(self.ring),
         }
@@ -75,6 +84,30 @@ fn size_in(room: Option<Room>) -> Option<u64> {
     room.map(|it| it.of)
 }
 
+/// Writes what comes before the value of a collector.
+fn write_label(out: &mut String, name: &str, collector: u8) -> Result<(), AllocError> {
+    out.push_str(name)?;
+    out.push_str("{collector=\"")?;
+    write!(out, "{collector}")?;
+    out.push_str("\"} ")
+}
+
+/// Writes the mark of each collector whose mark is known.
+fn write_marks(out: &mut String, lanes: &[Lane]) -> Result<(), AllocError> {
+    let metric = gauge(
+        "rha_mark_seconds",
+        "The mark of a collector, in seconds since 1970.",
+    );
+    write_heading(out, metric)?;
+    for lane in lanes {
+        if let Some(mark) = lane.mark {
+            write_label(out, metric.name, lane.collector)?;
+            writeln!(out, "{mark}")?;
+        }
+    }
+    Ok(())
+}
+
 /// Writes a metric of each collector whose value is known.
 fn write_lanes(
     out: &mut String,
@@ -87,10 +120,7 @@ fn write_lanes(
     for lane in lanes {
         if let Some(value) = lane.value(field) {
             let collector = lane.collector;
-            out.push_str(name)?;
-            out.push_str("{collector=\"")?;
-            write!(out, "{collector}")?;
-            out.push_str("\"} ")?;
+            write_label(out, name, collector)?;
             writeln!(out, "{value}")?;
         }
     }
@@ -109,11 +139,7 @@ fn write_collectors(out: &mut String, lanes: &[Lane]) -> Result<(), AllocError> 
         "Records of a collector that were offered, late ones too.",
     );
     write_lanes(out, metric, lanes, Field::Offered)?;
-    let metric = gauge(
-        "rha_mark_seconds",
-        "The mark of a collector, in seconds since 1970.",
-    );
-    write_lanes(out, metric, lanes, Field::Mark)?;
+    write_marks(out, lanes)?;
     let metric = gauge(
         "rha_ring_used_bytes",
         "What pending admissions use of a collector's ring.",
@@ -180,14 +206,14 @@ impl Standing {
             "rha_settled_seconds",
             "The settled watermark, in seconds since 1970.",
         );
-        write_value(&mut text, metric, Some(self.settled))?;
+        write_time(&mut text, metric, Some(self.settled))?;
         let metric = counter("rha_applied_changes_total", "Changes that are applied.");
         write_value(&mut text, metric, self.changes)?;
         let metric = gauge(
             "rha_last_change_seconds",
             "The time of the last change that is applied, in seconds since 1970.",
         );
-        write_value(&mut text, metric, self.last)?;
+        write_time(&mut text, metric, self.last)?;
         write_rooms(&mut text, self)?;
         write_collectors(&mut text, &self.collectors)?;
         write_questions(&mut text, meters)?;

@@ -90,7 +90,7 @@ const COLOURS = ['#1b6ca8', '#b34700', '#2e7d32', '#8e24aa', '#ad1457', '#00695c
 const STEPS = [1, 2, 5, 10, 15, 30, 60, 120, 300, 600, 900, 1800, 3600, 7200, 14400, 21600, 43200, 86400, 172800, 604800, 2592000];
 // How many answers to one question are followed, and how many events are shown.
 const ANSWERS = { rows: 20, peers: 500, events: 20 }, EVENTS = 2000;
-const LAST = 4294967295;
+const LAST = 4294967295.999999;
 const KINDS = ['announce', 'withdraw', 'down'];
 
 const get = id => document.getElementById(id);
@@ -106,16 +106,17 @@ function make(name, kind, ...parts) {
 }
 
 const say = (...parts) => get('message').replaceChildren(...parts);
-const date = time => new Date(time * 1000).toISOString().replace('.000', '');
+const fraction = time => time % 1 ? (time % 1).toFixed(6).slice(1).replace(/0+$/, '') : '';
+const date = time => new Date(Math.floor(time) * 1000).toISOString().replace('.000', fraction(time));
 const origin = route => route.path === '' ? 'no path' : 'AS' + route.path.split(' ').pop();
 const key = it => `${it.collector} ${it.peer} ${it.as_number}`;
 const query = pairs => Object.entries(pairs).map(([name, value]) => `${name}=${encodeURIComponent(value)}`).join('&');
 
 function moment(text) {
   const it = text.trim();
-  if (/^\d{1,10}$/.test(it)) return Number(it) <= LAST ? Number(it) : null;
-  const m = /^(\d{4}-\d\d-\d\d)(?:[T ](\d\d:\d\d)(:\d\d)?)?(Z|[+-]\d\d:\d\d)?$/i.exec(it);
-  const time = m ? Date.parse(`${m[1]}T${m[2] || '00:00'}${m[3] || ':00'}${(m[4] || 'Z').toUpperCase()}`) / 1000 : NaN;
+  if (/^\d{1,10}(\.\d{1,6})?$/.test(it)) return Number(it) <= LAST ? Number(it) : null;
+  const m = /^(\d{4}-\d\d-\d\d)(?:[T ](\d\d:\d\d)(?:(:\d\d)(\.\d{1,6})?)?)?(Z|[+-]\d\d:\d\d)?$/i.exec(it);
+  const time = m ? Date.parse(`${m[1]}T${m[2] || '00:00'}${m[3] || ':00'}${(m[5] || 'Z').toUpperCase()}`) / 1000 + Number(m[4] || 0) : NaN;
   return time >= 0 && time <= LAST ? time : null;
 }
 
@@ -204,7 +205,7 @@ function reasonOf(why, prefix) {
   const it = why.refusal;
   if (!it) return `The archive didn't answer: ${why.message}.`;
   if (it.name === 'AboveWatermark') {
-    return it.settled ? `That isn't settled yet. The last moment that is: ${date(it.settled - 1)}.` : 'Nothing is settled yet: a collector has no mark.';
+    return it.settled ? `That isn't settled yet; moments before ${date(it.settled)} are.` : 'Nothing is settled yet: a collector has no mark.';
   }
   if (it.name === 'BadRequest') return `${prefix} isn't a prefix. One is written as 203.0.113.0/24 or 2001:db8::/32.`;
   return `The archive couldn't answer: ${it.name} (${it.number}), ${it.message}.`;

@@ -1,6 +1,7 @@
 //! Questions that the archive refuses.
 
 use crate::status::Status;
+use dates::Seconds;
 use service::Refusal;
 
 /// The status of a question that is refused.
@@ -24,9 +25,11 @@ pub(crate) fn advice_on(refusal: &Refusal) -> &'static str {
 }
 
 /// The settled watermark, if the question isn't below it.
-pub(crate) fn settled_of(refusal: &Refusal) -> Option<u64> {
+pub(crate) fn settled_of(refusal: &Refusal) -> Option<Seconds> {
     match refusal {
-        Refusal::AboveWatermark(settled) => Some(settled.seconds()),
+        Refusal::AboveWatermark(settled) => Some(Seconds {
+            micros: settled.number(),
+        }),
         _ => None,
     }
 }

@@ -5,12 +5,12 @@
 //!     A|.. M|256        {"events":[{..}],"more":true,"next":"/api/history?..&skip=256"}
 //!     C|.. M|..         {"places":[{..}],"more":true,"next":"/api/find?..&after_collector=.."}
 
-use crate::dates::date_of;
 use crate::events::event_text;
 use crate::parameters::cut;
 use crate::replying::Reply;
 use crate::rows::{peer_text, place_of, place_text, row_text};
 use crate::target::{Question, Shows};
+use dates::{Seconds, Utc};
 use std::alloc::{AllocError, Global};
 
 /// The target of the rows, or places, after this place.
@@ -56,7 +56,7 @@ fn write_object(body: &mut String, object: &str) -> Result<(), AllocError> {
 /// What the lines of rows don't say: their moment, and the target that asks from the first row on.
 #[derive(Clone, Copy, Debug)]
 struct Page<'a> {
-    time: u64,
+    time: Seconds,
     date: &'a str,
     first: &'a str,
 }
@@ -149,10 +149,10 @@ fn write_event_line(
     }
 }
 
-fn rows_body(alloc: Global, time: u64, lines: &str, first: &str) -> Result<String, AllocError> {
-    let date = date_of(alloc, time)?;
+fn rows_body(alloc: Global, micros: u64, lines: &str, first: &str) -> Result<String, AllocError> {
+    let date = format!(in alloc; "{}", Utc { micros })?;
     let page = Page {
-        time,
+        time: Seconds { micros },
         date: date.as_str(),
         first,
     };

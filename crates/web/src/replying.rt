@@ -19,7 +19,7 @@ use std::time::Clock;
 /// What is replied to a question.
 #[derive(Debug, Drop)]
 pub struct Reply {
-    /// The moment that is asked for, in seconds; none if the question is of a span.
+    /// The moment that is asked for, in microseconds; none if the question is of a span.
     pub time: Option<u64>,
     pub lines: String,
 }
@@ -29,7 +29,7 @@ fn time_of(request: &Request) -> Option<u64>
     ensures time { result ≡ time_of request.now }
 {
     match request {
-        Request::Question(Query::Rows(question)) => Some(question.moment.seconds()),
+        Request::Question(Query::Rows(question)) => Some(question.moment.number()),
         Request::Question(Query::Events(_)) => None,
         Request::Changed(_) | Request::Watermark | Request::Durable(_) => None,
     }

@@ -2,6 +2,7 @@
 
 use crate::parameters::cut;
 use crate::routes::{RouteObject, route_object};
+use dates::Seconds;
 use route_text::read_number;
 use serde::Serialize;
 use std::alloc::{AllocError, Global};
@@ -9,7 +10,7 @@ use std::alloc::{AllocError, Global};
 /// What an object says of a row.
 #[derive(Debug, Drop, Serialize)]
 struct RowObject<'a> {
-    time: u64,
+    time: Seconds,
     date: &'a str,
     collector: u64,
     peer: &'a str,
@@ -104,7 +105,7 @@ pub(crate) fn peer_text(alloc: Global, text: &str) -> Result<String, AllocError>
 /// The object of a row at this time, whose line has this text after `R|`.
 pub(crate) fn row_text(
     alloc: Global,
-    time: u64,
+    time: Seconds,
     date: &str,
     text: &str,
 ) -> Result<String, AllocError> {

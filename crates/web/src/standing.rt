@@ -5,8 +5,8 @@
 
 ghost use Rattle.std.specs.Prelude.{◌≡◌};
 
-use crate::dates::date_of;
 use board::{Named, Pass};
+use dates::{Seconds, Utc};
 use interleaving_core::Resume;
 use query_threads::{Gate, Lane as UsedLane, OnDisk, Room as UsedRoom, Shared, Store, Usage};
 use serde::Serialize;
@@ -24,7 +24,7 @@ pub(crate) struct Room {
 #[derive(Clone, Copy, Debug, Serialize)]
 pub(crate) struct Lane {
     pub(crate) collector: u8,
-    pub(crate) mark: Option<u64>,
+    pub(crate) mark: Option<Seconds>,
     pub(crate) offered: Option<u64>,
     pub(crate) admitted: u64,
     pub(crate) ring: Option<Room>,
@@ -34,10 +34,10 @@ pub(crate) struct Lane {
 #[derive(Debug, Drop, Serialize)]
 pub(crate) struct Standing {
     /// The settled watermark, and its date.
-    pub(crate) settled: u64,
+    pub(crate) settled: Seconds,
     pub(crate) date: String,
     pub(crate) changes: Option<u64>,
-    pub(crate) last: Option<u64>,
+    pub(crate) last: Option<Seconds>,
     pub(crate) pages: Option<Room>,
     pub(crate) blocks: Option<Room>,
     pub(crate) collectors: Vec<Lane>,
@@ -64,7 +64,9 @@ fn lane_of(collector: u8, admitted: u64, known: Option<UsedLane>) -> Lane {
     let Resume { offered, mark, .. } = resume;
     Lane {
         collector,
-        mark: Some(mark.seconds()),
+        mark: Some(Seconds {
+            micros: mark.number(),
+        }),
         offered: Some(offered),
         admitted,
         ring: Some(room_of(ring)),
@@ -81,7 +83,7 @@ fn known_of(usage: &Option<Usage>, collector: u8) -> Option<UsedLane> {
 
 /// The same with what the archive reported of itself.
 fn standing_with(
-    settled: u64,
+    settled: Seconds,
     date: String,
     usage: Option<Usage>,
     collectors: Vec<Lane>,
@@ -91,7 +93,9 @@ fn standing_with(
             settled,
             date,
             changes: Some(usage.changes),
-            last: Some(usage.last.seconds()),
+            last: Some(Seconds {
+                micros: usage.last.number(),
+            }),
             pages: Some(room_of(usage.pages)),
             blocks: Some(room_of(usage.blocks)),
             collectors,
@@ -119,8 +123,9 @@ pub(crate) fn standing_of<A: Store, N: Named + OnDisk<A::Disk>, G: Gate + Drop>(
 {
     let mut own = shared.split(pass);
     let usage = shared.usage(rt, &mut own, alloc);
-    let settled = shared.watermark(&mut own);
-    let date = date_of(alloc, settled)?;
+    let micros = shared.watermark(&mut own);
+    let date = format!(in alloc; "{}", Utc { micros })?;
+    let settled = Seconds { micros };
     let mut collectors = Vec::new(alloc);
     let count = shared.collectors();
     for collector in 0..count {
