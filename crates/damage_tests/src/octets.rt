@@ -164,16 +164,16 @@ const HEADS: [Area; 3] = [
         from: 0,
         to: PAGE,
         step: 1,
-        changed: 16404,
-        opened: 90,
+        changed: 16413,
+        opened: 100,
     },
     Area {
         page: 266,
         from: 0,
         to: PAGE,
         step: 1,
-        changed: 32533,
-        opened: 32503,
+        changed: 32550,
+        opened: 32523,
     },
 ];
 
@@ -184,16 +184,16 @@ const FIRST: [Area; 2] = [
         from: 0,
         to: PAGE,
         step: 1,
-        changed: 16403,
-        opened: 16403,
+        changed: 16407,
+        opened: 16407,
     },
     Area {
         page: 285,
         from: 0,
         to: PAGE,
         step: 1,
-        changed: 22535,
-        opened: 22535,
+        changed: 22545,
+        opened: 22545,
     },
 ];
 
@@ -204,16 +204,16 @@ const SECOND: [Area; 2] = [
         from: 0,
         to: PAGE,
         step: 1,
-        changed: 16403,
-        opened: 16403,
+        changed: 16407,
+        opened: 16407,
     },
     Area {
         page: 287,
         from: 0,
         to: PAGE,
         step: 1,
-        changed: 28671,
-        opened: 28671,
+        changed: 28687,
+        opened: 28687,
     },
 ];
 
@@ -223,8 +223,8 @@ const ROOT: [Area; 1] = [Area {
     from: 0,
     to: PAGE,
     step: 1,
-    changed: 16400,
-    opened: 16400,
+    changed: 16401,
+    opened: 16401,
 }];
 
 /// The column of 648 parts. A check takes long there, so it is made of each 77th octet.
@@ -233,8 +233,8 @@ const PARTED: [Area; 1] = [Area {
     from: 0,
     to: PAGE,
     step: 77,
-    changed: 20543,
-    opened: 20543,
+    changed: 21834,
+    opened: 21834,
 }];
 
 #[test]

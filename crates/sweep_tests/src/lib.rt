@@ -11,6 +11,8 @@
 #[cfg(test)]
 mod lives;
 #[cfg(test)]
+mod older;
+#[cfg(test)]
 mod stops;
 #[cfg(test)]
 mod sweeps;

@@ -77,9 +77,9 @@ fn count_blocks(burns: &[Burn], front: &[u8]) -> usize {
 }
 
 /// A column of 648 parts.
-const COLUMN: [u8; 6] = [2, 0, 1, 0, 2, 0x88];
+const COLUMN: [u8; 6] = [2, 1, 1, 0, 2, 0x88];
 
-const LEAF: [u8; 4] = [1, 0, 0, 0];
+const LEAF: [u8; 4] = [1, 1, 0, 0];
 
 /// How many of these calls close a slot: they write a commit flag, and not that of an open slot.
 fn count_closed(calls: &[Call]) -> usize {

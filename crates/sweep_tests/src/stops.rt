@@ -129,7 +129,7 @@ fn leaves(
 }
 
 /// The disks where an opening is stopped at its k-th call that writes; none where it has fewer.
-fn cut_opening(rt: &impl Abort, stage: &Stage, disks: &Both, k: u64) -> Option<Both> {
+pub(crate) fn cut_opening(rt: &impl Abort, stage: &Stage, disks: &Both, k: u64) -> Option<Both> {
     match cut(rt, disks, Disk::Erasable, k).open(stage.alloc) {
         Ok(_) => None,
         Err(handed) => {

@@ -17,6 +17,7 @@ mod asked;
 mod disks;
 mod laid;
 mod loads;
+mod older;
 mod played;
 mod pure;
 mod records;
@@ -26,6 +27,7 @@ pub use acts::{Act, LONG, Load, RISING, Script};
 pub use asked::same;
 pub use disks::{Both, Disk, Handed, KINDS, Played, WAYS, numbered, torn};
 pub use laid::{PAGE, laid_anew, lay, octets_of};
+pub use older::{burn, in_whole_seconds};
 pub use played::{
     Outcome, State, apply, apply_all, ask, check, flush, flush_all, set_mark, state_of,
 };

@@ -107,7 +107,8 @@ impl Pure {
     /// Its state and its answers now.
     pub(crate) fn known(&mut self) -> Option<Known> {
         let settled = self.settled()?;
-        let last = settled.seconds().saturating_sub(1).min(9_999);
+        let seconds = settled.number() / Moment::SECOND;
+        let last = seconds.saturating_sub(1).min(9_999);
         let mut answers = Vec::new(self.alloc);
         for asked in &ASKED {
             answers.push(self.answered(&query_of(asked))?).ok()?;
