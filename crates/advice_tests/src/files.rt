@@ -218,7 +218,7 @@ fn loaded(packing: Option<Packing>, lose_entries: bool, dropped: u64) -> Loaded<
         mark: None,
         report: LoadReport {
             is_begun: true,
-            before: Mark::new(1_704_068_100),
+            before: Mark::new(1_704_068_100_000_000),
             counts: None,
             left_out: 0,
             dropped,

@@ -2,7 +2,7 @@
 
 use crate::be;
 use advice::{FileAdvice, MarkAdvice, Unread, advise};
-use route_model::Mark;
+use route_model::{Mark, Moment};
 use service::Output;
 use std::alloc::Global;
 use std::fmt::Display;
@@ -40,12 +40,12 @@ const FAR: [(u64, bool, &str); 4] = [
 
 /// Whether this is said of the mark of the beginning of 2042.
 fn is_said(alloc: Global, present: u64, is_held: bool, expected: &str) -> Option<bool> {
-    let mark = Mark::new(2_272_147_200)?;
+    let mark = Mark::new(2_272_147_200_000_000)?;
     let text = said(
         alloc,
         &MarkAdvice::Far {
             mark,
-            present,
+            present: present.saturating_mul(Moment::SECOND),
             is_held,
         },
     );

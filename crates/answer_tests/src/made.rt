@@ -56,7 +56,7 @@ fn load_into(alloc: Global, archive: &mut MemArchive, octets: &[u8]) -> Status {
             limit: 1000,
             rule: WithoutHop::Refused,
         },
-        mark: Mark::new(1_704_067_201),
+        mark: Mark::new(1_704_067_201_000_000),
         resume: false,
         strict: false,
     };

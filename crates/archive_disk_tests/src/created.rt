@@ -17,9 +17,10 @@ const SETTINGS: Settings = Settings {
 // What the first page of the disk begins with: the word, 39 home pages, and the note, of 5 blocks, 2 collectors and rings of 9 pages.
 const IDENTITY: &[u8] = b"RHAPAGE1\0\0\0\0\0\0\0\x27\0\0\0\0\0\0\0\x05\x02\0\x09\0";
 
-// What the head begins with: no change, at no time, and none begun; pages 19 and 20 are the tree's, and no block was tried.
+// What the head begins with: no change, at no time, and none begun; pages 19 and 20 are the tree's, no block was tried, and times are
+// microseconds.
 const HEAD: &[u8] =
-    b"\0\0\0\0\0\0\0\0\0\0\0\0\0\0\0\0\0\0\0\0\0\0\0\0\0\0\0\0\0\0\0\x15\0\0\0\0\0\0\0\0\0\0\0\0\0\0\0\x13";
+    b"\0\0\0\0\0\0\0\0\0\0\0\0\0\0\0\0\0\0\0\0\0\0\0\0\0\0\0\0\0\0\0\x15\0\0\0\0\0\0\0\0\0\0\0\0\0\0\0\x13\0\0\0\0\0\0\0\x01";
 
 // Whether the archive has its settings, and its first page and its head are these, with zeros after them.
 fn stands(alloc: Global) -> Option<bool> {
@@ -32,7 +33,7 @@ fn stands(alloc: Global) -> Option<bool> {
         has_settings
             && identity.starts_with(IDENTITY)
             && head.starts_with(HEAD)
-            && head.iter().skip(48).all(|octet| *octet == 0),
+            && head.iter().skip(56).all(|octet| *octet == 0),
     )
 }
 

@@ -18,9 +18,9 @@ const BLOCKS: u64 = 5;
 
 /// At 1704067200 peer 192.0.2.1 of AS 65001 announces 10.0.0.0/8: 67 octets.
 const VECTOR: [u8; 67] = [
-    0, 0, 0, 0, 0x65, 0x92, 0, 0x80, 0, 1, 0, 4, 0xC0, 0, 2, 1, 0, 0, 0, 0, 0, 0, 0, 0, 0, 0, 0, 0,
-    0, 0, 0xFD, 0xE9, 0, 1, 0, 0x15, 0, 0, 1, 2, 2, 0, 0, 0xFD, 0xE9, 0, 0, 0xFD, 0xEA, 4, 0xC0, 0,
-    2, 1, 0, 0, 0, 0, 1, 1, 0, 0, 4, 8, 0x0A, 0, 0,
+    0, 6, 0x0D, 0xD7, 0x10, 0x21, 0x20, 0, 0, 1, 0, 4, 0xC0, 0, 2, 1, 0, 0, 0, 0, 0, 0, 0, 0, 0, 0,
+    0, 0, 0, 0, 0xFD, 0xE9, 0, 1, 0, 0x15, 0, 0, 1, 2, 2, 0, 0, 0xFD, 0xE9, 0, 0, 0xFD, 0xEA, 4,
+    0xC0, 0, 2, 1, 0, 0, 0, 0, 1, 1, 0, 0, 4, 8, 0x0A, 0, 0,
 ];
 
 /// Disks below an archive: how many home pages and blocks, and the calls that fail.
@@ -173,9 +173,8 @@ pub(crate) fn large(alloc: Global, count: u8) -> Option<Vec<Admission>> {
 
 /// `count` admissions of 67 octets, of the moment 1704067200 or the given number of seconds after it.
 pub(crate) fn vectors(alloc: Global, count: usize, beyond: u8) -> Option<Vec<Admission>> {
-    let mut octets = VECTOR;
-    octets[7] = 0x80u8.saturating_add(beyond);
-    let one = Admission::decode(alloc, &octets).ok()??;
+    let time = Moment::from(1_704_067_200 + u32::from(beyond));
+    let one = Admission::decode(alloc, &VECTOR).ok()??.at(time);
     let mut batch = Vec::new(alloc);
     for _ in 0..count {
         batch.push(one.share(alloc).ok()?).ok()?;

@@ -10,6 +10,7 @@ use crate::reported::{Reported, State, make, state_of};
 use archive_pages::Settings;
 use disk_calls::NoReasons;
 use interleaving_core::Step;
+use route_model::Moment;
 use route_model::octets::u64_at;
 use std::alloc::Global;
 use std::process::Abort;
@@ -209,7 +210,7 @@ fn goes_on_alike(
     model: &mut Model,
     found: &mut Found,
 ) -> Option<bool> {
-    let settled = found.state.settled.seconds();
+    let settled = found.state.settled.number() / Moment::SECOND;
     if !model.crash()? || found.disk.applied() != found.state.applied {
         return Some(false);
     }

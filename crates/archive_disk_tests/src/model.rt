@@ -201,7 +201,7 @@ fn reply_lines(alloc: Global, query: &Query, reply: &Reply) -> Option<String> {
 
 // The line of a moment that isn't below the settled watermark.
 fn above(alloc: Global, settled: Mark) -> Option<String> {
-    let seconds = settled.seconds();
+    let seconds = settled.number() / Moment::SECOND;
     format!(in alloc; "X|24|AboveWatermark|{seconds}\n").ok()
 }
 

@@ -201,7 +201,8 @@ impl Stage {
     // Whether both are settled up to this mark.
     fn is_settled(&mut self, expected: &str) -> bool {
         let settled = self.disk.settled();
-        is_number(self.alloc, settled.seconds(), expected) && self.model.settled() == Some(settled)
+        is_number(self.alloc, settled.number() / Moment::SECOND, expected)
+            && self.model.settled() == Some(settled)
     }
 
     // Whether both return this for where a collector goes on.
@@ -209,7 +210,7 @@ impl Stage {
         let resume = self.disk.resume(collector)?;
         let offered = resume.offered;
         let admitted = resume.admitted;
-        let mark = resume.mark.seconds();
+        let mark = resume.mark.number() / Moment::SECOND;
         let text = format!(in self.alloc; "{offered} {admitted} {mark}").ok()?;
         Some(text.as_str() == expected && self.model.resume(collector) == Some(resume))
     }

@@ -1,6 +1,7 @@
 //! The command line: which words are accepted and as what.
 
 use crate::be;
+use route_model::Moment;
 use service::{
     Checking, CommandError, Comparing, Creation, Dumping, Examining, Finding, Invocation, Listing,
     Loading, Question, Serving, Target, command,
@@ -208,7 +209,7 @@ const NO_MARKS: [&str; 6] = [
     "07",
     "4294967297",
     "2024-01-01",
-    "2024-01-01T00:00:00.5Z",
+    "2024-01-01T00:00:00.0000005Z",
     "now",
 ];
 
@@ -272,7 +273,7 @@ impl Line {
         self.number(u64::from(asked.collector));
         self.number(asked.batch as u64);
         match asked.mark {
-            Some(mark) => self.number(mark.seconds()),
+            Some(mark) => self.number(mark.number() / Moment::SECOND),
             None => self.word("none"),
         }
         self.word(if asked.resume { "resumed" } else { "whole" });

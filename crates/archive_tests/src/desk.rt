@@ -18,7 +18,7 @@ pub(crate) fn plainly() -> LoadSettings {
             limit: 1000,
             rule: WithoutHop::Refused,
         },
-        mark: Mark::new(1_704_067_201),
+        mark: Mark::new(1_704_067_201_000_000),
         resume: false,
         strict: false,
     }

@@ -2,12 +2,12 @@
 
 use crate::gathered::{Gathered, Times};
 use crate::samples::{
-    AFTER_TIME, AGGREGATED, BEFORE_256, BEFORE_257, BEFORE_763, BEFORE_764, BOTH_PLACES,
-    CUT_PEER_TABLE, CUT_UPDATE, EARLIER, EMPTY, EMPTY_AFTER_TIME, ENTRIES_UNCOUNTED, EXTENDED,
-    IPV6, JOINED, LONG_PREFIX, LONGER, NOTIFICATION, OTHER_PATH, OTHER_PEER_TABLE, PEER_TABLE,
-    PEERS_UNCOUNTED, RIB, RIB_IPV6, RIB_IPV6_FULL, RIB_OF_NEXT_HOP, RIB_OF_SECOND, RIB_OF_THREE,
-    RIB_WITHOUT_HOP, RIB_WITHOUT_ORIGIN, SESSION_DOWN, SKIPPED, TOO_LONG, TWO_PREFIXES, UPDATE,
-    WITHDRAWAL,
+    AFTER_MICROSECONDS, AFTER_TIME, AGGREGATED, BEFORE_256, BEFORE_257, BEFORE_763, BEFORE_764,
+    BOTH_PLACES, CUT_PEER_TABLE, CUT_UPDATE, EARLIER, EMPTY, EMPTY_AFTER_TIME, ENTRIES_UNCOUNTED,
+    EXTENDED_DOWN, IPV6, JOINED, LONG_PREFIX, LONGER, NOTIFICATION, OTHER_PATH, OTHER_PEER_TABLE,
+    PEER_TABLE, PEERS_UNCOUNTED, RIB, RIB_IPV6, RIB_IPV6_FULL, RIB_OF_NEXT_HOP, RIB_OF_SECOND,
+    RIB_OF_THREE, RIB_WITHOUT_HOP, RIB_WITHOUT_ORIGIN, SESSION_DOWN, SKIPPED, TOO_LONG,
+    TWO_PREFIXES, UPDATE, WITHDRAWAL,
 };
 use std::alloc::Global;
 
@@ -21,7 +21,8 @@ enum Part {
 /// A name, and the parts of the record, or of the records, for which it stands.
 struct Named(&'static str, &'static [Part]);
 
-const NAMES: [Named; 45] = [
+/// Records of BGP4MP.
+const UPDATES: [Named; 27] = [
     Named("nothing", &[]),
     Named("update", &[Part::Octets(UPDATE)]),
     Named("earlier", &[Part::Octets(EARLIER)]),
@@ -51,7 +52,6 @@ const NAMES: [Named; 45] = [
     Named("longer", &[Part::Octets(LONGER)]),
     Named("aggregated", &[Part::Octets(AGGREGATED)]),
     Named("ipv6", &[Part::Octets(IPV6)]),
-    Named("extended", &[Part::Octets(EXTENDED)]),
     Named("prefix-of-33-bits", &[Part::Octets(LONG_PREFIX)]),
     Named("notification", &[Part::Octets(NOTIFICATION)]),
     Named("session-down", &[Part::Octets(SESSION_DOWN)]),
@@ -83,6 +83,59 @@ const NAMES: [Named; 45] = [
     ),
     Named("skipped", &[Part::Octets(SKIPPED)]),
     Named("too-long", &[Part::Octets(TOO_LONG)]),
+];
+
+/// Records with microseconds (RFC 6396 section 3).
+const EXTENDED: [Named; 8] = [
+    // Half a second after its time.
+    Named(
+        "extended",
+        &[
+            Part::Octets("65920080 0011 0001 00000041 0007A120"),
+            Part::Octets(AFTER_MICROSECONDS),
+        ],
+    ),
+    Named("extended-down", &[Part::Octets(EXTENDED_DOWN)]),
+    Named(
+        "microsecond-999999",
+        &[
+            Part::Octets("65920080 0011 0001 00000041 000F423F"),
+            Part::Octets(AFTER_MICROSECONDS),
+        ],
+    ),
+    Named(
+        "microsecond-1000000",
+        &[
+            Part::Octets("65920080 0011 0001 00000041 000F4240"),
+            Part::Octets(AFTER_MICROSECONDS),
+        ],
+    ),
+    Named(
+        "microsecond-highest",
+        &[
+            Part::Octets("65920080 0011 0001 00000041 FFFFFFFF"),
+            Part::Octets(AFTER_MICROSECONDS),
+        ],
+    ),
+    Named(
+        "last-of-all",
+        &[
+            Part::Octets("FFFFFFFF 0011 0001 00000041 000F423F"),
+            Part::Octets(AFTER_MICROSECONDS),
+        ],
+    ),
+    Named(
+        "microseconds-cut",
+        &[Part::Octets("65920080 0011 0001 00000003 000000")],
+    ),
+    Named(
+        "microseconds-missing",
+        &[Part::Octets("65920080 0011 0001 00000000")],
+    ),
+];
+
+/// Records of table dumps.
+const TABLES: [Named; 17] = [
     Named("peer-table", &[Part::Octets(PEER_TABLE)]),
     Named("cut-peer-table", &[Part::Octets(CUT_PEER_TABLE)]),
     Named("other-peer-table", &[Part::Octets(OTHER_PEER_TABLE)]),
@@ -150,14 +203,39 @@ impl Gathered {
     }
 }
 
-/// What a name stands for.
-fn parts_of(name: &str) -> Option<&'static [Part]> {
-    for Named(known, parts) in &NAMES {
+// What a name of these stands for.
+fn parts_among(names: &'static [Named], name: &str) -> Option<&'static [Part]> {
+    for Named(known, parts) in names {
         if *known == name {
             return Some(parts);
         }
     }
     None
+}
+
+// Each table has a function of its own: the prover elaborates a table where it is used.
+
+fn update_of(name: &str) -> Option<&'static [Part]> {
+    parts_among(&UPDATES, name)
+}
+
+fn extended_of(name: &str) -> Option<&'static [Part]> {
+    parts_among(&EXTENDED, name)
+}
+
+fn table_of(name: &str) -> Option<&'static [Part]> {
+    parts_among(&TABLES, name)
+}
+
+/// What a name stands for.
+fn parts_of(name: &str) -> Option<&'static [Part]> {
+    if let Some(parts) = update_of(name) {
+        return Some(parts);
+    }
+    if let Some(parts) = extended_of(name) {
+        return Some(parts);
+    }
+    table_of(name)
 }
 
 impl Gathered {

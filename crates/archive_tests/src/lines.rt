@@ -12,7 +12,7 @@ use service::{
 use std::alloc::Global;
 
 /// Lines that ask nothing.
-const NO_REQUESTS: [&str; 71] = [
+const NO_REQUESTS: [&str; 79] = [
     "",
     "at",
     "at 7",
@@ -25,8 +25,16 @@ const NO_REQUESTS: [&str; 71] = [
     "at 7 PREFIX 10.0.0.0/8",
     "at0 7 prefix 10.0.0.0/8",
     "at 07 prefix 10.0.0.0/8",
-    "at 1.5 prefix 10.0.0.0/8",
-    "at 2024-01-01T00:00:00.5Z all",
+    "at 1.5000000 prefix 10.0.0.0/8",
+    "at 1704067200. all",
+    "at .5 all",
+    "at 01.5 all",
+    "at 1.+5 all",
+    "at 1,5 all",
+    "at -1.5 all",
+    "at 1.5.5 all",
+    "at 4294967296.0 all",
+    "at 2024-01-01T00:00:00.0000005Z all",
     "at 2024-02-30T00:00:00Z all",
     "at 7 prefix 10.0.0.0/33",
     "at 7 prefix 10.0.0.0/8 after",

@@ -342,7 +342,7 @@ const WHOLE: usize = 1_000_000;
 #[test]
 fn updates_are_played(rt: HostRuntime) {
     let count = play_all(&rt, rt.alloc(), &UPDATES, WHOLE);
-    be(&rt, count.scripts == 20 && count.commands == 71, "updates");
+    be(&rt, count.scripts == 24 && count.commands == 92, "updates");
 }
 
 #[test]
@@ -380,7 +380,7 @@ fn changed_places_are_played(rt: HostRuntime) {
 #[test]
 fn marks_are_played(rt: HostRuntime) {
     let count = play_all(&rt, rt.alloc(), &MARKS, WHOLE);
-    be(&rt, count.scripts == 4 && count.commands == 32, "marks");
+    be(&rt, count.scripts == 6 && count.commands == 40, "marks");
 }
 
 #[test]
@@ -425,10 +425,10 @@ fn failures_are_played(rt: HostRuntime) {
 fn files_are_read_octet_by_octet(rt: HostRuntime) {
     let updates = play_all(&rt, rt.alloc(), &UPDATES, 1);
     let loads = play_all(&rt, rt.alloc(), &LOADS, 1);
-    be(&rt, updates.scripts == 20 && loads.scripts == 12, "scripts");
+    be(&rt, updates.scripts == 24 && loads.scripts == 12, "scripts");
     be(
         &rt,
-        updates.commands == 71 && loads.commands == 33,
+        updates.commands == 92 && loads.commands == 33,
         "command lines",
     );
 }

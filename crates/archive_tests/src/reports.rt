@@ -5,7 +5,7 @@ use crate::pure::Pure;
 use crate::samples::{
     EARLIER, LONG_PREFIX, PEER_TABLE, RIB_OF_THREE, RIB_WITHOUT_HOP, UPDATE, stream,
 };
-use route_model::Mark;
+use route_model::{Mark, Moment};
 use service::{
     FeedCounts, FeedSettings, FileLoad, LoadReport, LoadSettings, Output, Refusal, WithoutHop, load,
 };
@@ -15,7 +15,7 @@ use std::alloc::Global;
 struct Reported {
     collector: u8,
     rule: WithoutHop,
-    mark: u64,
+    mark: u32,
     records: &'static [&'static str],
     /// How many records, and how many of these are admitted, late and refused.
     counts: Option<[u64; 4]>,
@@ -92,7 +92,7 @@ fn report_of(alloc: Global, it: &Reported) -> Option<LoadReport> {
             limit: 1000,
             rule: it.rule,
         },
-        mark: Mark::new(it.mark),
+        mark: Some(Mark::at(Moment::from(it.mark))),
         resume: false,
         strict: false,
     };

@@ -23,7 +23,7 @@ fn loading(alloc: Global) -> Option<Loading<'static>> {
         folder: "a",
         collector: 0,
         batch: 2,
-        mark: Mark::new(1_704_067_201),
+        mark: Mark::new(1_704_067_201_000_000),
         resume: false,
         strict: false,
         lose_entries: false,

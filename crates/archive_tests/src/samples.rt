@@ -83,10 +83,13 @@ pub(crate) const AGGREGATED: &str =
     FFFFFFFFFFFFFFFFFFFFFFFFFFFFFFFF 0045 02 0000 002C 40010100 4002080203FDE95BA0FDEB 400304C0000201
     C00706FDE9C0000201 C0110A0202FA56EA010000FDEB 080A";
 
-/// The first announcement as type 17, half a second after its time.
-pub(crate) const EXTENDED: &str =
-    "65920080 0011 0001 00000041 0007A120 FDE9 FC00 0000 0001 C0000201 C0000202
+/// The first announcement as type 17, after its microseconds.
+pub(crate) const AFTER_MICROSECONDS: &str = "FDE9 FC00 0000 0001 C0000201 C0000202
     FFFFFFFFFFFFFFFFFFFFFFFFFFFFFFFF 002D 02 0000 0014 40010100 4002060202FDE9FDEA 400304C0000201 080A";
+
+/// The end of the session as type 17, half a second and a microsecond after its time.
+pub(crate) const EXTENDED_DOWN: &str =
+    "65920080 0011 0000 00000018 0007A121 FDE9 FC00 0000 0001 C0000201 C0000202 0006 0001";
 
 /// An UPDATE of 10.0.0.0/8 by a path of 763 numbers in three segments: up to the first of them.
 pub(crate) const BEFORE_763: &str =

@@ -98,9 +98,10 @@ Options:
       --strict          Ends at a FILE that gives cause for doubt, and sets no mark then
   -h, --help            Print help
 
-M is seconds since 1970, 0 to 4294967296, or a timestamp as 2024-01-01T00:00:00Z. It is set once the last FILE was
-read to its end: what the collector gives later isn't of earlier moments. After a table of the moment T it is a
-second after T. A mark can't be set back. A FILE may be a pipe; - is standard input.
+M is seconds since 1970, 0 to 4294967296, with a fraction of up to six digits or without, or a timestamp as
+2024-01-01T00:00:00Z. It is set once the last FILE was read to its end: what the collector gives later isn't of
+earlier moments. After a table of the moment T it is T.000001. A mark can't be set back. A FILE may be a
+pipe; - is standard input.
 Each FILE is a feed of its own, with its own lines. One that can't be read or ends inside a record ends the load, as
 other refusals do: no mark is set, and standard error shows which FILEs were not read.
 With --strict the load ends so, too, at a FILE without a record, one whose records came late or were skipped and none
@@ -156,7 +157,8 @@ The last four of `at`, and `changed`, may end with `after PEER PREFIX`, which go
 line is asked, and the answer has all and one end, `E|COUNT`. With --human moments are dates, and communities are
 texts (65001:7); programs read the lines without it.
 PEER is COLLECTOR ADDRESS AS; PREFIX, LOW and HIGH are ADDRESS/LENGTH. T, FROM and TO are moments: seconds since
-1970, or timestamps as 2024-01-01T00:00:00Z. T and TO have to be below the settled watermark.
+1970, with a fraction of up to six digits or without, or timestamps as 2024-01-01T00:00:00Z. T and TO have to be
+below the settled watermark.
 
 Examples:
   rha ask a at 2024-01-01T00:10:00Z prefix 10.0.0.0/8

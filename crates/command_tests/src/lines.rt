@@ -46,7 +46,7 @@ fn loading(alloc: Global) -> Option<Loading<'static>> {
         folder: "a",
         collector: 0,
         batch: 1_000,
-        mark: Mark::new(1_704_067_201),
+        mark: Mark::new(1_704_067_201_000_000),
         resume: false,
         strict: false,
         lose_entries: false,

@@ -92,7 +92,7 @@ pub(crate) fn give_octets<A: RouteArchive>(
             limit: 1000,
             rule: WithoutHop::Refused,
         },
-        mark: Mark::new(1_704_068_100),
+        mark: Mark::new(1_704_068_100_000_000),
         resume: false,
         strict: false,
     };

@@ -36,6 +36,7 @@ fn lane() -> Lane {
         mark: Mark::at(Moment::from(0u32)),
         first: 0,
         used: 0,
+        since: 0,
     }
 }
 

@@ -23,13 +23,13 @@ const HOMES: u64 = 11;
 
 /// An admission of one announcement, by hand: its encoding has 67 octets, and its time is 1704067200.
 pub(crate) const ONE: [u8; 67] = [
-    0, 0, 0, 0, 0x65, 0x92, 0, 0x80, 0, 1, 0, 4, 192, 0, 2, 1, 0, 0, 0, 0, 0, 0, 0, 0, 0, 0, 0, 0,
-    0, 0, 0xfd, 0xe9, 0, 1, 0, 21, 0, 0, 1, 2, 2, 0, 0, 0xfd, 0xe9, 0, 0, 0xfd, 0xea, 4, 192, 0, 2,
-    1, 0, 0, 0, 0, 1, 1, 0, 0, 4, 8, 10, 0, 0,
+    0, 6, 0x0d, 0xd7, 0x10, 0x21, 0x20, 0, 0, 1, 0, 4, 192, 0, 2, 1, 0, 0, 0, 0, 0, 0, 0, 0, 0, 0,
+    0, 0, 0, 0, 0xfd, 0xe9, 0, 1, 0, 21, 0, 0, 1, 2, 2, 0, 0, 0xfd, 0xe9, 0, 0, 0xfd, 0xea, 4, 192,
+    0, 2, 1, 0, 0, 0, 0, 1, 1, 0, 0, 4, 8, 10, 0, 0,
 ];
 
 /// The shortest admission, without a change, at second 7.
-pub(crate) const SHORTEST: [u8; 14] = [0, 0, 0, 0, 0, 0, 0, 7, 0, 0, 0, 0, 0, 0];
+pub(crate) const SHORTEST: [u8; 14] = [0, 0, 0, 0, 0, 0x6a, 0xcf, 0xc0, 0, 0, 0, 0, 0, 0];
 
 /// The peer of the first.
 const PEER: [u8; 22] = [

@@ -304,7 +304,7 @@ fn a_collector_goes_on_after_what_it_offered(rt: HostRuntime) {
     );
     be(
         &rt,
-        resume.mark.seconds() == 100,
+        resume.mark == Mark::at(moment_of(100)),
         "a collector goes on after what it offered",
     );
     be(

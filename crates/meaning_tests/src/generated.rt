@@ -153,11 +153,11 @@ fn add_timely(
 ) -> u64 {
     let mut mark = mark;
     for admission in batch {
-        let seconds = admission.time().seconds();
-        if seconds >= mark {
+        let time = admission.time().number();
+        if time >= mark {
             list.push(admission.share(alloc).expect(rt, "memory"))
                 .expect(rt, "memory");
-            mark = seconds;
+            mark = time;
         }
     }
     mark
@@ -174,7 +174,7 @@ fn admitted_by(rt: &impl Abort, alloc: Global, collector: u8, steps: &[Step]) ->
             Step::Recover => down = false,
             Step::Mark(number, new) => {
                 if !down && *number == collector {
-                    mark = mark.max(new.seconds());
+                    mark = mark.max(new.number());
                 }
             }
             Step::Admit(number, batch) => {

@@ -12,7 +12,7 @@ use route_meaning::{
     EventsQuestion, PlacedAdmission, RowsQuestion, RowsRange, Select, answer_events, answer_rows,
     merge, rows_in,
 };
-use route_model::{Address, Admission, Change, Prefix};
+use route_model::{Address, Admission, Change, Moment, Prefix};
 use std::alloc::Global;
 use std::process::Abort;
 
@@ -316,7 +316,13 @@ fn placed_text(rt: &impl Abort, alloc: Global, list: &[PlacedAdmission<'_>]) -> 
     let mut text = String::new(alloc);
     for placed in list {
         put_number(rt, alloc, &mut text, " ", placed.collector() as u64);
-        put_number(rt, alloc, &mut text, "@", placed.time().seconds());
+        put_number(
+            rt,
+            alloc,
+            &mut text,
+            "@",
+            placed.time().number() / Moment::SECOND,
+        );
         put_number(
             rt,
             alloc,

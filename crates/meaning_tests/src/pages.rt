@@ -8,7 +8,7 @@ use route_meaning::Row;
 use std::alloc::Global;
 use std::process::Abort;
 
-/// A collector's peer announces 10.0.0.0/16 up to 10.LAST_SECOND.0.0/16 in one admission, each with this last AS number.
+/// A collector's peer announces 10.0.0.0/16 up to 10.N.0.0/16, where N is `last_second`, in one admission, each with this last AS number.
 fn offer_many(
     rt: &impl Abort,
     alloc: Global,

@@ -141,7 +141,7 @@ pub(crate) fn rows_text(rt: &impl Abort, alloc: Global, rows: &[Row], more: bool
 }
 
 fn put_event(rt: &impl Abort, alloc: Global, text: &mut String, event: &Event) {
-    put_number(rt, alloc, text, " ", event.time.seconds());
+    put_number(rt, alloc, text, " ", event.time.number() / Moment::SECOND);
     match &event.change {
         Change::Announce(_, prefix, route) => {
             put_number(rt, alloc, text, "+", second_octet(prefix) as u64);
@@ -181,8 +181,14 @@ fn put_batch(rt: &impl Abort, alloc: Global, text: &mut String, reported: &Batch
     put_number(rt, alloc, text, " of ", reported.offered);
     for late in &reported.late {
         put_number(rt, alloc, text, ", late ", late.index as u64);
-        put_number(rt, alloc, text, " at ", late.time.seconds());
-        put_number(rt, alloc, text, " below ", late.mark.seconds());
+        put_number(rt, alloc, text, " at ", late.time.number() / Moment::SECOND);
+        put_number(
+            rt,
+            alloc,
+            text,
+            " below ",
+            late.mark.number() / Moment::SECOND,
+        );
     }
 }
 
@@ -199,7 +205,13 @@ pub(crate) fn put_reply(rt: &impl Abort, alloc: Global, text: &mut String, reply
         Reply::Begun(number) => put_number(rt, alloc, text, "begun ", *number as u64),
         Reply::Again => put(rt, text, "again"),
         Reply::Done(answer) => put(rt, text, &answer_text(rt, alloc, answer)),
-        Reply::AboveWatermark(mark) => put_number(rt, alloc, text, "above ", mark.seconds()),
+        Reply::AboveWatermark(mark) => put_number(
+            rt,
+            alloc,
+            text,
+            "above ",
+            mark.number() / Moment::SECOND,
+        ),
         Reply::NoQuestion => put(rt, text, "no question"),
         Reply::Crashed => put(rt, text, "crashed"),
         Reply::Recovered => put(rt, text, "recovered"),

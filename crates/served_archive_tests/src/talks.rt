@@ -20,7 +20,7 @@ const TALKS: [Talk; 14] = [
              R|0|192.0.2.1|64496|10.0.0.0/8|64496 {64500,64501} 64502|INCOMPLETE|192.0.2.9|0|100|AG|64500 192.0.2.8|8/c0/fbf00007\n\
              R|15|2001:db8::1|4294967295|10.0.0.0/8|-|EGP|2001:db8::1 fe80::1|||NAG||\n\
              E|2\n",
-        asked: "watermark\nat 99 prefix 10.0.0.0/8\n",
+        asked: "watermark\nat 99.999999 prefix 10.0.0.0/8\n",
         printed: "R|0|192.0.2.1|64496|10.0.0.0/8|64496 {64500,64501} 64502|INCOMPLETE|192.0.2.9|0|100|AG|64500 192.0.2.8|8/c0/fbf00007\n\
              R|15|2001:db8::1|4294967295|10.0.0.0/8|-|EGP|2001:db8::1 fe80::1|||NAG||\n\
              E|2\n",
@@ -44,7 +44,7 @@ const TALKS: [Talk; 14] = [
     Talk {
         words: "rha|find|--connect|127.0.0.1:1|10.0.0.0/8|--less",
         replies: "S|1\nE|0\n",
-        asked: "watermark\nat 0 cover 10.0.0.0\n",
+        asked: "watermark\nat 0.999999 cover 10.0.0.0\n",
         printed: "E|0\n",
         code: 0,
     },
@@ -70,7 +70,7 @@ const TALKS: [Talk; 14] = [
         asked: "watermark\n\
              changed 10 20 10.0.0.0/8 10.0.0.0/8\n\
              changed 10 20 10.0.0.0/8 10.0.0.0/8 after 0 192.0.2.1 1 10.0.0.0/8\n\
-             at 9 prefix 10.0.0.0/8\n\
+             at 9.999999 prefix 10.0.0.0/8\n\
              history 10 20 0 192.0.2.1 1 10.0.0.0/8 skip 0\n\
              history 10 20 0 192.0.2.1 1 10.0.0.0/8 skip 1\n\
              history 10 20 0 192.0.2.2 2 10.0.0.0/8 skip 0\n\
@@ -104,11 +104,11 @@ const TALKS: [Talk; 14] = [
              E|1\n",
         asked: "watermark\n\
              changed 10 20 10.0.0.0/8 10.255.255.255/32\n\
-             at 9 all\n\
+             at 9.999999 all\n\
              history 10 20 0 192.0.2.1 1 10.1.0.0/16 skip 0\n\
              history 10 20 0 192.0.2.2 2 9.0.0.0/8 skip 0\n\
-             at 9 all after 0 192.0.2.2 2 ffff:ffff:ffff:ffff:ffff:ffff:ffff:ffff/128\n\
-             at 9 peer 0 192.0.2.2 2\n\
+             at 9.999999 all after 0 192.0.2.2 2 ffff:ffff:ffff:ffff:ffff:ffff:ffff:ffff/128\n\
+             at 9.999999 peer 0 192.0.2.2 2\n\
              history 10 20 0 192.0.2.1 1 10.1.0.0/16 skip 0\n\
              history 10 20 0 192.0.2.2 2 10.2.0.0/16 skip 0\n",
         printed: "W|12|0|192.0.2.1|1|10.1.0.0/16\n\
@@ -133,7 +133,7 @@ const TALKS: [Talk; 14] = [
     Talk {
         words: "rha|dump|--connect|127.0.0.1:1|--format|bgpdump|--peer|0|::1|65001",
         replies: "S|6\nR|0|::1|65001|10.0.0.0/8|1 2|IGP|192.0.2.9|5||AG||8/c0/fbf00007\nE|1\n",
-        asked: "watermark\nat 5 peer 0 ::1 65001\n",
+        asked: "watermark\nat 5.999999 peer 0 ::1 65001\n",
         printed: "TABLE_DUMP2|5|B|::1|65001|10.0.0.0/8|1 2|IGP|192.0.2.9|0|5|64496:7|AG||\n",
         code: 0,
     },
@@ -144,7 +144,7 @@ const TALKS: [Talk; 14] = [
              R|0|192.0.2.1|1|10.0.0.0/9|1|IGP|192.0.2.1|||NAG||\n\
              R|1|192.0.2.1|1|10.0.0.0/8|1|IGP|192.0.2.1|||NAG||\n\
              E|3\n",
-        asked: "watermark\nat 4294967295 all\n",
+        asked: "watermark\nat 4294967295.999999 all\n",
         printed: "P|0|192.0.2.1|1|2\nP|1|192.0.2.1|1|1\nE|2\n",
         code: 0,
     },
@@ -194,10 +194,10 @@ const TALKS: [Talk; 14] = [
              E|1\n\
              E|0\n",
         asked: "watermark\n\
-             changed 6 3605 0.0.0.0/0 ffff:ffff:ffff:ffff:ffff:ffff:ffff:ffff/128\n\
+             changed 5.000001 3605 0.0.0.0/0 ffff:ffff:ffff:ffff:ffff:ffff:ffff:ffff/128\n\
              at 5 all\n\
-             history 6 3605 0 192.0.2.1 1 10.0.0.0/8 skip 0\n\
-             history 6 3605 0 192.0.2.3 1 12.0.0.0/8 skip 0\n\
+             history 5.000001 3605 0 192.0.2.1 1 10.0.0.0/8 skip 0\n\
+             history 5.000001 3605 0 192.0.2.3 1 12.0.0.0/8 skip 0\n\
              at 5 all after 0 192.0.2.3 1 ffff:ffff:ffff:ffff:ffff:ffff:ffff:ffff/128\n\
              at 5 peer 0 192.0.2.3 1\n\
              at 5 route 0 192.0.2.1 1 10.0.0.0/8\n\
@@ -215,7 +215,7 @@ const TALKS: [Talk; 14] = [
     Talk {
         words: "rha|diff|--connect|127.0.0.1:1|5|9|--within|10.0.0.0/8",
         replies: "S|10\nE|0\nE|0\n",
-        asked: "watermark\nchanged 6 9 10.0.0.0/8 10.255.255.255/32\nat 5 all\n",
+        asked: "watermark\nchanged 5.000001 9 10.0.0.0/8 10.255.255.255/32\nat 5 all\n",
         printed: "E|0\n",
         code: 0,
     },
@@ -230,7 +230,7 @@ const TALKS: [Talk; 14] = [
     Talk {
         words: "rha|diff|--connect|127.0.0.1:1|5|9",
         replies: "S|9\nX|24|AboveWatermark|9\n",
-        asked: "watermark\nchanged 6 9 0.0.0.0/0 ffff:ffff:ffff:ffff:ffff:ffff:ffff:ffff/128\n",
+        asked: "watermark\nchanged 5.000001 9 0.0.0.0/0 ffff:ffff:ffff:ffff:ffff:ffff:ffff:ffff/128\n",
         printed: "X|24|AboveWatermark|9\n",
         code: 2,
     },

@@ -1,7 +1,7 @@
 //! The lines of a connection, read.
 
 use crate::be;
-use route_model::Mark;
+use route_model::{Mark, Moment};
 use server::{Command, read_command};
 use service::{Request, RequestError};
 use std::alloc::Global;
@@ -25,7 +25,7 @@ enum Asked {
 
 /// Whether the command raises the mark of this collector to `seconds`.
 fn is_mark(command: &Command, collector: u8, seconds: u64) -> bool {
-    match Mark::new(seconds) {
+    match Mark::new(seconds.saturating_mul(Moment::SECOND)) {
         Some(mark) => *command == Command::Mark(collector, mark),
         None => false,
     }

@@ -46,7 +46,7 @@ const CLOSES_HTTP: Port = Port {
 };
 
 /// Connections to one archive, one after another.
-const CONVERSATIONS: [Conversation; 13] = [
+const CONVERSATIONS: [Conversation; 14] = [
     Conversation {
         port: ALL,
         sent: b"watermark\ndurable 0\nat 0 all\nquit\nwatermark\n",
@@ -63,6 +63,12 @@ const CONVERSATIONS: [Conversation; 13] = [
         port: READ_ONLY,
         sent: b"changed 0 1704067200 10.0.0.0/8 10.0.0.0/8\nchanged 0 1704067201 10.0.0.0/8 10.0.0.0/8\n",
         reported: "E|0\nX|24|AboveWatermark|1704067201\n",
+        ending: Ending::Done,
+    },
+    Conversation {
+        port: ALL,
+        sent: b"mark 0 1704067201.25\nwatermark\nmark 0 1704067201.249999\n",
+        reported: "S|1704067201.250000\nS|1704067201.250000\nX|21|MarkBack\n",
         ending: Ending::Done,
     },
     Conversation {

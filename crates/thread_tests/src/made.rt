@@ -100,14 +100,14 @@ pub(crate) fn burnt_by(store: MemStore) -> usize {
     }
 }
 
-/// A mark at these seconds, or the last mark.
+/// A mark at these seconds, or that of the last second.
 pub(crate) fn mark_of(seconds: u64) -> Mark {
-    Mark::new(seconds).unwrap_or(Mark::at(Moment::from(u32::MAX)))
+    Mark::new(seconds.saturating_mul(Moment::SECOND)).unwrap_or(Mark::at(Moment::from(u32::MAX)))
 }
 
-/// The moment at these seconds, or the last one.
+/// The moment at these seconds, or the last second.
 pub(crate) fn moment_of(seconds: u64) -> Moment {
-    Moment::new(seconds).unwrap_or(Moment::from(u32::MAX))
+    Moment::new(seconds.saturating_mul(Moment::SECOND)).unwrap_or(Moment::from(u32::MAX))
 }
 
 /// A peer of a collector.

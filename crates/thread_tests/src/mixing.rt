@@ -7,7 +7,7 @@ use crate::signals::Signals;
 use board::{Named, Pass};
 use interleaving_core::Query;
 use query_threads::{AdmitError, Gate, MarkError, Reader, Shared, Step, Unpromised};
-use route_model::Admission;
+use route_model::{Admission, Moment};
 use shared_archive::MemStore;
 use std::alloc::Global;
 use std::sync::atomic::Ordering;
@@ -154,7 +154,8 @@ impl<B: Named> Hand<B> {
 
     /// Asks a question of moments that the thread has seen to be settled, if there is one.
     pub(crate) fn ask_settled(&mut self, rt: &impl Wait, stage: &Stage<B>) -> Option<()> {
-        match stage.watermark(&mut self.pass).checked_sub(1) {
+        let settled = stage.watermark(&mut self.pass) / Moment::SECOND;
+        match settled.checked_sub(1) {
             Some(last) => {
                 let moment = last.saturating_sub(u64::from(self.chance.below(60)));
                 let query = draw_query(&mut self.chance, moment);
@@ -183,7 +184,7 @@ impl<B: Named> Hand<B> {
     /// Any one call.
     pub(crate) fn mix(&mut self, rt: &impl Wait, stage: &Stage<B>) -> Option<()> {
         let collector = self.chance.below(COLLECTORS);
-        let seen = stage.watermark(&mut self.pass);
+        let seen = stage.watermark(&mut self.pass) / Moment::SECOND;
         let soon = seen.saturating_add(u64::from(self.chance.below(8)));
         match self.chance.below(11) {
             0..=2 => {

@@ -4,6 +4,7 @@ use crate::made::{FIRST, RECORDS, SECOND, announcements, draw_batch, draw_query,
 use crate::mixing::{Hand, Stage};
 use crate::signals::Signals;
 use board::Named;
+use route_model::Moment;
 use std::sync::Wait;
 
 /// How many questions a thread asks that does nothing else.
@@ -82,11 +83,11 @@ fn mix<B: Named>(rt: &impl Wait, stage: &Stage<B>, hand: &mut Hand<B>, calls: u1
 /// Gives records, marks both collectors after them, and applies all: then the watermark is no less than the marks, and the moment just
 /// below it is answered.
 fn round<B: Named>(rt: &impl Wait, stage: &Stage<B>, hand: &mut Hand<B>) -> Option<()> {
-    let seen = stage.watermark(&mut hand.pass);
+    let seen = stage.watermark(&mut hand.pass) / Moment::SECOND;
     let records = draw_batch(hand.alloc, &mut hand.chance, 0, seen)?;
     let end = seen.saturating_add(3);
     hand.give_all(rt, stage, records, end)?;
-    let settled = stage.watermark(&mut hand.pass);
+    let settled = stage.watermark(&mut hand.pass) / Moment::SECOND;
     hand.log.expect(end <= settled);
     let query = draw_query(&mut hand.chance, settled.saturating_sub(1));
     hand.ask(rt, stage, 0, &query)

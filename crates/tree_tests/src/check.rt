@@ -12,16 +12,16 @@ const OLDER: Laid = Laid {
 };
 
 /// The column and its current leaf, from stamp 12 on.
-const PAGES: &str = "0: 2 0 1 0 0 2 0 50, K0 F40 S0.0 F16, S0.0 2 N4, S12.0 0 N1
-1: 1 0 0 0 0 4 0 240, K0 F40 S12.0 F16, K1 S5.0 1 0 1 15, K3 S9.0 1 0 1 39, K2 S12.0 1 0 1 22, K3 S13.0 1 0 1 33
+const PAGES: &str = "0: 2 1 1 0 0 2 0 50, K0 F40 S0.0 F16, S0.0 2 N4, S12.0 0 N1
+1: 1 1 0 0 0 4 0 240, K0 F40 S12.0 F16, K1 S5.0 1 0 1 15, K3 S9.0 1 0 1 39, K2 S12.0 1 0 1 22, K3 S13.0 1 0 1 33
 ";
 
 /// Blocks of the past until stamp 12: each split made a column of the past before it and of one leaf more.
-const BLOCKS: &str = "1: 1 0 0 0 0 2 0 120, K0 F40 S0.0 S5.0, K1 S1.0 1 0 1 11, K2 S3.0 1 0 1 23
-1: 1 0 0 0 0 2 0 120, K0 F40 S5.0 S9.0, K2 S3.0 1 0 1 23, K1 S5.0 1 0 1 15
-1: 2 0 1 0 0 2 0 50, K0 F40 S0.0 S9.0, S0.0 1 N0, S5.0 1 N1
-1: 1 0 0 0 0 3 0 180, K0 F40 S9.0 S12.0, K2 S3.0 1 0 1 23, K1 S5.0 1 0 1 15, K3 S9.0 1 0 1 39
-1: 2 0 1 0 0 2 0 50, K0 F40 S0.0 S12.0, S0.0 2 N2, S9.0 1 N3
+const BLOCKS: &str = "1: 1 1 0 0 0 2 0 120, K0 F40 S0.0 S5.0, K1 S1.0 1 0 1 11, K2 S3.0 1 0 1 23
+1: 1 1 0 0 0 2 0 120, K0 F40 S5.0 S9.0, K2 S3.0 1 0 1 23, K1 S5.0 1 0 1 15
+1: 2 1 1 0 0 2 0 50, K0 F40 S0.0 S9.0, S0.0 1 N0, S5.0 1 N1
+1: 1 1 0 0 0 3 0 180, K0 F40 S9.0 S12.0, K2 S3.0 1 0 1 23, K1 S5.0 1 0 1 15, K3 S9.0 1 0 1 39
+1: 2 1 1 0 0 2 0 50, K0 F40 S0.0 S12.0, S0.0 2 N2, S9.0 1 N3
 ";
 
 /// A root and its level, how many pages and blocks are in use, how many blocks are burnt, and how many versions there are.
@@ -46,7 +46,7 @@ fn a_page_that_is_no_root_is_bad(rt: HostRuntime) {
 }
 
 /// A current leaf that starts later than its column says, and zeros in place of it.
-const BAD_LEAVES: &str = "W 1: 1 0 0 0 0 1 0 60, K0 F40 S13.0 F16, K3 S13.0 1 0 1 33
+const BAD_LEAVES: &str = "W 1: 1 1 0 0 0 1 0 60, K0 F40 S13.0 F16, K3 S13.0 1 0 1 33
 K0 1 18446744073709551615 18446744073709551615 18446744073709551615: B1
 W 1:
 K0 1 18446744073709551615 18446744073709551615 18446744073709551615: B1
@@ -58,13 +58,13 @@ fn a_bad_current_leaf_is_reported(rt: HostRuntime) {
 }
 
 /// Columns that name blocks of other stamps than their own, or of another kind, or that there aren't.
-const BAD_COLUMNS: &str = "W 0: 2 0 1 0 0 2 0 50, K0 F40 S0.0 F16, S0.0 2 N2, S12.0 0 N1
+const BAD_COLUMNS: &str = "W 0: 2 1 1 0 0 2 0 50, K0 F40 S0.0 F16, S0.0 2 N2, S12.0 0 N1
 K0 1 18446744073709551615 18446744073709551615 18446744073709551615: D 2
-W 0: 2 0 1 0 0 2 0 50, K0 F40 S0.0 F16, S0.0 1 N4, S12.0 0 N1
+W 0: 2 1 1 0 0 2 0 50, K0 F40 S0.0 F16, S0.0 1 N4, S12.0 0 N1
 K0 1 18446744073709551615 18446744073709551615 18446744073709551615: D 4
-W 0: 2 0 1 0 0 2 0 50, K0 F40 S0.0 F16, S0.0 1 N0, S12.0 0 N1
+W 0: 2 1 1 0 0 2 0 50, K0 F40 S0.0 F16, S0.0 1 N0, S12.0 0 N1
 K0 1 18446744073709551615 18446744073709551615 18446744073709551615: D 0
-W 0: 2 0 1 0 0 2 0 50, K0 F40 S0.0 F16, S0.0 1 N200, S12.0 0 N1
+W 0: 2 1 1 0 0 2 0 50, K0 F40 S0.0 F16, S0.0 1 N200, S12.0 0 N1
 K0 1 18446744073709551615 18446744073709551615 18446744073709551615: D 200
 ";
 

@@ -70,7 +70,7 @@ fn block_of(alloc: Global, script: &mut Script) -> Option<Block> {
 
 /// Turns an octet of a block.
 fn turn_octet(block: &mut Block, turned: &Turned) -> Option<()> {
-    *block.octets_mut().get_mut(turned.octet)? ^= 1;
+    *block.octets_mut().get_mut(turned.octet)? ^= turning(turned.octet);
     if turned.is_sealed {
         seal(block);
     }
@@ -123,6 +123,11 @@ pub(crate) fn lay(tree: &mut Tree, laid: &Laid) -> Option<()> {
     lay_pages(tree, laid.pages)
 }
 
+/// Which bit of an octet is turned: that of the unit of times makes it none, where the lowest one would make it another.
+fn turning(octet: usize) -> u8 {
+    if octet == 1 { 2 } else { 1 }
+}
+
 /// A page of the tree, with an octet turned.
 fn turned_page(tree: &mut Tree, page: u64, octet: usize) -> Option<Page> {
     if page >= tree.tx.pool().home_pages() {
@@ -131,7 +136,7 @@ fn turned_page(tree: &mut Tree, page: u64, octet: usize) -> Option<Page> {
     tree.tx.fetch(page).ok()?;
     let mut turned = Page::new(tree.alloc).ok()?;
     turned.put(0, tree.tx.page(page)?.octets());
-    *turned.octets_mut().get_mut(octet)? ^= 1;
+    *turned.octets_mut().get_mut(octet)? ^= turning(octet);
     Some(turned)
 }
 

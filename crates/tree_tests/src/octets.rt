@@ -99,7 +99,8 @@ fn add_span(octets: &mut Vec<u8>, span: Span) -> Option<()> {
 
 /// What a node begins with.
 fn add_head(octets: &mut Vec<u8>, head: Head) -> Option<()> {
-    add_all(octets, &[head.kind, 0, head.level, 0])?;
+    // The unit of times is that of today, microseconds.
+    add_all(octets, &[head.kind, 1, head.level, 0])?;
     add_all(octets, &head.count.to_be_bytes())?;
     add_all(octets, &head.used.to_be_bytes())
 }

@@ -1,9 +1,10 @@
 -- Which uses of an archive the acts of a script are.
-use Rattle.std.specs.Prelude.{◌≡◌, Bool, List, [], ◌∷◌, ◌++◌}
+use Rattle.std.specs.Prelude.{◌≡◌, ◌*◌, Bool, List, [], ◌∷◌, ◌++◌}
 use Rattle.std.specs.Global.{Vec}
 use Rattle.disk_models.specs.declared.erase.EraseDisk.{Ghosts as EraseGhosts}
 use Rattle.disk_models.specs.declared.once.OnceDisk.{Ghosts as OnceGhosts}
 use Rattle.route_model.specs.Admission.{Admitted}
+use Rattle.route_model.specs.Moments.{micros_a_second}
 use Rattle.interleaving_core.specs.declared.query.Query.{Query}
 use Rattle.archive_pages.specs.declared.settings.Settings.{Settings}
 use Rattle.disk_archive.specs.declared.archive.Archive.{Archive}
@@ -36,7 +37,7 @@ AreOpenings _ uses = ⊥
 -- The uses that an act is which returned this. Each call's use ends with the verdict of what the call returned.
 abbrev pub AreUses : Act → Returned → List Use → Type 0
 AreUses (Admit c b) (admitted result) uses = (batch : Vec Admitted) × (down : Bool) × (uses ≡ called (admit c batch) (of_admit result down) ∷ [])
-AreUses (Mark c second) (Marked result) uses = (down : Bool) × (uses ≡ called (mark c second) (of_mark result down) ∷ [])
+AreUses (Mark c second) (Marked result) uses = (down : Bool) × (uses ≡ called (mark c (second * micros_a_second)) (of_mark result down) ∷ [])
 AreUses Apply (Applied result) uses = (down : Bool) × (uses ≡ called apply (of_apply result down) ∷ [])
 AreUses Flush (Flushed result) uses = (down : Bool) × (uses ≡ called flush (of_flush result down) ∷ [])
 AreUses (Ask second) (Answered result) uses = (query : Query) × (down : Bool) × (uses ≡ called (ask query) (of_ask result down) ∷ [])

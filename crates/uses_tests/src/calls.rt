@@ -1,6 +1,7 @@
 //! The acts that are calls of an archive. Each is a use.
 
-ghost use Rattle.std.specs.Prelude.{◌≡◌, IfSome};
+ghost use Rattle.std.specs.Prelude.{◌≡◌, ◌*◌, IfSome};
+ghost use Rattle.route_model.specs.Moments.{micros_a_second};
 ghost use Rattle.uses_tests.specs.inner.Taking.{Takes};
 
 use crate::acts::{Act, Batch, Returned};
@@ -34,7 +35,7 @@ fn give(alloc: Global, archive: &mut Made, collector: u8, batch: Batch) -> Optio
 
 // The mark at a second.
 fn mark_at(second: u32) -> Mark
-    ensures mark { result ≡ second }
+    ensures mark { result ≡ second * micros_a_second }
 {
     Mark::at(Moment::from(second))
 }

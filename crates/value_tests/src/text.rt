@@ -235,14 +235,22 @@ fn other_prefixes_are_refused(rt: HostRuntime) {
     }
 }
 
-/// Texts of moments and their seconds, which are those of a calendar: 2024-01-01 is day 19,723, and 2106-02-07T06:28:15Z the
-/// last second that 32 bits hold.
-const MOMENTS: [(&str, u64); 5] = [
-    ("1704067200", 1704067200),
-    ("2024-01-01T00:00:00Z", 1704067200),
-    ("2024-01-01T01:00:00+01:00", 1704067200),
-    ("1970-01-01T00:00:00Z", 0),
-    ("2106-02-07T06:28:15Z", 4294967295),
+/// Texts of moments, and their seconds and microseconds, which are those of a calendar: 2024-01-01 is day 19,723, and
+/// 2106-02-07T06:28:15Z the last second that 32 bits hold.
+const MOMENTS: [(&str, u32, u32); 13] = [
+    ("1704067200", 1704067200, 0),
+    ("2024-01-01T00:00:00Z", 1704067200, 0),
+    ("2024-01-01T01:00:00+01:00", 1704067200, 0),
+    ("1970-01-01T00:00:00Z", 0, 0),
+    ("2106-02-07T06:28:15Z", 4294967295, 0),
+    ("1704067200.5", 1704067200, 500000),
+    ("1704067200.500000", 1704067200, 500000),
+    ("2024-01-01T00:00:00.5Z", 1704067200, 500000),
+    ("2024-01-01T00:00:00.000001Z", 1704067200, 1),
+    ("0.000005", 0, 5),
+    ("0.05", 0, 50000),
+    ("1704067200.0", 1704067200, 0),
+    ("4294967295.999999", 4294967295, 999999),
 ];
 
 fn moment_of(rt: &impl Abort, text: &str) -> Moment {
@@ -255,20 +263,19 @@ fn mark_of(rt: &impl Abort, text: &str) -> Mark {
 
 #[test]
 fn moments_and_marks_are_read(rt: HostRuntime) {
-    for (text, seconds) in &MOMENTS {
-        be(&rt, moment_of(&rt, text).seconds() == *seconds, text);
-        be(&rt, mark_of(&rt, text).seconds() == *seconds, text);
+    for (text, second, micros) in &MOMENTS {
+        if *micros <= 999_999 {
+            let expected = Moment::within(*second, *micros);
+            be(&rt, moment_of(&rt, text) == expected, text);
+            be(&rt, mark_of(&rt, text) == Mark::at(expected), text);
+        }
     }
     let above = mark_of(&rt, "2106-02-07T06:28:16Z");
-    be(
-        &rt,
-        above.seconds() == 4294967296,
-        "the last mark as a time",
-    );
+    be(&rt, above.number() == Mark::LAST, "the last mark as a time");
     let above = mark_of(&rt, "4294967296");
     be(
         &rt,
-        above.seconds() == 4294967296,
+        above.number() == Mark::LAST,
         "the last mark as a number",
     );
 }
@@ -286,12 +293,41 @@ fn moments_and_marks_are_written(rt: HostRuntime) {
     );
 }
 
+/// Moments and how they are written.
+const WRITTEN: [(u32, u32, &str); 4] = [
+    (1704067200, 500000, "1704067200.500000"),
+    (1704067200, 5, "1704067200.000005"),
+    (0, 999999, "0.999999"),
+    (4294967295, 123456, "4294967295.123456"),
+];
+
+#[test]
+fn fractions_are_written_with_six_digits(rt: HostRuntime) {
+    for (second, micros, expected) in &WRITTEN {
+        let mut out = String::new(rt.alloc());
+        if *micros <= 999_999 {
+            write_moment(&mut out, Moment::within(*second, *micros)).expect(&rt, "memory");
+        }
+        be(&rt, out.as_str() == *expected, expected);
+    }
+}
+
 /// Texts of no moment.
-const NO_MOMENTS: [&str; 7] = [
+const NO_MOMENTS: [&str; 17] = [
     "4294967296",
+    "4294967296.0",
     "2106-02-07T06:28:16Z",
     "2024-01-01 00:00:00Z",
-    "2024-01-01T00:00:00.5Z",
+    "2024-01-01T00:00:00.0000005Z",
+    "1704067200.",
+    ".5",
+    "01.5",
+    "1.1234567",
+    "1.1000000",
+    "1.+5",
+    "1,5",
+    "-1.5",
+    "1.5.5",
     "1969-12-31T23:59:59Z",
     "2024-01-01T00:00:00",
     "01704067200",
@@ -305,6 +341,11 @@ fn other_moments_are_refused(rt: HostRuntime) {
     be(
         &rt,
         read_mark("4294967297") == Err(BadText),
+        "other moments are refused",
+    );
+    be(
+        &rt,
+        read_mark("4294967296.000001") == Err(BadText),
         "other moments are refused",
     );
     be(

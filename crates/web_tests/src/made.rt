@@ -26,7 +26,7 @@ const PAGES: u64 = 346 * 16_384;
 const BLOCKS: u64 = 64;
 
 /// What is settled once all is given.
-const SETTLED: u64 = 1_704_067_202;
+const SETTLED: u64 = 1_704_067_202_000_000;
 
 /// An archive to which nothing was given.
 pub(crate) fn empty_store(alloc: Global) -> Option<MemStore> {

@@ -2,7 +2,43 @@
 
 use crate::scripts::{OF_TWO, PLAIN, Script};
 
-pub(crate) const MARKS: [Script; 4] = [
+pub(crate) const MARKS: [Script; 6] = [
+    Script {
+        name: "a record is late by its fraction of a second",
+        made: PLAIN,
+        shown: "$ rha load a --collector 0 extended+update
+B|0|1|2
+L|1|1704067200|1704067200.500000
+F|2|1|1|0|0
+S|1704067200.500000
+$ rha ask a at 1704067200.5 prefix 10.0.0.0/8
+X|24|AboveWatermark|1704067200.500000
+status 1
+$ rha ask a at 1704067200.499999 prefix 10.0.0.0/8
+E|0
+",
+    },
+    Script {
+        name: "a mark has a fraction",
+        made: PLAIN,
+        shown: "$ rha load a --collector 0 --mark 1704067200.25 update
+B|0|1|1
+F|1|1|0|0|0
+S|1704067200.250000
+$ rha ask a at 1704067200.249999 prefix 10.0.0.0/8
+R|0|192.0.2.1|65001|10.0.0.0/8|65001 65002|IGP|192.0.2.1|||NAG||
+E|1
+$ rha ask a at 1704067200.25 prefix 10.0.0.0/8
+X|24|AboveWatermark|1704067200.250000
+status 1
+$ rha check a
+ok|1|1704067200.250000
+$ rha load a --collector 0 --mark 1704067200.249999 nothing
+F|0|0|0|0|0
+! rha: 21 MarkBack
+status 1
+",
+    },
     Script {
         name: "a mark never goes back",
         made: PLAIN,

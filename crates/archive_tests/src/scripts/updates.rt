@@ -2,7 +2,7 @@
 
 use crate::scripts::{PLAIN, SMALL_RING, Script};
 
-pub(crate) const UPDATES: [Script; 20] = [
+pub(crate) const UPDATES: [Script; 24] = [
     Script {
         name: "an announcement is answered one second below the mark",
         made: PLAIN,
@@ -135,13 +135,92 @@ E|0
 ",
     },
     Script {
-        name: "microseconds of an extended timestamp are left out",
+        name: "an extended timestamp is a moment within its second",
         made: PLAIN,
         shown: "$ rha load a --collector 0 --mark 1704067201 extended
 B|0|1|1
 F|1|1|0|0|0
 S|1704067201
 $ rha ask a at 1704067200 prefix 10.0.0.0/8
+E|0
+$ rha ask a at 1704067200.499999 prefix 10.0.0.0/8
+E|0
+$ rha ask a at 1704067200.5 prefix 10.0.0.0/8
+R|0|192.0.2.1|65001|10.0.0.0/8|65001 65002|IGP|192.0.2.1|||NAG||
+E|1
+$ rha ask a at 1704067200.500000 prefix 10.0.0.0/8
+R|0|192.0.2.1|65001|10.0.0.0/8|65001 65002|IGP|192.0.2.1|||NAG||
+E|1
+$ rha ask a at 2024-01-01T00:00:00.5Z prefix 10.0.0.0/8
+R|0|192.0.2.1|65001|10.0.0.0/8|65001 65002|IGP|192.0.2.1|||NAG||
+E|1
+$ rha ask a history 1704067200 1704067200.9 0 192.0.2.1 65001 10.0.0.0/8
+A|1704067200.500000|65001 65002|IGP|192.0.2.1|||NAG||
+E|1
+$ rha ask a history 1704067200.500001 1704067200.9 0 192.0.2.1 65001 10.0.0.0/8
+E|0
+$ rha ask a history 1704067200 1704067200.499999 0 192.0.2.1 65001 10.0.0.0/8
+E|0
+",
+    },
+    Script {
+        name: "a session ends a microsecond later",
+        made: PLAIN,
+        shown: "$ rha load a --collector 0 --mark 1704067201 extended+extended-down
+B|0|2|2
+F|2|2|0|0|0
+S|1704067201
+$ rha ask a history 1704067200 1704067200.9 0 192.0.2.1 65001 10.0.0.0/8
+A|1704067200.500000|65001 65002|IGP|192.0.2.1|||NAG||
+D|1704067200.500001
+E|2
+$ rha ask a at 1704067200.5 prefix 10.0.0.0/8
+R|0|192.0.2.1|65001|10.0.0.0/8|65001 65002|IGP|192.0.2.1|||NAG||
+E|1
+$ rha ask a at 1704067200.500001 prefix 10.0.0.0/8
+E|0
+",
+    },
+    Script {
+        name: "more microseconds than a second has count as the last one",
+        made: PLAIN,
+        shown: "$ rha load a --collector 0 --mark 1704067201 microsecond-999999+microsecond-1000000+microsecond-highest
+B|0|3|3
+F|3|3|0|0|0
+S|1704067201
+$ rha ask a at 1704067200.999998 prefix 10.0.0.0/8
+E|0
+$ rha ask a at 1704067200.999999 prefix 10.0.0.0/8
+R|0|192.0.2.1|65001|10.0.0.0/8|65001 65002|IGP|192.0.2.1|||NAG||
+E|1
+$ rha ask a history 1704067200.999999 1704067200.999999 0 192.0.2.1 65001 10.0.0.0/8
+0..3 x A|1704067200.999999|65001 65002|IGP|192.0.2.1|||NAG||
+E|3
+",
+    },
+    Script {
+        name: "a record that is too short for its microseconds",
+        made: PLAIN,
+        shown: "$ rha load a --collector 0 microseconds-cut
+X|15|Malformed|0
+F|1|0|0|1|0
+S|0
+$ rha load a --collector 0 microseconds-missing
+X|15|Malformed|0
+F|1|0|0|1|0
+S|0
+",
+    },
+    Script {
+        name: "the last microsecond of all",
+        made: PLAIN,
+        shown: "$ rha load a --collector 0 --mark 4294967296 last-of-all
+B|0|1|1
+F|1|1|0|0|0
+S|4294967296
+$ rha ask a at 4294967295.999998 prefix 10.0.0.0/8
+E|0
+$ rha ask a at 4294967295.999999 prefix 10.0.0.0/8
 R|0|192.0.2.1|65001|10.0.0.0/8|65001 65002|IGP|192.0.2.1|||NAG||
 E|1
 ",
@@ -156,7 +235,10 @@ S|4294967296
 $ rha ask a at 4294967295 prefix 10.0.0.0/8
 R|0|192.0.2.1|65001|10.0.0.0/8|65001 65002|IGP|192.0.2.1|||NAG||
 E|1
-$ rha ask a at 4294967294 prefix 10.0.0.0/8
+$ rha ask a at 4294967295.999999 prefix 10.0.0.0/8
+R|0|192.0.2.1|65001|10.0.0.0/8|65001 65002|IGP|192.0.2.1|||NAG||
+E|1
+$ rha ask a at 4294967294.999999 prefix 10.0.0.0/8
 E|0
 $ rha check a
 ok|1|4294967296

@@ -173,7 +173,7 @@ E|1
 $ rha dump a --format bgpdump
 TABLE_DUMP2|1704067200|B|192.0.2.1|65001|10.0.0.0/8|65001 4200000001 65003|IGP|192.0.2.1|0|0||NAG|65001 192.0.2.1|
 $ rha dump a --format json
-{\"time\":1704067200,\"date\":\"2024-01-01T00:00:00Z\",\"collector\":0,\"peer\":\"192.0.2.1\",\"as_number\":65001,\"prefix\":\"10.0.0.0/8\",\"path\":\"65001 4200000001 65003\",\"origin\":\"IGP\",\"next_hop\":\"192.0.2.1\",\"med\":null,\"local_pref\":null,\"atomic_aggregate\":false,\"aggregator\":\"65001 192.0.2.1\",\"communities\":[],\"extended_communities\":[],\"large_communities\":[],\"others\":\"\"}
+{\"time\":1704067200.999999,\"date\":\"2024-01-01T00:00:00.999999Z\",\"collector\":0,\"peer\":\"192.0.2.1\",\"as_number\":65001,\"prefix\":\"10.0.0.0/8\",\"path\":\"65001 4200000001 65003\",\"origin\":\"IGP\",\"next_hop\":\"192.0.2.1\",\"med\":null,\"local_pref\":null,\"atomic_aggregate\":false,\"aggregator\":\"65001 192.0.2.1\",\"communities\":[],\"extended_communities\":[],\"large_communities\":[],\"others\":\"\"}
 ",
     },
 ];

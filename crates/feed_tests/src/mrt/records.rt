@@ -16,15 +16,25 @@ const ROUTER: Neighbor = Neighbor {
 
 const IPV6: [u8; 16] = [0x20, 1, 0x0D, 0xB8, 0, 0, 0, 0, 0, 0, 0, 0, 0, 0, 0, 1];
 
-/// Records, the width of their AS numbers, and how many octets their messages have.
-const MESSAGES: [(&str, AsWidth, usize); 3] = [
-    (MESSAGE, AsWidth::Two, 45),
-    (MESSAGE_AS4, AsWidth::Four, 69),
-    (MESSAGE_ET, AsWidth::Two, 45),
+/// The second of all records, in microseconds.
+const SECOND: u64 = 1_704_067_200_000_000;
+
+/// Records, their microseconds, the width of their AS numbers, and how many octets their messages have.
+const MESSAGES: [(&str, u64, AsWidth, usize); 3] = [
+    (MESSAGE, 0, AsWidth::Two, 45),
+    (MESSAGE_AS4, 0, AsWidth::Four, 69),
+    (MESSAGE_ET, 500_000, AsWidth::Two, 45),
 ];
 
-/// Whether a record is a message of the router, of this width and with this many octets, which are the record's last.
-fn is_message(rt: &impl Abort, alloc: Global, text: &str, expected: AsWidth, len: usize) -> bool {
+/// Whether a record is a message of the router at these microseconds, of this width and with this many octets, which are the record's last.
+fn is_message(
+    rt: &impl Abort,
+    alloc: Global,
+    text: &str,
+    micros: u64,
+    expected: AsWidth,
+    len: usize,
+) -> bool {
     let bytes = octets(rt, alloc, text);
     match item(rt, alloc, &bytes) {
         Item::Message {
@@ -33,7 +43,7 @@ fn is_message(rt: &impl Abort, alloc: Global, text: &str, expected: AsWidth, len
             width,
             octets,
         } => {
-            time.seconds() == 1_704_067_200
+            time.number().checked_sub(SECOND) == Some(micros)
                 && peer == ROUTER
                 && width == expected
                 && octets.len() == len
@@ -45,8 +55,9 @@ fn is_message(rt: &impl Abort, alloc: Global, text: &str, expected: AsWidth, len
 
 #[test]
 fn messages(rt: HostRuntime) {
-    for (text, width, len) in &MESSAGES {
-        be(&rt, is_message(&rt, rt.alloc(), text, *width, *len), text);
+    for (text, micros, width, len) in &MESSAGES {
+        let is_message = is_message(&rt, rt.alloc(), text, *micros, *width, *len);
+        be(&rt, is_message, text);
     }
 }
 
@@ -84,24 +95,36 @@ fn a_peer_of_ipv6(rt: HostRuntime) {
     be(&rt, is_of_ipv6(&found), "a peer of ipv6");
 }
 
-/// Records, and the new states that they report.
-const STATES: [(&str, u16); 3] = [
-    (STATE_CHANGE, 1),
+/// Records, their microseconds, and the new states that they report.
+const STATES: [(&str, u64, u16); 5] = [
+    (STATE_CHANGE, 0, 1),
     (
         "65920080 0010 0005 00000018 0000FDE9 0000FC00 0000 0001 C0000201 C0000202 0005 0006",
+        0,
         6,
     ),
     (
+        "65920080 0011 0000 00000018 000F423F FDE9 FC00 0000 0001 C0000201 C0000202 0001 FFFF",
+        999_999,
+        65535,
+    ),
+    (
+        "65920080 0011 0000 00000018 000F4240 FDE9 FC00 0000 0001 C0000201 C0000202 0001 FFFF",
+        999_999,
+        65535,
+    ),
+    (
         "65920080 0011 0000 00000018 FFFFFFFF FDE9 FC00 0000 0001 C0000201 C0000202 0001 FFFF",
+        999_999,
         65535,
     ),
 ];
 
-/// Whether a record reports that the session of the router came to this state.
-fn is_state(rt: &impl Abort, alloc: Global, text: &str, expected: u16) -> bool {
+/// Whether a record reports that the session of the router came to this state, at these microseconds.
+fn is_state(rt: &impl Abort, alloc: Global, text: &str, micros: u64, expected: u16) -> bool {
     match item(rt, alloc, &octets(rt, alloc, text)) {
         Item::StateChange { time, peer, state } => {
-            time.seconds() == 1_704_067_200 && peer == ROUTER && state == expected
+            time.number().checked_sub(SECOND) == Some(micros) && peer == ROUTER && state == expected
         }
         _ => false,
     }
@@ -109,8 +132,8 @@ fn is_state(rt: &impl Abort, alloc: Global, text: &str, expected: u16) -> bool {
 
 #[test]
 fn state_changes(rt: HostRuntime) {
-    for (text, state) in &STATES {
-        be(&rt, is_state(&rt, rt.alloc(), text, *state), text);
+    for (text, micros, state) in &STATES {
+        be(&rt, is_state(&rt, rt.alloc(), text, *micros, *state), text);
     }
 }
 
@@ -227,7 +250,7 @@ fn rib_records(rt: HostRuntime) {
     let bytes = octets(&rt, rt.alloc(), RIB);
     let rib = rib_in(&rt, rt.alloc(), &bytes);
     let ten = Prefix::containing(Address::V4([10, 0, 0, 0]), 8);
-    be(&rt, rib.time.seconds() == 1_704_067_200, "the time");
+    be(&rt, rib.time.number() == SECOND, "the time");
     be(&rt, rib.prefix == ten, "the prefix");
     be(&rt, is_last_entry(&rib.entries, &bytes, 24), "the entry");
 }

@@ -11,7 +11,7 @@ use page_tx::Tx;
 use route_model::{Mark, Moment};
 use std::alloc::Global;
 
-/// 0x65920080 seconds, the time of the admission that is laid by hand.
+/// 0x00060dd710212000 microseconds are this number of seconds, the time of the admission that is laid by hand.
 const TIME: u32 = 1_704_067_200;
 
 #[test]
@@ -22,7 +22,7 @@ fn the_head_is_laid_over_page_0(rt: HostRuntime) {
     head.last = Moment::from(TIME);
     head.root = 19;
     be(&rt, put(rt.alloc(), &mut tx, &head), "a head is laid");
-    let counts = [1, 2, 3, 4, 0, 0, 0, 0, 0x65, 0x92, 0, 0x80];
+    let counts = [1, 2, 3, 4, 0, 6, 0x0d, 0xd7, 0x10, 0x21, 0x20, 0];
     be(
         &rt,
         holds(&mut tx, 0, 4, &counts),
@@ -61,6 +61,7 @@ fn a_batch_goes_into_its_collectors_ring(rt: HostRuntime) {
         mark: Mark::at(Moment::from(TIME)),
         first: 0,
         used: 142,
+        since: 0,
     };
     be(
         &rt,
@@ -162,6 +163,7 @@ fn left(first: u64, used: u64) -> Lane {
         mark: Mark::at(Moment::from(TIME)),
         first,
         used,
+        since: 0,
     }
 }
 

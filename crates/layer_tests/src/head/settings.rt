@@ -28,6 +28,7 @@ fn the_head_is_followed_by_the_rings_and_the_tree(rt: HostRuntime) {
         mark: Mark::at(Moment::from(5u32)),
         first: 147_455,
         used: 71,
+        since: 0,
     };
     let ring = Ring {
         low: 10,

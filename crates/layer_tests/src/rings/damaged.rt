@@ -11,13 +11,13 @@ use std::alloc::Global;
 /// What is read: the encoding of the first admission, or the times; or the page that is damaged.
 type Reading<T> = Result<T, u64>;
 
-/// The times of the two admissions.
-const TIMES: [u32; 2] = [1_704_067_200, 7];
+/// The times of the two admissions, in microseconds.
+const TIMES: [u64; 2] = [1_704_067_200_000_000, 7_000_000];
 
-/// The octets of the first encoding that may have any value: the time's last four, the collector, the peer's address
+/// The octets of the first encoding that may have any value: the time's last six, the collector, the peer's address
 /// and AS number, the two AS numbers of the path, the next hop, and the address octet of a prefix of eight bits.
 const FREE: [(usize, usize); 8] = [
-    (4, 8),
+    (2, 8),
     (10, 11),
     (12, 16),
     (28, 32),
@@ -27,9 +27,9 @@ const FREE: [(usize, usize); 8] = [
     (64, 65),
 ];
 
-/// The octets of an admission of ends of a session that may have any value: the time's last four, the collector, and the
+/// The octets of an admission of ends of a session that may have any value: the time's last six, the collector, and the
 /// peer's address and AS number.
-const FREE_OF_ENDS: [(usize, usize); 4] = [(4, 8), (10, 11), (12, 16), (28, 32)];
+const FREE_OF_ENDS: [(usize, usize); 4] = [(2, 8), (10, 11), (12, 16), (28, 32)];
 
 /// Whether an octet of an encoding is in one of these ranges.
 fn is_free(ranges: &[(usize, usize)], at: usize) -> bool {
@@ -60,10 +60,8 @@ fn is_first(alloc: Global, tx: &mut Tx<MemErase>, ring: &Ring, expected: Reading
 }
 
 /// Whether these two times are read.
-fn are_both(times: &[Moment], expected: [u32; 2]) -> bool {
-    times.len() == 2
-        && times[0] == Moment::from(expected[0])
-        && times[1] == Moment::from(expected[1])
+fn are_both(times: &[Moment], expected: [u64; 2]) -> bool {
+    times.len() == 2 && times[0].number() == expected[0] && times[1].number() == expected[1]
 }
 
 /// Whether these are read as the times.
@@ -71,7 +69,7 @@ fn are_times(
     alloc: Global,
     tx: &mut Tx<MemErase>,
     ring: &Ring,
-    expected: Reading<[u32; 2]>,
+    expected: Reading<[u64; 2]>,
 ) -> bool {
     match waiting_times(alloc, tx, ring) {
         Ok(times) => match expected {
@@ -83,9 +81,11 @@ fn are_times(
     }
 }
 
-/// The time with one of its last four octets changed, of which the first is the octet 4 of an encoding.
-fn changed(time: u32, octet: usize) -> u32 {
+/// The time with one of its last six octets changed, of which the first is the octet 2 of an encoding.
+fn changed(time: u64, octet: usize) -> u64 {
     match octet {
+        2 => time ^ 0x8100_0000_0000,
+        3 => time ^ 0x0081_0000_0000,
         4 => time ^ 0x8100_0000,
         5 => time ^ 0x0081_0000,
         6 => time ^ 0x0000_8100,
@@ -95,19 +95,19 @@ fn changed(time: u32, octet: usize) -> u32 {
 
 /// The times where the octet k of the first entry is changed: of the length or of the encoding after it. The entry
 /// begins on this page.
-fn first_changed(k: usize, page: u64) -> Reading<[u32; 2]> {
+fn first_changed(k: usize, page: u64) -> Reading<[u64; 2]> {
     match k {
-        0..=7 => Err(page),
-        8..=11 => Ok([changed(TIMES[0], k.saturating_sub(4)), TIMES[1]]),
+        0..=5 => Err(page),
+        6..=11 => Ok([changed(TIMES[0], k.saturating_sub(4)), TIMES[1]]),
         _ => Ok(TIMES),
     }
 }
 
 /// The times where the octet k of the second entry is changed, which begins on this page.
-fn second_changed(k: usize, page: u64) -> Reading<[u32; 2]> {
+fn second_changed(k: usize, page: u64) -> Reading<[u64; 2]> {
     match k {
-        0..=7 => Err(page),
-        8..=11 => Ok([TIMES[0], changed(TIMES[1], k.saturating_sub(4))]),
+        0..=5 => Err(page),
+        6..=11 => Ok([TIMES[0], changed(TIMES[1], k.saturating_sub(4))]),
         _ => Ok(TIMES),
     }
 }
@@ -126,7 +126,7 @@ fn is_read(
     tx: &mut Tx<MemErase>,
     ring: &Ring,
     first: Reading<&[u8]>,
-    times: Reading<[u32; 2]>,
+    times: Reading<[u64; 2]>,
 ) -> bool {
     is_first(alloc, tx, ring, first) && are_times(alloc, tx, ring, times)
 }
@@ -138,7 +138,7 @@ fn is_read_changed(
     ring: &Ring,
     place: u64,
     first: Reading<&[u8]>,
-    times: Reading<[u32; 2]>,
+    times: Reading<[u64; 2]>,
 ) -> bool {
     spoil(alloc, tx, ring, place).is_some()
         && is_read(alloc, tx, ring, first, times)
@@ -220,7 +220,7 @@ fn are_seconds(
     alloc: Global,
     tx: &mut Tx<MemErase>,
     ring: &Ring,
-    expected: Reading<(u32, u32)>,
+    expected: Reading<(u32, u64)>,
 ) -> bool {
     match waiting_times(alloc, tx, ring) {
         Ok(times) => match expected {
@@ -232,11 +232,17 @@ fn are_seconds(
     }
 }
 
-/// Whether these are the seconds 0 to 15, but for one of them.
-fn are_but(times: &[Moment], other: u32, time: u32) -> bool {
+/// The microseconds of a number of seconds.
+fn micros(seconds: u32) -> u64 {
+    Moment::from(seconds).number()
+}
+
+/// Whether these are the seconds 0 to 15, but for one of them, which is this many microseconds.
+fn are_but(times: &[Moment], other: u32, time: u64) -> bool {
     let mut n = 0u32;
     for found in times {
-        if *found != Moment::from(if n == other { time } else { n }) {
+        let expected = if n == other { time } else { micros(n) };
+        if found.number() != expected {
             return false;
         }
         n = n.saturating_add(1);
@@ -245,13 +251,13 @@ fn are_but(times: &[Moment], other: u32, time: u32) -> bool {
 }
 
 /// The times where the octet k of all is changed.
-fn time_changed(k: u32) -> Reading<(u32, u32)> {
+fn time_changed(k: u32) -> Reading<(u32, u64)> {
     let entry = k / 1024;
     let octet = (k % 1024) as usize;
     match octet {
-        0..=7 => Err(3),
-        8..=11 => Ok((entry, changed(entry, octet.saturating_sub(4)))),
-        _ => Ok((entry, entry)),
+        0..=5 => Err(3),
+        6..=11 => Ok((entry, changed(micros(entry), octet.saturating_sub(4)))),
+        _ => Ok((entry, micros(entry))),
     }
 }
 

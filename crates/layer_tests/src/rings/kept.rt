@@ -5,6 +5,7 @@ use crate::be;
 use disk_memory::MemErase;
 use intake::Ring;
 use page_tx::Tx;
+use route_model::Moment;
 use std::alloc::Global;
 
 /// Whether the second admission is first once the first one is out, although that is kept of a read before.
@@ -14,7 +15,7 @@ fn is_next_read(alloc: Global, tx: &mut Tx<MemErase>, ring: &mut Ring) -> Option
     let found = front(alloc, tx, ring).ok()??;
     let is_out = pop(tx, ring, found.admission());
     let next = front_again(alloc, tx, ring, Some(found)).ok()??;
-    Some(is_out && next.admission().time().seconds() == 8)
+    Some(is_out && next.admission().time() == Moment::from(8))
 }
 
 #[test]

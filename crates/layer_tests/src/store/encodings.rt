@@ -22,9 +22,9 @@ enum Kind {
     KeyNode,
 }
 
-/// A column of the keys below 9, in whole seconds, of level 1; two entries, of 50 octets.
+/// A column of the keys below 9, in microseconds, of level 1; two entries, of 50 octets.
 pub(super) const COLUMN: [(usize, &[u8]); 8] = [
-    (0, &[2, 0, 1, 0, 0, 2, 0, 50]),
+    (0, &[2, 1, 1, 0, 0, 2, 0, 50]),
     // The high key, the end stamp: none.
     (87, &[9]),
     (104, &[255, 255, 255, 255, 255, 255, 255, 255]),
@@ -39,7 +39,7 @@ pub(super) const COLUMN: [(usize, &[u8]); 8] = [
 
 /// A key node of level 2 of the keys below 9; two entries, of 96 octets.
 pub(super) const KEY_NODE: [(usize, &[u8]); 7] = [
-    (0, &[3, 0, 2, 0, 0, 2, 0, 96]),
+    (0, &[3, 1, 2, 0, 0, 2, 0, 96]),
     (87, &[9]),
     (104, &[255, 255, 255, 255, 255, 255, 255, 255]),
     (112, &[255, 255, 255, 255, 255, 255, 255, 255]),
@@ -51,7 +51,7 @@ pub(super) const KEY_NODE: [(usize, &[u8]); 7] = [
 
 /// The leaf of LEAF, up to time 300, and the SHA-256 of its first 16,352 octets.
 pub(super) const LEAF_BLOCK: [(usize, &[u8]); 13] = [
-    (0, &[1, 0, 0, 0, 0, 2, 0, 120]),
+    (0, &[1, 1, 0, 0, 0, 2, 0, 120]),
     (87, &[9]),
     (110, &[1, 44]),
     (159, &[5]),
@@ -65,20 +65,20 @@ pub(super) const LEAF_BLOCK: [(usize, &[u8]); 13] = [
     (
         16_352,
         &[
-            197, 110, 156, 47, 141, 102, 208, 103, 79, 99, 13, 81, 242, 44, 124, 70,
+            216, 106, 163, 156, 249, 110, 50, 187, 36, 178, 140, 179, 51, 176, 55, 79,
         ],
     ),
     (
         16_368,
         &[
-            232, 99, 3, 60, 64, 9, 161, 135, 141, 168, 110, 92, 178, 1, 211, 195,
+            0, 71, 214, 242, 84, 213, 56, 100, 157, 63, 245, 217, 86, 151, 217, 125,
         ],
     ),
 ];
 
 /// A column of the keys below 9 up to time 300: from 0 on in leaf block 7, from time 258 on in column block 9; and its SHA-256.
 pub(super) const COLUMN_BLOCK: [(usize, &[u8]); 10] = [
-    (0, &[2, 0, 1, 0, 0, 2, 0, 50]),
+    (0, &[2, 1, 1, 0, 0, 2, 0, 50]),
     (87, &[9]),
     (110, &[1, 44]),
     (136, &[1]),
@@ -89,13 +89,13 @@ pub(super) const COLUMN_BLOCK: [(usize, &[u8]); 10] = [
     (
         16_352,
         &[
-            234, 213, 27, 80, 18, 215, 210, 84, 14, 77, 89, 217, 145, 185, 172, 253,
+            246, 155, 46, 124, 159, 155, 20, 112, 115, 189, 34, 124, 194, 227, 93, 169,
         ],
     ),
     (
         16_368,
         &[
-            152, 243, 204, 130, 12, 8, 91, 68, 34, 238, 142, 55, 198, 137, 13, 251,
+            106, 193, 184, 193, 208, 105, 100, 212, 219, 125, 136, 68, 64, 150, 58, 215,
         ],
     ),
 ];
@@ -194,10 +194,15 @@ fn block_again(alloc: Global, kind: Kind, block: &Block, fresh: &mut Block) -> O
     }
 }
 
+/// Whether a node is in microseconds. One in whole seconds is read too, and is written again in microseconds.
+fn is_in_microseconds(octets: &[u8]) -> bool {
+    matches!(octets.get(1).copied(), Some(1))
+}
+
 /// Whether a page is a node of the kind; none where it isn't the one that is written of what it says.
 fn is_page(alloc: Global, kind: Kind, page: &Page, fresh: &mut Page) -> Option<bool> {
     let is_one = page_again(alloc, kind, page, fresh)?;
-    if is_one && fresh.octets() != page.octets() {
+    if is_one && is_in_microseconds(page.octets()) && fresh.octets() != page.octets() {
         return None;
     }
     Some(is_one)
@@ -206,7 +211,7 @@ fn is_page(alloc: Global, kind: Kind, page: &Page, fresh: &mut Page) -> Option<b
 /// The same of a block.
 fn is_block(alloc: Global, kind: Kind, block: &Block, fresh: &mut Block) -> Option<bool> {
     let is_one = block_again(alloc, kind, block, fresh)?;
-    if is_one && fresh.octets() != block.octets() {
+    if is_one && is_in_microseconds(block.octets()) && fresh.octets() != block.octets() {
         return None;
     }
     Some(is_one)
@@ -421,7 +426,7 @@ fn is_filled(page: &mut Page) -> bool {
     // Six entries, of 16,232 octets.
     is_pushed(page, 5, 518)
         && push(page, key, Stamp::new(6, 0), None) == Ok(false)
-        && page.octets().starts_with(&[1, 0, 0, 0, 0, 6, 63, 104])
+        && page.octets().starts_with(&[1, 1, 0, 0, 0, 6, 63, 104])
 }
 
 #[test]
@@ -458,7 +463,7 @@ fn the_greatest_columns(rt: HostRuntime) {
     let alloc = rt.alloc();
     let mut fresh = Page::new(alloc).expect(&rt, "a page");
     // 649 places: parts from order number 0 to 647, the current leaf from 648 on.
-    let header = [2, 0, 1, 0, 2, 137, 63, 97];
+    let header = [2, 1, 1, 0, 2, 137, 63, 97];
     let mut column = full_page(alloc, header, 649, 25, 14, 1).expect(&rt, "a full page");
     be(
         &rt,
@@ -481,7 +486,7 @@ fn the_greatest_key_node(rt: HostRuntime) {
     let alloc = rt.alloc();
     let mut fresh = Page::new(alloc).expect(&rt, "a page");
     // 338 children of keys that end in 0 to 337.
-    let header = [3, 0, 7, 0, 1, 82, 63, 96];
+    let header = [3, 1, 7, 0, 1, 82, 63, 96];
     let mut key_node = full_page(alloc, header, 338, 48, 38, 0).expect(&rt, "a full page");
     be(
         &rt,

@@ -166,7 +166,7 @@ fn the_versions_of_a_leaf_by_hand(rt: HostRuntime) {
 
 /// A leaf of the keys below 9 with a value of one octet of key 4, then one of key 5, each of 60 octets from 120 on.
 const TWO_KEYS: [(usize, &[u8]); 11] = [
-    (0, &[1, 0, 0, 0, 0, 2, 0, 120]),
+    (0, &[1, 1, 0, 0, 0, 2, 0, 120]),
     (87, &[9]),
     (104, &[255; 16]),
     (159, &[4]),
@@ -181,7 +181,7 @@ const TWO_KEYS: [(usize, &[u8]); 11] = [
 
 /// Its side below key 5, and from key 5 on.
 const LEFT: [(usize, &[u8]); 7] = [
-    (0, &[1, 0, 0, 0, 0, 1, 0, 60]),
+    (0, &[1, 1, 0, 0, 0, 1, 0, 60]),
     (87, &[5]),
     (104, &[255; 16]),
     (159, &[4]),
@@ -191,7 +191,7 @@ const LEFT: [(usize, &[u8]); 7] = [
 ];
 
 const RIGHT: [(usize, &[u8]); 8] = [
-    (0, &[1, 0, 0, 0, 0, 1, 0, 60]),
+    (0, &[1, 1, 0, 0, 0, 1, 0, 60]),
     (47, &[5]),
     (87, &[9]),
     (104, &[255; 16]),

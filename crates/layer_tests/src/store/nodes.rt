@@ -15,8 +15,8 @@ pub(super) fn key_of(last: u8) -> Key {
 
 /// A leaf of the keys below 9 with a value and an end of key 5: where octets other than zero stand, and which.
 pub(super) const LEAF: [(usize, &[u8]); 12] = [
-    // A leaf, in whole seconds, of level 0; two entries, of 61 and of 59 octets.
-    (0, &[1, 0, 0, 0, 0, 2, 0, 120]),
+    // A leaf, in microseconds, of level 0; two entries, of 61 and of 59 octets.
+    (0, &[1, 1, 0, 0, 0, 2, 0, 120]),
     // The high key, the end stamp: none.
     (87, &[9]),
     (104, &[255, 255, 255, 255, 255, 255, 255, 255]),

@@ -5,7 +5,7 @@ use super::said::{Said, change_of, moment_of, peer_of, prefix_of};
 use super::store::{ListStore, Past, place_of};
 use crate::{be, be_at};
 use route_meaning::{EventsQuestion, RowsQuestion, Select, Spot};
-use route_model::{Address, Key, Peer, Prefix};
+use route_model::{Address, Key, Moment, Peer, Prefix};
 use std::alloc::Global;
 use version_model::Stamp;
 
@@ -21,7 +21,7 @@ impl Example {
     fn new(alloc: Global) -> Option<Example> {
         let store = ListStore::new(alloc);
         // A key above those of all peers of the tests.
-        let place = place_of(Key::from_octets(&[255; 40]), Stamp::new(1, 0));
+        let place = place_of(Key::from_octets(&[255; 40]), Stamp::new(Moment::SECOND, 0));
         let past = Past::of(alloc, &store, &place, 1)?;
         Some(Example { alloc, store, past })
     }

@@ -7,7 +7,7 @@ use crate::be_at;
 use route_meaning::{
     EventsQuestion, PlacedAdmission, RowsQuestion, Select, Spot, answer_events, answer_rows,
 };
-use route_model::{Address, Admission, Key, Peer, Prefix};
+use route_model::{Address, Admission, Key, Moment, Peer, Prefix};
 use std::alloc::Global;
 use version_model::Stamp;
 
@@ -195,7 +195,10 @@ fn all_agree(alloc: Global, seed: u64, end: u64, capacity: usize) -> Option<bool
     let admissions = numbers.admissions(alloc)?;
     let list = placed(alloc, &admissions)?;
     let mut store = store_of(alloc, &admissions)?;
-    let place = place_of(Key::session(&peer_of(1, 65001)), Stamp::new(end, 0));
+    let place = place_of(
+        Key::session(&peer_of(1, 65001)),
+        Stamp::new(end.saturating_mul(Moment::SECOND), 0),
+    );
     let mut past = Past::of(alloc, &store, &place, capacity)?;
     store.stop_at(Key::prefix(&peer_of(0, 65002), &prefix_of(0, 0, 15)));
     store.lay_down(place);

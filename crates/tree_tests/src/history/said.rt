@@ -134,7 +134,7 @@ fn change_text(alloc: Global, change: &Change) -> Option<String> {
 
 /// The time of an event, and what the peer said.
 fn event_text(alloc: Global, event: &Event) -> Option<String> {
-    let time = event.time.seconds();
+    let time = event.time.number() / Moment::SECOND;
     let change = change_text(alloc, &event.change)?;
     format!(in alloc; " {time}{change}").ok()
 }

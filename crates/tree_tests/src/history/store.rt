@@ -153,7 +153,8 @@ fn put_header(block: &mut Block, place: &Place, count: u16, used: u16) -> Option
     let Some(end) = place.bounds.end else {
         return None;
     };
-    put(block, 0, &[1])?;
+    // A leaf, whose times are in microseconds.
+    put(block, 0, &[1, 1])?;
     put(block, 4, &count.to_be_bytes())?;
     put(block, 6, &used.to_be_bytes())?;
     put(block, 48, &high.to_octets())?;

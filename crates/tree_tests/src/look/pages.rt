@@ -202,9 +202,9 @@ fn a_damaged_leaf_is_bad_or_has_other_versions(rt: HostRuntime) {
 }
 
 /// Key nodes that name themselves, and what lookups of a key now return. The root too, and one that names a page that there isn't.
-const THEMSELVES: &str = "W 4: 3 0 2 0 0 2 0 96, K0 K15 S0.0 F16, K0 N4, K8 N7
+const THEMSELVES: &str = "W 4: 3 1 2 0 0 2 0 96, K0 K15 S0.0 F16, K0 N4, K8 N7
 Y0 300.0: B4
-W 1: 3 0 4 0 0 2 0 96, K0 F40 S0.0 F16, K0 N1, K15 N200
+W 1: 3 1 4 0 0 2 0 96, K0 F40 S0.0 F16, K0 N1, K15 N200
 Y0 300.0: B1
 Y15 300.0: B200
 ";

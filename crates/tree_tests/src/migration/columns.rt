@@ -34,7 +34,7 @@ fn put_entry(page: &mut Page, at: usize, entry: Entry) -> Option<()> {
 /// The page of a column of all keys whose header counts `count` entries, which are still to be put.
 fn empty_column(alloc: Global, count: u16) -> Option<Page> {
     let mut page = Page::new(alloc).ok()?;
-    page.put(0, &[2, 0, 1, 0]);
+    page.put(0, &[2, 1, 1, 0]);
     page.put(4, &count.to_be_bytes());
     page.put(6, &count.checked_mul(25)?.to_be_bytes());
     page.put(48, &[255; 40]);

@@ -51,8 +51,8 @@ const FROM_40: Place = Place {
 /// A column of one entry, of stamp 0, the kind of a current leaf, and its page; and that leaf. Both are current nodes of all keys.
 const CREATED: &str = "C
 S3 1 5 0 2
-Y3: 2 0 1 0 0 1 0 25, Z40 F40 Z16 F16, Z24 4
-Y4: 1 0 0 0 0 0 0 0, Z40 F40 Z16 F16
+Y3: 2 1 1 0 0 1 0 25, Z40 F40 Z16 F16, Z24 4
+Y4: 1 1 0 0 0 0 0 0, Z40 F40 Z16 F16
 ";
 
 #[test]

@@ -9,9 +9,9 @@ use std::process::Abort;
 
 /// At 1704067200 peer 192.0.2.1 of AS 65001 announces 10.0.0.0/8.
 const VECTOR: [u8; 67] = [
-    0, 0, 0, 0, 0x65, 0x92, 0, 0x80, 0, 1, 0, 4, 0xC0, 0, 2, 1, 0, 0, 0, 0, 0, 0, 0, 0, 0, 0, 0, 0,
-    0, 0, 0xFD, 0xE9, 0, 1, 0, 0x15, 0, 0, 1, 2, 2, 0, 0, 0xFD, 0xE9, 0, 0, 0xFD, 0xEA, 4, 0xC0, 0,
-    2, 1, 0, 0, 0, 0, 1, 1, 0, 0, 4, 8, 0x0A, 0, 0,
+    0, 6, 0x0D, 0xD7, 0x10, 0x21, 0x20, 0, 0, 1, 0, 4, 0xC0, 0, 2, 1, 0, 0, 0, 0, 0, 0, 0, 0, 0, 0,
+    0, 0, 0, 0, 0xFD, 0xE9, 0, 1, 0, 0x15, 0, 0, 1, 2, 2, 0, 0, 0xFD, 0xE9, 0, 0, 0xFD, 0xEA, 4,
+    0xC0, 0, 2, 1, 0, 0, 0, 0, 1, 1, 0, 0, 4, 8, 0x0A, 0, 0,
 ];
 
 fn ten() -> Prefix {
@@ -63,8 +63,8 @@ fn is_the_vector(rt: &impl Abort, alloc: Global, admission: &Admission) -> bool 
 #[test]
 fn reads_the_vector(rt: HostRuntime) {
     let admission = decoded(&rt, rt.alloc(), &VECTOR);
-    let seconds = admission.time().seconds();
-    be(&rt, seconds == 1_704_067_200, "the time");
+    let time = admission.time();
+    be(&rt, time == Moment::from(1_704_067_200), "the time");
     be(&rt, is_the_announcement(admission.changes()), "the change");
     be(
         &rt,
@@ -181,8 +181,13 @@ fn grown(rt: &impl Abort, alloc: Global, count: usize, place: usize, octets: &[u
 }
 
 /// What is wrong with the vector once other octets stand at a place.
-const FAULTS: [(&str, usize, &[u8]); 6] = [
-    ("a time above the last moment", 3, &[1]),
+const FAULTS: [(&str, usize, &[u8]); 7] = [
+    ("a time above the last moment", 1, &[0x10]),
+    (
+        "the first time above it",
+        0,
+        &[0, 0x0F, 0x42, 0x40, 0, 0, 0, 0],
+    ),
     ("a place of a peer that isn't there", 60, &[0, 1]),
     ("a place of a route that isn't there", 65, &[0, 1]),
     ("no kind of change", 59, &[4]),
@@ -199,6 +204,20 @@ fn other_octets_are_no_admission(rt: HostRuntime) {
             fault,
         );
     }
+}
+
+/// Whether octets are an admission of this time that is written as they are.
+fn is_of_time(rt: &impl Abort, alloc: Global, octets: &[u8], time: u64) -> bool {
+    let admission = decoded(rt, alloc, octets);
+    let again = encoded(rt, alloc, &admission);
+    admission.time().number() == time && again.as_slice() == octets
+}
+
+#[test]
+fn an_admission_may_be_of_the_last_moment(rt: HostRuntime) {
+    let last = changed(0, &[0, 0x0F, 0x42, 0x3F, 0xFF, 0xFF, 0xFF, 0xFF]);
+    let is_last = is_of_time(&rt, rt.alloc(), &last, 4_294_967_295_999_999);
+    be(&rt, is_last, "the last moment");
 }
 
 #[test]

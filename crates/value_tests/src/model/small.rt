@@ -130,36 +130,36 @@ fn other_octets_are_no_prefix(rt: HostRuntime) {
 
 #[test]
 fn moments_and_marks_have_their_range(rt: HostRuntime) {
-    let last = Moment::new(4_294_967_295).expect(&rt, "no moment");
+    let last = Moment::new(4_294_967_295_999_999).expect(&rt, "no moment");
     be(
         &rt,
-        last.seconds() == 4_294_967_295,
+        last == Moment::within(u32::MAX, 999_999),
         "moments and marks have their range",
     );
     be(
         &rt,
-        Moment::new(4_294_967_296) == None,
+        Moment::new(4_294_967_296_000_000) == None,
         "moments and marks have their range",
     );
     be(
         &rt,
-        Moment::from(1_704_067_200u32).seconds() == 1_704_067_200,
+        Moment::from(1_704_067_200u32).number() == 1_704_067_200_000_000,
         "moments and marks have their range",
     );
-    let end = Mark::new(4_294_967_296).expect(&rt, "no mark");
+    let end = Mark::new(4_294_967_296_000_000).expect(&rt, "no mark");
     be(
         &rt,
-        end.seconds() == 4_294_967_296,
-        "moments and marks have their range",
-    );
-    be(
-        &rt,
-        Mark::new(4_294_967_297) == None,
+        end.number() == 4_294_967_296_000_000,
         "moments and marks have their range",
     );
     be(
         &rt,
-        Mark::at(last).seconds() == 4_294_967_295,
+        Mark::new(4_294_967_296_000_001) == None,
+        "moments and marks have their range",
+    );
+    be(
+        &rt,
+        Mark::at(last).number() == 4_294_967_295_999_999,
         "moments and marks have their range",
     );
     be(
